@@ -1,0 +1,190 @@
+-- 'The graph block': its fields, the graph for which a block stands, and the faults of a block.
+-- Assumes nothing.
+use mathlib.Core.Path.{_≡_}
+use mathlib.Core.Bool.{Bool, true, false, not, _&&_, _||_}
+use mathlib.Core.List.{List, [], _∷_, _++_, List·Memᴰ}
+use mathlib.Core.Option.{Option}
+use Prim.Native.Nat.{ℕ, _+_, _*_, _<_}
+use lib.Dec.{eqb, ltb}
+use lib.IntN.{ℤ, pos, negsuc}
+use lib.ListN.{length, getD, replicate}
+use Rattle.definitions.specs.declared.Reply.{Reply}
+use Rattle.definitions.specs.Lists.{within, lowest, tabulate, all, padded, concatMap}
+use Rattle.definitions.specs.Fields.{byteAt, u16At, u32At, filled, markFits, signed, u16Bytes, u32Bytes}
+use Rattle.definitions.specs.Operators.{kindEmpty, kindProj, shapeFits}
+use Rattle.definitions.specs.Paths.{Reads, Acyclic, acyclicBelow}
+use Rattle.definitions.specs.Reply.{badGraph, flag, place, judged}
+
+-- ---- sizes
+
+abbrev pub headerBytes : ℕ
+headerBytes = 24
+
+abbrev pub slotBytes : ℕ
+slotBytes = 48
+
+abbrev pub slotLimit : ℕ
+slotLimit = 512
+
+abbrev pub outputLimit : ℕ
+outputLimit = 4
+
+abbrev pub inputLimit : ℕ
+inputLimit = 6
+
+abbrev pub attributeLimit : ℕ
+attributeLimit = 6
+
+-- what an unused output or input place holds
+abbrev pub unusedPlace : ℕ
+unusedPlace = 65535
+
+-- `T`
+abbrev pub graphLetter : ℕ
+graphLetter = 84
+
+abbrev pub graphVersion : ℕ
+graphVersion = 1
+
+-- ---- fields
+
+abbrev pub slotCount : List ℕ → ℕ
+slotCount block = u16At block 6
+
+abbrev pub outputCount : List ℕ → ℕ
+outputCount block = u16At block 8
+
+-- where the record of slot k starts
+abbrev pub recordAt : ℕ → ℕ
+recordAt k = headerBytes + slotBytes * k
+
+-- ---- the graph of a block
+
+-- a slot's attributes are 32-bit words; expressions read them as signed numbers
+pub record Slot : Type 0 where
+  pub kind : ℕ
+  pub operator : ℕ
+  pub inputs : List ℕ
+  pub attributes : List ℕ
+
+pub record Graph : Type 0 where
+  pub slots : List Slot
+  pub outputs : List ℕ
+
+unfoldable pub emptySlot : Slot
+emptySlot = record { kind = kindEmpty; operator = 0; inputs = []; attributes = [] }
+
+-- the slot whose record starts at `at`
+unfoldable pub slotFrom : List ℕ → ℕ → Slot
+slotFrom block at = record {
+  kind = byteAt block at;
+  operator = byteAt block (at + 1);
+  inputs = tabulate (byteAt block (at + 2)) (λ i. u16At block (at + 4 + 2 * i));
+  attributes = tabulate (byteAt block (at + 3)) (λ i. u32At block (at + 16 + 4 * i));
+}
+
+unfoldable pub graphOf : List ℕ → Graph
+graphOf block = record {
+  slots = tabulate (slotCount block) (λ k. slotFrom block (recordAt k));
+  outputs = tabulate (outputCount block) (λ i. u16At block (10 + 2 * i));
+}
+
+unfoldable pub slotOf : Graph → ℕ → Slot
+slotOf g v = getD (g .slots) v emptySlot
+
+abbrev pub inputsOf : Graph → ℕ → List ℕ
+inputsOf g v = slotOf g v .inputs
+
+-- a vertex is a slot that is not Empty
+unfoldable pub isVertex : Graph → ℕ → Bool
+isVertex g v = not (eqb (slotOf g v .kind) kindEmpty)
+
+-- ---- the block of a graph; a record's last 8 bytes are zero for now
+
+unfoldable pub slotTail : List ℕ
+slotTail = replicate 8 0
+
+unfoldable pub slotBlock : Slot → List ℕ
+slotBlock s =
+    (s .kind ∷ s .operator ∷ length (s .inputs) ∷ length (s .attributes) ∷ [])
+    ++ concatMap u16Bytes (padded inputLimit unusedPlace (s .inputs))
+    ++ concatMap u32Bytes (padded attributeLimit 0 (s .attributes))
+    ++ slotTail
+
+unfoldable pub graphBlock : Graph → List ℕ
+graphBlock g =
+    (76 ∷ 71 ∷ graphLetter ∷ 0 ∷ [])
+    ++ u16Bytes graphVersion
+    ++ u16Bytes (length (g .slots))
+    ++ u16Bytes (length (g .outputs))
+    ++ concatMap u16Bytes (padded outputLimit unusedPlace (g .outputs))
+    ++ replicate 6 0
+    ++ concatMap slotBlock (g .slots)
+
+-- ---- faults, by kind, in document 01's order
+
+-- 1 to 4 outputs; the unused places hold 65535
+unfoldable pub outputPlacesFit : List ℕ → Bool
+outputPlacesFit block =
+    within 1 (outputCount block) outputLimit && filled block (10 + 2 * outputCount block) 18 255
+
+-- length and header, with the unused output places
+unfoldable pub headerFits : List ℕ → Bool
+headerFits block =
+    eqb (length block) (recordAt (slotCount block))
+    && markFits block graphLetter
+    && eqb (u16At block 4) graphVersion
+    && within 1 (slotCount block) slotLimit
+    && outputPlacesFit block
+    && filled block 18 24 0
+
+-- an index of a Proj is at least 1
+unfoldable pub atLeastOne : ℤ → Bool
+atLeastOne (pos n) = ltb 0 n
+atLeastOne (negsuc n) = false
+
+-- the record that starts at `at` follows its kind: the tables, the unused places, a Proj's index, and the zero bytes at its end
+unfoldable pub recordFits : List ℕ → ℕ → Bool
+recordFits block at =
+    shapeFits (byteAt block at) (byteAt block (at + 1)) (byteAt block (at + 2)) (byteAt block (at + 3))
+    && filled block (at + 4 + 2 * byteAt block (at + 2)) (at + 16) 255
+    && filled block (at + 16 + 4 * byteAt block (at + 3)) (at + 40) 0
+    && (not (eqb (byteAt block at) kindProj) || atLeastOne (signed (u32At block (at + 16))))
+    && filled block (at + 40) (at + 48) 0
+
+unfoldable pub badRecord : List ℕ → ℕ → Bool
+badRecord block k = not (recordFits block (recordAt k))
+
+-- slot k has an input that names no vertex
+unfoldable pub badInputs : Graph → ℕ → Bool
+badInputs g k = not (all (isVertex g) (inputsOf g k))
+
+-- output place i names no vertex
+unfoldable pub badOutput : Graph → ℕ → Bool
+badOutput g i = not (isVertex g (getD (g .outputs) i unusedPlace))
+
+unfoldable pub hasCycle : Graph → Bool
+hasCycle g = not (acyclicBelow (inputsOf g) (length (g .slots)))
+
+-- all kinds of fault; an output is looked at after all inputs
+unfoldable pub graphFaults : List ℕ → List (Option ℕ)
+graphFaults block =
+    flag (not (headerFits block))
+    ∷ place (slotCount block) (lowest (badRecord block) (slotCount block))
+    ∷ place (slotCount block) (lowest (badInputs (graphOf block)) (slotCount block))
+    ∷ place (outputCount block) (lowest (badOutput (graphOf block)) (outputCount block))
+    ∷ flag (hasCycle (graphOf block))
+    ∷ []
+
+-- what checking a graph gives
+unfoldable pub graphReply : List ℕ → Reply
+graphReply block = judged badGraph (graphFaults block)
+
+-- ---- a sound graph, in the paper's words; it is proved that the reply is done exactly for these
+
+pub record SoundGraph (block : List ℕ) : Type 0 where
+  pub header : headerFits block ≡ true
+  pub records : (k : ℕ) → k < slotCount block → recordFits block (recordAt k) ≡ true
+  pub inputs : (k v : ℕ) → Reads (inputsOf (graphOf block)) k v → isVertex (graphOf block) v ≡ true
+  pub outputs : (v : ℕ) → List·Memᴰ v (graphOf block .outputs) → isVertex (graphOf block) v ≡ true
+  pub acyclic : Acyclic (inputsOf (graphOf block))

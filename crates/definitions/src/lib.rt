@@ -1,0 +1,55 @@
+// The types of a reply, and the sizes of the blocks under the names that specs/ gives them. What
+// document 01 means stands in specs/, in its order; this crate has no code of its own.
+
+// The graph block.
+pub const HEADER_BYTES: usize = 24;
+
+pub const SLOT_BYTES: usize = 48;
+
+pub const SLOT_LIMIT: usize = 512;
+
+pub const OUTPUT_LIMIT: usize = 4;
+// The letter of its mark, `T`, and its version.
+pub const GRAPH_LETTER: usize = 84;
+
+pub const GRAPH_VERSION: usize = 1;
+
+// The rule block.
+pub const RULE_HEADER_BYTES: usize = 16;
+
+pub const PATTERN_BYTES: usize = 16;
+
+pub const NODE_BYTES: usize = 8;
+
+pub const SIDE_LIMIT: usize = 16;
+
+pub const RULE_OUTPUT_LIMIT: usize = 2;
+
+pub const NODE_LIMIT: usize = 64;
+// The letter of its mark, `R`, and its version.
+pub const RULE_LETTER: usize = 82;
+
+pub const RULE_VERSION: usize = 1;
+
+// Both: the places of a record for inputs and for attributes.
+pub const INPUT_LIMIT: usize = 6;
+
+pub const ATTRIBUTE_LIMIT: usize = 6;
+
+// Where a refusal's fault lies, and why. Both are zero for now.
+pub struct Place {
+    pub index: u32,
+    pub reason: u16,
+}
+
+// A refusal: the number of the reply table with its place record.
+pub struct Refusal {
+    pub number: u8,
+    pub place: Place,
+}
+
+// The answer of every operation: done, or a refusal.
+pub enum Reply {
+    Done,
+    Refused(Refusal),
+}
