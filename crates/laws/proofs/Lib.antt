@@ -1,0 +1,9 @@
+pub mod Lists
+pub mod Graph
+pub mod Rule
+pub mod Operators
+pub mod Walks
+pub mod Builds
+pub mod Ranges
+pub mod Reply
+pub mod Members

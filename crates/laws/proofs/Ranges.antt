@@ -1,0 +1,57 @@
+-- The numbers 0, 1, .. n - 1, members one by one, and when two lists of numbers are the same.
+-- Assumes nothing.
+use mathlib.Core.Path.{_≡_, refl, sym, ap, _∙_}
+use mathlib.Core.Bool.{Bool, true, false, _||_, false≢true, or-false, or-assoc}
+use mathlib.Core.List.{List, [], _∷_, _++_}
+use mathlib.Core.Logic.{⊎-elim}
+use Prim.Native.Nat.{ℕ, zero, suc, _+_, _-_, _<_}
+use native.Mathlib.Nat.{sub-zero, zero-add}
+use native.Mathlib.Omega.{arith}
+use borrow.Author.Tests.{eq-eqb, eqb-true}
+use lib.Dec.{eqb}
+use lib.ListN.{length, getD}
+use Rattle.definitions.specs.Lists.{tabulate, allPairs, member, range}
+use Rattle.laws.proofs.Lists.{decided, and-left, and-right, length-tabulate, getD-tabulate}
+
+pub length-range : (n : ℕ) → length (range 0 n) ≡ n
+unfolding range
+length-range n = length-tabulate (n - 0) (λ i. 0 + i) ∙ sub-zero n
+
+pub range-at : (n i d : ℕ) → i < n → getD (range 0 n) i d ≡ i
+unfolding range
+range-at n i d h = getD-tabulate (n - 0) (λ k. 0 + k) i d (omega arith) ∙ zero-add i
+
+pub tabulate-more : (n : ℕ) (f : ℕ → ℕ) → tabulate (suc n) f ≡ tabulate n f ++ f n ∷ []
+unfolding tabulate
+tabulate-more zero f = refl
+tabulate-more (suc n) f = ap (λ (l : List ℕ). f zero ∷ l) (tabulate-more n (λ k. f (suc k)))
+
+pub range-more : (n : ℕ) → range 0 (suc n) ≡ range 0 n ++ n ∷ []
+unfolding range
+range-more n = simp (sub-zero, zero-add) (tabulate-more n (λ i. i))
+
+pub member-more : (x y : ℕ) (xs : List ℕ) → member x (xs ++ y ∷ []) ≡ (member x xs || eqb x y)
+unfolding member
+member-more x y [] = or-false (eqb x y)
+member-more x y (z ∷ xs) = ap (λ (b : Bool). eqb x z || b) (member-more x y xs) ∙ sym (or-assoc (eqb x z) (member x xs) (eqb x y))
+
+-- ---- lists of numbers that are the same
+
+pub same-lists : (xs ys : List ℕ) → allPairs eqb xs ys ≡ true → xs ≡ ys
+unfolding allPairs
+same-lists [] [] h = refl
+same-lists [] (y ∷ ys) h = absurd (false≢true h)
+same-lists (x ∷ xs) [] h = absurd (false≢true h)
+same-lists (x ∷ xs) (y ∷ ys) h =
+    let head : x ≡ y = eqb-true x y (and-left (eqb x y) (allPairs eqb xs ys) h) in
+    let tail : xs ≡ ys = same-lists xs ys (and-right (eqb x y) (allPairs eqb xs ys) h) in
+    cc
+
+pub same-self : (xs : List ℕ) → allPairs eqb xs xs ≡ true
+unfolding allPairs
+same-self [] = refl
+same-self (x ∷ xs) = simp (eq-eqb x x refl, same-self xs)
+
+pub other-lists : (xs ys : List ℕ) → (xs ≡ ys → ⊥) → allPairs eqb xs ys ≡ false
+other-lists xs ys h = ⊎-elim (λ (t : allPairs eqb xs ys ≡ true). absurd (h (same-lists xs ys t)))
+    (λ (t : allPairs eqb xs ys ≡ false). t) (decided (allPairs eqb xs ys))

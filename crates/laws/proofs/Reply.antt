@@ -1,0 +1,40 @@
+-- A list of faults is answered by done exactly where none of them holds.
+-- Assumes nothing.
+use mathlib.Core.Path.{_≡_, refl}
+use mathlib.Core.Bool.{Bool, true, false}
+use mathlib.Core.List.{List, _∷_}
+use mathlib.Core.Logic.{⊎-elim}
+use mathlib.Core.Option.{Option, none, some}
+use Prim.Native.Nat.{ℕ, _≤_}
+use native.Mathlib.Omega.{arith}
+use borrow.Author.Tests.{ltb-false}
+use lib.Dec.{ltb}
+use Rattle.definitions.specs.declared.Reply.the-variants.{Done}
+use Rattle.definitions.specs.Reply.{refused, flag, place, judged}
+use Rattle.laws.proofs.Lists.{decided}
+
+pub flag-none : (b : Bool) → flag b ≡ none → b ≡ false
+unfolding flag
+flag-none true h = let z : _≡_ {A = ℕ} 0 1 = cc in absurd (omega arith)
+flag-none false h = refl
+
+pub place-none : (n found : ℕ) → place n found ≡ none → n ≤ found
+unfolding place
+place-none n found h =
+    ⊎-elim (λ (t : ltb found n ≡ true).
+    let e : some found ≡ none = simp t at h in
+    let z : _≡_ {A = ℕ} 0 1 = cc in
+    absurd (omega arith))
+    (λ (t : ltb found n ≡ false). ltb-false found n t)
+    (decided (ltb found n))
+
+module _ (number : ℕ) where
+  pub judged-first : (fault : Option ℕ) (faults : List (Option ℕ)) → judged number (fault ∷ faults) ≡ Done → fault ≡ none
+  unfolding judged refused
+  judged-first none faults h = refl
+  judged-first (some at) faults h = let z : _≡_ {A = ℕ} 0 1 = cc in absurd (omega arith)
+
+  pub judged-rest : (fault : Option ℕ) (faults : List (Option ℕ)) → judged number (fault ∷ faults) ≡ Done → judged number faults ≡ Done
+  unfolding judged refused
+  judged-rest none faults h = h
+  judged-rest (some at) faults h = let z : _≡_ {A = ℕ} 0 1 = cc in absurd (omega arith)

@@ -1,0 +1,122 @@
+-- The rule of a block, field by field: one law for each field, over the index.
+-- Assumes nothing.
+use mathlib.Core.Path.{_≡_, ap, subst, _∙_}
+use mathlib.Core.Bool.{Bool, true, false, and-false}
+use mathlib.Core.List.{List, [], List·Memᴰ, List·Memᴰ·not-nil}
+use mathlib.Core.Logic.{⊎-elim}
+use Prim.Native.Nat.{ℕ, _+_, _<_}
+use borrow.Author.Tests.{leb-true, leb-false, ltb-true}
+use lib.Dec.{leb, ltb}
+use lib.ListN.{length, getD, List·getD-eq-default}
+use Rattle.definitions.specs.Lists.{allBelow}
+use Rattle.definitions.specs.Paths.{Reads}
+use Rattle.definitions.specs.Fields.{byteAt}
+use Rattle.definitions.specs.Rule.{sourceCount, targetCount, ruleOutputCount, vertexAt, Origin, Pattern, Rule, originOf, patternFrom, ruleOf, wildcard, sourceOf, targetOf, sourceInputs, ruleOutputPlacesFit, ruleHeaderFits, sourceInputsFit}
+use Rattle.laws.proofs.Lists.{decided, needed, length-tabulate, getD-tabulate, all-every, all-member, allBelow-at}
+
+-- past the last source vertex nothing is read
+pub source-reader : (r : Rule) (j u : ℕ) → Reads (sourceInputs r) j u → j < length (r .source)
+unfolding sourceOf wildcard
+source-reader r j u m =
+    ⊎-elim (λ (t : leb (length (r .source)) j ≡ true).
+    let none : sourceInputs r j ≡ [] =
+    ap (λ (p : Pattern ℕ). p .inputs) (List·getD-eq-default (r .source) wildcard (leb-true (length (r .source)) j t)) in
+    absurd (List·Memᴰ·not-nil (subst (List·Memᴰ u) none m)))
+    (λ (t : leb (length (r .source)) j ≡ false). leb-false (length (r .source)) j t)
+    (decided (leb (length (r .source)) j))
+
+module _ (block : List ℕ) where
+  pub length-source : length (ruleOf block .source) ≡ sourceCount block
+  unfolding ruleOf
+  length-source = length-tabulate (sourceCount block) (λ j. patternFrom (λ p. p) block (vertexAt j))
+
+  pub length-target : length (ruleOf block .target) ≡ targetCount block
+  unfolding ruleOf
+  length-target = length-tabulate (targetCount block) (λ t. patternFrom originOf block (vertexAt (sourceCount block + t)))
+
+  pub length-source-outputs : length (ruleOf block .sourceOutputs) ≡ ruleOutputCount block
+  unfolding ruleOf
+  length-source-outputs = length-tabulate (ruleOutputCount block) (λ i. byteAt block (10 + i))
+
+  pub length-target-outputs : length (ruleOf block .targetOutputs) ≡ ruleOutputCount block
+  unfolding ruleOf
+  length-target-outputs = length-tabulate (ruleOutputCount block) (λ i. originOf (byteAt block (12 + i)))
+
+  -- a source or target vertex is read from its record
+  pub source-of : (j : ℕ) → j < sourceCount block → sourceOf (ruleOf block) j ≡ patternFrom (λ p. p) block (vertexAt j)
+  unfolding ruleOf sourceOf
+  source-of j h = getD-tabulate (sourceCount block) (λ v. patternFrom (λ p. p) block (vertexAt v)) j wildcard h
+
+  pub target-of : (t : ℕ) → t < targetCount block
+      → targetOf (ruleOf block) t ≡ patternFrom originOf block (vertexAt (sourceCount block + t))
+  unfolding ruleOf targetOf
+  target-of t h = getD-tabulate (targetCount block) (λ v. patternFrom originOf block (vertexAt (sourceCount block + v))) t wildcard h
+
+  pub source-output-of : (i d : ℕ) → i < ruleOutputCount block → getD (ruleOf block .sourceOutputs) i d ≡ byteAt block (10 + i)
+  unfolding ruleOf
+  source-output-of i d h = getD-tabulate (ruleOutputCount block) (λ k. byteAt block (10 + k)) i d h
+
+  pub target-output-of : (i : ℕ) (d : Origin) → i < ruleOutputCount block
+      → getD (ruleOf block .targetOutputs) i d ≡ originOf (byteAt block (12 + i))
+  unfolding ruleOf
+  target-output-of i d h = getD-tabulate (ruleOutputCount block) (λ k. originOf (byteAt block (12 + k))) i d h
+
+  module _ {P : Type 0} (naming : ℕ → P) where
+    pub length-pattern-inputs : (at : ℕ) → length (patternFrom naming block at .inputs) ≡ byteAt block (at + 2)
+    unfolding patternFrom
+    length-pattern-inputs at = length-tabulate (byteAt block (at + 2)) (λ i. naming (byteAt block (at + 4 + i)))
+
+    pub pattern-input-of : (at i : ℕ) (d : P) → i < byteAt block (at + 2)
+        → getD (patternFrom naming block at .inputs) i d ≡ naming (byteAt block (at + 4 + i))
+    unfolding patternFrom
+    pattern-input-of at i d h = getD-tabulate (byteAt block (at + 2)) (λ k. naming (byteAt block (at + 4 + k))) i d h
+
+  -- the same, from the vertex's number to its bytes
+  pub source-kind-at : (j : ℕ) → j < sourceCount block → sourceOf (ruleOf block) j .kind ≡ byteAt block (vertexAt j)
+  unfolding patternFrom
+  source-kind-at j h = ap (λ (p : Pattern ℕ). p .kind) (source-of j h)
+
+  pub source-count-at : (j : ℕ) → j < sourceCount block → length (sourceInputs (ruleOf block) j) ≡ byteAt block (vertexAt j + 2)
+  source-count-at j h = ap (λ (p : Pattern ℕ). length (p .inputs)) (source-of j h) ∙ length-pattern-inputs (λ p. p) (vertexAt j)
+
+  pub source-input-at : (j i d : ℕ) → j < sourceCount block → i < length (sourceInputs (ruleOf block) j)
+      → getD (sourceInputs (ruleOf block) j) i d ≡ byteAt block (vertexAt j + 4 + i)
+  source-input-at j i d h l =
+      ap (λ (p : Pattern ℕ). getD (p .inputs) i d) (source-of j h)
+      ∙ pattern-input-of (λ p. p) (vertexAt j) i d (rw (source-count-at j h) at l)
+
+  pub target-kind-at : (t : ℕ) → t < targetCount block
+      → targetOf (ruleOf block) t .kind ≡ byteAt block (vertexAt (sourceCount block + t))
+  unfolding patternFrom
+  target-kind-at t h = ap (λ (p : Pattern Origin). p .kind) (target-of t h)
+
+  pub target-count-at : (t : ℕ) → t < targetCount block
+      → length (targetOf (ruleOf block) t .inputs) ≡ byteAt block (vertexAt (sourceCount block + t) + 2)
+  target-count-at t h =
+      ap (λ (p : Pattern Origin). length (p .inputs)) (target-of t h) ∙ length-pattern-inputs originOf (vertexAt (sourceCount block + t))
+
+  pub target-input-at : (t i : ℕ) (d : Origin) → t < targetCount block → i < length (targetOf (ruleOf block) t .inputs)
+      → getD (targetOf (ruleOf block) t .inputs) i d ≡ originOf (byteAt block (vertexAt (sourceCount block + t) + 4 + i))
+  target-input-at t i d h l =
+      ap (λ (p : Pattern Origin). getD (p .inputs) i d) (target-of t h)
+      ∙ pattern-input-of originOf (vertexAt (sourceCount block + t)) i d (rw (target-count-at t h) at l)
+
+  -- ---- what a good header and good input places say of the rule
+
+  pub outputs-below : ruleHeaderFits block ≡ true → (o : ℕ) → List·Memᴰ o (ruleOf block .sourceOutputs) → o < sourceCount block
+  unfolding ruleHeaderFits ruleOutputPlacesFit
+  outputs-below h o m =
+      let below : ℕ → Bool = λ k. ltb (byteAt block (10 + k)) (sourceCount block) in
+      let listed = needed (allBelow below (ruleOutputCount block)) h (λ f. simp (f, and-false)) in
+      ltb-true o (sourceCount block)
+      (all-member (λ x. ltb x (sourceCount block))
+      (all-every (λ x. ltb x (sourceCount block)) 255 (ruleOf block .sourceOutputs)
+      (λ i l.
+      let inside : i < ruleOutputCount block = rw length-source-outputs at l in
+      rw (source-output-of i 255 inside) (allBelow-at below (ruleOutputCount block) i listed inside))) m)
+
+  pub inputs-lower : ((j : ℕ) → j < sourceCount block → sourceInputsFit (ruleOf block) j ≡ true)
+      → (j u : ℕ) → Reads (sourceInputs (ruleOf block)) j u → u < j
+  unfolding sourceInputsFit
+  inputs-lower fits j u m =
+      ltb-true u j (all-member (λ p. ltb p j) (fits j (rw length-source at (source-reader (ruleOf block) j u m))) m)

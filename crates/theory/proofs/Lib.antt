@@ -1,0 +1,10 @@
+pub mod Examples
+pub mod Paths
+pub mod Results
+pub mod Division
+pub mod Match
+pub mod Fixing
+pub mod Choices
+pub mod Least
+pub mod Fields
+pub mod Reply
