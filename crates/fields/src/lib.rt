@@ -1,0 +1,89 @@
+// Fields of a lent block: bytes, 16-bit and 32-bit little-endian numbers, signed ones, and runs of
+// equal bytes. Nothing here reads past what its `requires` names.
+ghost use mathlib.Core.Path.{_≡_};
+ghost use Prim.Native.Nat.{_+_, _<_, _≤_};
+ghost use lib.ListN.{length};
+ghost use Rattle.definitions.specs.Fields.{byteAt, u16At, u32At, filled, markFits, signed};
+ghost use Rattle.fields.specs.Integer.{integerOf};
+
+// A whole number by its sign: Plus(n) is n, and Minus(n) is -(n + 1), so that each number has one
+// form only.
+pub enum Integer {
+    Plus(u64),
+    Minus(u64),
+}
+
+// The byte at `at`.
+pub fn byte_at(block: &[u8], at: usize) -> usize
+    requires { ⌜ at < length (now block) ⌝ }
+    ensures { λ r. ⌜ (r ≡ byteAt (now (block .entry)) at) × (r < 256) ⌝ }
+{
+    block[at] as usize
+}
+
+// The 16-bit number at `at`.
+pub fn u16_at(block: &[u8], at: usize) -> usize
+    requires { ⌜ at + 1 < length (now block) ⌝ }
+    ensures { λ r. ⌜ (r ≡ u16At (now (block .entry)) at) × (r < 65536) ⌝ }
+{
+    let low = byte_at(block, at);
+    let high = byte_at(block, at + 1);
+    low + 256 * high
+}
+
+// The 32-bit word at `at`.
+pub fn u32_at(block: &[u8], at: usize) -> usize
+    requires { ⌜ at + 3 < length (now block) ⌝ }
+    ensures { λ r. ⌜ (r ≡ u32At (now (block .entry)) at) × (r < 4294967296) ⌝ }
+{
+    let low = u16_at(block, at);
+    let high = u16_at(block, at + 2);
+    low + 65536 * high
+}
+
+// The signed 32-bit number at `at`, in two's complement.
+pub fn i32_at(block: &[u8], at: usize) -> Integer
+    requires { ⌜ at + 3 < length (now block) ⌝ }
+    ensures { λ r. ⌜ integerOf r ≡ signed (u32At (now (block .entry)) at) ⌝ }
+{
+    let word = u32_at(block, at);
+    if word < 2147483648 {
+        return Integer::Plus(word as u64);
+    }
+    Integer::Minus((4294967295 - word) as u64)
+}
+
+// Whether the bytes from `from` up to `to` all hold `value`.
+pub fn is_filled(block: &[u8], from: usize, to: usize, value: usize) -> bool
+    requires { ⌜ to ≤ length (now block) ⌝ }
+    ensures { λ r. ⌜ r ≡ filled (now (block .entry)) from to value ⌝ }
+{
+    let mut at = from;
+    while at < to {
+        if byte_at(block, at) != value {
+            return false;
+        }
+        at += 1;
+    }
+    true
+}
+
+// Whether the block starts with its mark: `LG`, the letter of its sort, and a zero byte.
+pub fn has_mark(block: &[u8], letter: usize) -> bool
+    requires { ⌜ 4 ≤ length (now block) ⌝ }
+    ensures { λ r. ⌜ r ≡ markFits (now (block .entry)) letter ⌝ }
+{
+    if byte_at(block, 0) != 76 {
+        return false;
+    }
+    if byte_at(block, 1) != 71 {
+        return false;
+    }
+    if byte_at(block, 2) != letter {
+        return false;
+    }
+    if byte_at(block, 3) != 0 {
+        return false;
+    }
+    true
+}

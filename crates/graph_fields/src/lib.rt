@@ -1,0 +1,77 @@
+// A graph block's fields by index, as fields of the graph for which the block stands.
+use definitions::HEADER_BYTES;
+use definitions::SLOT_BYTES;
+use fields::byte_at;
+use fields::u16_at;
+ghost use mathlib.Core.Path.{_≡_};
+ghost use Prim.Native.Nat.{_<_, _≤_};
+ghost use lib.ListN.{length, getD};
+ghost use Rattle.definitions.specs.Graph.{headerBytes, inputLimit, unusedPlace, slotCount, outputCount, graphOf, slotOf, inputsOf, isVertex};
+ghost use Rattle.graph_fields.specs.Readable.{Whole, Readable};
+
+// How many slots the header counts.
+pub fn slot_count(graph: &[u8]) -> usize
+    requires { ⌜ headerBytes ≤ length (now graph) ⌝ }
+    ensures { λ r. ⌜ (r ≡ slotCount (now (graph .entry))) × (r < 65536) ⌝ }
+{
+    u16_at(graph, 6)
+}
+
+// How many outputs the header counts.
+pub fn output_count(graph: &[u8]) -> usize
+    requires { ⌜ headerBytes ≤ length (now graph) ⌝ }
+    ensures { λ r. ⌜ (r ≡ outputCount (now (graph .entry))) × (r < 65536) ⌝ }
+{
+    u16_at(graph, 8)
+}
+
+// The kind of slot k.
+pub fn kind_of(graph: &[u8], k: usize) -> usize
+    requires { ⌜ Whole (now graph) ⌝ }
+    requires { ⌜ k < slotCount (now graph) ⌝ }
+    ensures { λ r. ⌜ (r ≡ slotOf (graphOf (now (graph .entry))) k .kind) × (r < 256) ⌝ }
+{
+    byte_at(graph, HEADER_BYTES + SLOT_BYTES * k)
+}
+
+// How many inputs slot k has.
+pub fn input_count(graph: &[u8], k: usize) -> usize
+    requires { ⌜ Readable (now graph) ⌝ }
+    requires { ⌜ k < slotCount (now graph) ⌝ }
+    ensures { λ r. ⌜ (r ≡ length (inputsOf (graphOf (now (graph .entry))) k)) × (r ≤ inputLimit) ⌝ }
+{
+    byte_at(graph, HEADER_BYTES + SLOT_BYTES * k + 2)
+}
+
+// What input place i of slot k names.
+pub fn input_at(graph: &[u8], k: usize, i: usize) -> usize
+    requires { ⌜ Readable (now graph) ⌝ }
+    requires { ⌜ k < slotCount (now graph) ⌝ }
+    requires { ⌜ i < length (inputsOf (graphOf (now graph)) k) ⌝ }
+    ensures { λ r. ⌜ (r ≡ getD (inputsOf (graphOf (now (graph .entry))) k) i unusedPlace) × (r < 65536) ⌝ }
+{
+    u16_at(graph, HEADER_BYTES + SLOT_BYTES * k + 4 + 2 * i)
+}
+
+// What output place i names.
+pub fn output_at(graph: &[u8], i: usize) -> usize
+    requires { ⌜ Whole (now graph) ⌝ }
+    requires { ⌜ i < outputCount (now graph) ⌝ }
+    ensures { λ r. ⌜ (r ≡ getD (graphOf (now (graph .entry)) .outputs) i unusedPlace) × (r < 65536) ⌝ }
+{
+    u16_at(graph, 10 + 2 * i)
+}
+
+// Whether v names a vertex: a slot of the block that is not Empty.
+pub fn is_vertex(graph: &[u8], v: usize) -> bool
+    requires { ⌜ Whole (now graph) ⌝ }
+    ensures { λ r. ⌜ r ≡ isVertex (graphOf (now (graph .entry))) v ⌝ }
+{
+    if slot_count(graph) <= v {
+        return false;
+    }
+    if kind_of(graph, v) == 0 {
+        return false;
+    }
+    true
+}

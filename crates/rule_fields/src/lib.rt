@@ -1,0 +1,137 @@
+// A rule block's fields by index, as fields of the rule for which the block stands.
+use definitions::PATTERN_BYTES;
+use definitions::RULE_HEADER_BYTES;
+use fields::byte_at;
+ghost use mathlib.Core.Path.{_≡_};
+ghost use Prim.Native.Nat.{_<_, _≤_};
+ghost use lib.ListN.{length, getD};
+ghost use Rattle.definitions.specs.Graph.{inputLimit};
+ghost use Rattle.definitions.specs.Rule.{ruleHeaderBytes, sourceCount, targetCount, ruleOutputCount, nodeCount, made, originOf, ruleOf, sourceOf, targetOf, sourceInputs, isRuleInput};
+ghost use Rattle.rule_fields.specs.Readable.{Whole, Readable};
+
+// How many source vertices the header counts.
+pub fn source_count(rule: &[u8]) -> usize
+    requires { ⌜ ruleHeaderBytes ≤ length (now rule) ⌝ }
+    ensures { λ r. ⌜ (r ≡ sourceCount (now (rule .entry))) × (r < 256) ⌝ }
+{
+    byte_at(rule, 6)
+}
+
+// How many target vertices the header counts.
+pub fn target_count(rule: &[u8]) -> usize
+    requires { ⌜ ruleHeaderBytes ≤ length (now rule) ⌝ }
+    ensures { λ r. ⌜ (r ≡ targetCount (now (rule .entry))) × (r < 256) ⌝ }
+{
+    byte_at(rule, 7)
+}
+
+// How many outputs the header counts, on either side.
+pub fn output_count(rule: &[u8]) -> usize
+    requires { ⌜ ruleHeaderBytes ≤ length (now rule) ⌝ }
+    ensures { λ r. ⌜ (r ≡ ruleOutputCount (now (rule .entry))) × (r < 256) ⌝ }
+{
+    byte_at(rule, 8)
+}
+
+// How many expression nodes the header counts.
+pub fn node_count(rule: &[u8]) -> usize
+    requires { ⌜ ruleHeaderBytes ≤ length (now rule) ⌝ }
+    ensures { λ r. ⌜ (r ≡ nodeCount (now (rule .entry))) × (r < 256) ⌝ }
+{
+    byte_at(rule, 9)
+}
+
+// The kind of source vertex j.
+pub fn source_kind(rule: &[u8], j: usize) -> usize
+    requires { ⌜ Whole (now rule) ⌝ }
+    requires { ⌜ j < sourceCount (now rule) ⌝ }
+    ensures { λ r. ⌜ (r ≡ sourceOf (ruleOf (now (rule .entry))) j .kind) × (r < 256) ⌝ }
+{
+    byte_at(rule, RULE_HEADER_BYTES + PATTERN_BYTES * j)
+}
+
+// How many inputs source vertex j has.
+pub fn source_input_count(rule: &[u8], j: usize) -> usize
+    requires { ⌜ Readable (now rule) ⌝ }
+    requires { ⌜ j < sourceCount (now rule) ⌝ }
+    ensures { λ r. ⌜ (r ≡ length (sourceInputs (ruleOf (now (rule .entry))) j)) × (r ≤ inputLimit) ⌝ }
+{
+    byte_at(rule, RULE_HEADER_BYTES + PATTERN_BYTES * j + 2)
+}
+
+// What input place i of source vertex j names.
+pub fn source_input(rule: &[u8], j: usize, i: usize) -> usize
+    requires { ⌜ Readable (now rule) ⌝ }
+    requires { ⌜ j < sourceCount (now rule) ⌝ }
+    requires { ⌜ i < length (sourceInputs (ruleOf (now rule)) j) ⌝ }
+    ensures { λ r. ⌜ (r ≡ getD (sourceInputs (ruleOf (now (rule .entry))) j) i 255) × (r < 256) ⌝ }
+{
+    byte_at(rule, RULE_HEADER_BYTES + PATTERN_BYTES * j + 4 + i)
+}
+
+// The kind of target vertex t.
+pub fn target_kind(rule: &[u8], t: usize) -> usize
+    requires { ⌜ Whole (now rule) ⌝ }
+    requires { ⌜ t < targetCount (now rule) ⌝ }
+    ensures { λ r. ⌜ (r ≡ targetOf (ruleOf (now (rule .entry))) t .kind) × (r < 256) ⌝ }
+{
+    let v = source_count(rule) + t;
+    byte_at(rule, RULE_HEADER_BYTES + PATTERN_BYTES * v)
+}
+
+// How many inputs target vertex t has.
+pub fn target_input_count(rule: &[u8], t: usize) -> usize
+    requires { ⌜ Readable (now rule) ⌝ }
+    requires { ⌜ t < targetCount (now rule) ⌝ }
+    ensures { λ r. ⌜ (r ≡ length (targetOf (ruleOf (now (rule .entry))) t .inputs)) × (r ≤ inputLimit) ⌝ }
+{
+    let v = source_count(rule) + t;
+    byte_at(rule, RULE_HEADER_BYTES + PATTERN_BYTES * v + 2)
+}
+
+// The place number in input place i of target vertex t.
+pub fn target_input(rule: &[u8], t: usize, i: usize) -> usize
+    requires { ⌜ Readable (now rule) ⌝ }
+    requires { ⌜ t < targetCount (now rule) ⌝ }
+    requires { ⌜ i < length (targetOf (ruleOf (now rule)) t .inputs) ⌝ }
+    ensures { λ r. ⌜ (originOf r ≡ getD (targetOf (ruleOf (now (rule .entry))) t .inputs) i (made 255)) × (r < 256) ⌝ }
+{
+    let v = source_count(rule) + t;
+    byte_at(rule, RULE_HEADER_BYTES + PATTERN_BYTES * v + 4 + i)
+}
+
+// The source vertex that source output i is.
+pub fn source_output(rule: &[u8], i: usize) -> usize
+    requires { ⌜ Whole (now rule) ⌝ }
+    requires { ⌜ i < ruleOutputCount (now rule) ⌝ }
+    ensures { λ r. ⌜ (r ≡ getD (ruleOf (now (rule .entry)) .sourceOutputs) i 255) × (r < 256) ⌝ }
+{
+    byte_at(rule, 10 + i)
+}
+
+// The place number of target output i.
+pub fn target_output(rule: &[u8], i: usize) -> usize
+    requires { ⌜ Whole (now rule) ⌝ }
+    requires { ⌜ i < ruleOutputCount (now rule) ⌝ }
+    ensures { λ r. ⌜ (originOf r ≡ getD (ruleOf (now (rule .entry)) .targetOutputs) i (made 255)) × (r < 256) ⌝ }
+{
+    byte_at(rule, 12 + i)
+}
+
+// Whether j is a rule input: a source vertex that is a wildcard or a Variable.
+pub fn is_rule_input(rule: &[u8], j: usize) -> bool
+    requires { ⌜ Whole (now rule) ⌝ }
+    ensures { λ r. ⌜ r ≡ isRuleInput (ruleOf (now (rule .entry))) j ⌝ }
+{
+    if source_count(rule) <= j {
+        return false;
+    }
+    let kind = source_kind(rule, j);
+    if kind == 0 {
+        return true;
+    }
+    if kind == 2 {
+        return true;
+    }
+    false
+}
