@@ -1,0 +1,85 @@
+-- What each test that a block passed says of it: the layout, and that inputs name slots.
+-- Assumes nothing.
+use mathlib.Core.Path.{_≡_, ap, _∙_}
+use mathlib.Core.Bool.{true, false, and-false}
+use mathlib.Core.List.{List}
+use Prim.Native.Nat.{ℕ, _+_, _<_, _≤_}
+use native.Mathlib.Omega.{arith}
+use borrow.Author.Tests.{leb-true, eqb-true, not-false, lt-ltb, le-ltb}
+use lib.Dec.{eqb, leb}
+use lib.ListN.{length, getD}
+use Rattle.definitions.specs.Lists.{lowest, all}
+use Rattle.definitions.specs.Fields.{byteAt}
+use Rattle.definitions.specs.declared.Reply.the-variants.{Done}
+use Rattle.definitions.specs.Operators.{shapeFits}
+use Rattle.definitions.specs.Reply.{badGraph, refused, flag, place, judged}
+use Rattle.definitions.specs.Graph.{slotLimit, outputLimit, unusedPlace, slotCount, outputCount, recordAt, Slot, graphOf, inputsOf, isVertex, outputPlacesFit, headerFits, recordFits, badRecord, badInputs, badOutput, hasCycle, graphFaults, graphReply}
+use Rattle.laws.proofs.Lists.{needed, lowest-passed, all-at}
+use Rattle.laws.proofs.Graph.{vertex-inside, length-slots, slot-of, length-inputs}
+use Rattle.laws.proofs.Operators.{few-inputs}
+use Rattle.graph_fields.specs.Readable.{Whole, Readable, Closed}
+
+module _ (block : List ℕ) where
+  pub whole : headerFits block ≡ true → Whole block
+  unfolding headerFits outputPlacesFit
+  whole h = record {
+    size = eqb-true _ _ (needed (eqb (length block) (recordAt (slotCount block))) h (λ f. simp f));
+    slots = leb-true _ _ (needed (leb (slotCount block) slotLimit) h (λ f. simp (f, and-false)));
+    outputs = leb-true _ _ (needed (leb (outputCount block) outputLimit) h (λ f. simp (f, and-false)));
+  }
+
+  -- a record that follows the tables has at most six inputs
+  pub readable : Whole block → slotCount block ≤ lowest (badRecord block) (slotCount block) → Readable block
+  unfolding badRecord recordFits
+  readable w h = record {
+    whole = w;
+    inputs = λ k l.
+        let good = not-false (recordFits block (recordAt k)) (lowest-passed (badRecord block) (slotCount block) k (omega arith)) in
+        let at = recordAt k in
+        let shape = needed
+        (shapeFits (byteAt block at) (byteAt block (at + 1)) (byteAt block (at + 2)) (byteAt block (at + 3))) good (λ f. simp f) in
+        let few = few-inputs (byteAt block at) (byteAt block (at + 1)) (byteAt block (at + 2)) (byteAt block (at + 3)) shape in
+        let counted = ap (λ (s : Slot). length (s .inputs)) (slot-of block k l) ∙ length-inputs block at in
+        omega (arith, few, counted);
+  }
+
+  pub closed : Readable block → slotCount block ≤ lowest (badInputs (graphOf block)) (slotCount block) → Closed block
+  unfolding badInputs
+  closed r h = record {
+    named = λ k i l m.
+        let good = not-false (all (isVertex (graphOf block)) (inputsOf (graphOf block) k))
+        (lowest-passed (badInputs (graphOf block)) (slotCount block) k (omega arith)) in
+        rw (length-slots block) at (vertex-inside (graphOf block) (getD (inputsOf (graphOf block) k) i unusedPlace)
+        (all-at (isVertex (graphOf block)) unusedPlace (inputsOf (graphOf block) k) i good m));
+  }
+
+  -- ---- the reply, fault by fault: each kind refuses once those before it do not
+
+  pub refused-header : headerFits block ≡ false → refused badGraph ≡ graphReply block
+  unfolding graphReply graphFaults flag judged
+  refused-header h = simp h
+
+  module _ (header : headerFits block ≡ true) where
+    pub refused-record : lowest (badRecord block) (slotCount block) < slotCount block → refused badGraph ≡ graphReply block
+    unfolding graphReply graphFaults flag place judged
+    refused-record l = simp (header, lt-ltb _ _ l)
+
+    module _ (records : slotCount block ≤ lowest (badRecord block) (slotCount block)) where
+      pub refused-input : lowest (badInputs (graphOf block)) (slotCount block) < slotCount block → refused badGraph ≡ graphReply block
+      unfolding graphReply graphFaults flag place judged
+      refused-input l = simp (header, le-ltb _ _ records, lt-ltb _ _ l)
+
+      module _ (inputs : slotCount block ≤ lowest (badInputs (graphOf block)) (slotCount block)) where
+        pub refused-output : lowest (badOutput (graphOf block)) (outputCount block) < outputCount block
+            → refused badGraph ≡ graphReply block
+        unfolding graphReply graphFaults flag place judged
+        refused-output l = simp (header, le-ltb _ _ records, le-ltb _ _ inputs, lt-ltb _ _ l)
+
+        module _ (outputs : outputCount block ≤ lowest (badOutput (graphOf block)) (outputCount block)) where
+          pub refused-cycle : hasCycle (graphOf block) ≡ true → refused badGraph ≡ graphReply block
+          unfolding graphReply graphFaults flag place judged
+          refused-cycle t = simp (header, le-ltb _ _ records, le-ltb _ _ inputs, le-ltb _ _ outputs, t)
+
+          pub sound : hasCycle (graphOf block) ≡ false → Done ≡ graphReply block
+          unfolding graphReply graphFaults flag place judged
+          sound f = simp (header, le-ltb _ _ records, le-ltb _ _ inputs, le-ltb _ _ outputs, f)
