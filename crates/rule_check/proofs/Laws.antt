@@ -1,0 +1,106 @@
+-- What each test that a block passed says of it: the layout, that source inputs are lower, and that source outputs are vertices.
+-- Assumes nothing.
+use mathlib.Core.Path.{_≡_}
+use mathlib.Core.Bool.{Bool, true, false, cond, _&&_, and-false}
+use mathlib.Core.List.{List}
+use Prim.Native.Nat.{ℕ, _+_, _-_, _<_, _≤_}
+use native.Mathlib.Omega.{arith}
+use borrow.Author.Tests.{leb-true, ltb-true, eqb-true, not-false, lt-ltb, le-ltb}
+use lib.Dec.{eqb, leb, ltb}
+use lib.ListN.{length, getD}
+use Rattle.definitions.specs.declared.Reply.the-variants.{Done}
+use Rattle.definitions.specs.Lists.{lowest, all, allBelow}
+use Rattle.definitions.specs.Fields.{byteAt}
+use Rattle.definitions.specs.Reply.{badRule, refused, flag, place, judged}
+use Rattle.definitions.specs.Rule.{sideLimit, ruleOutputLimit, nodeLimit, sourceCount, targetCount, ruleOutputCount, nodeCount, vertexAt, nodeAt, ruleOf, sourceInputs, ruleSizesFit, ruleOutputPlacesFit, ruleHeaderFits, patternFits, sourceInputsFit, targetInputsFit, badVertex, inVisitingOrder, outputsFit, badNode, badUse, ruleFaults, ruleReply}
+use Rattle.laws.proofs.Lists.{needed, lowest-passed, all-at, allBelow-at}
+use Rattle.laws.proofs.Rule.{source-output-of}
+use Rattle.rule_records.proofs.Laws.{pattern-inputs, pattern-attributes}
+use Rattle.rule_fields.specs.Readable.{Whole, Readable, Layered}
+
+module _ (block : List ℕ) where
+  pub whole : ruleHeaderFits block ≡ true → Whole block
+  unfolding ruleHeaderFits ruleSizesFit
+  whole h = record {
+    size = eqb-true _ _ (needed (eqb (length block) (nodeAt block (nodeCount block))) h (λ f. simp f));
+    source = leb-true _ _ (needed (leb (sourceCount block) sideLimit) h (λ f. simp (f, and-false)));
+    target = leb-true _ _ (needed (leb (targetCount block) sideLimit) h (λ f. simp (f, and-false)));
+    outputs = leb-true _ _ (needed (leb (ruleOutputCount block) ruleOutputLimit) h (λ f. simp (f, and-false)));
+    nodes = leb-true _ _ (needed (leb (nodeCount block) nodeLimit) h (λ f. simp (f, and-false)));
+  }
+
+  module _ (vertices : sourceCount block + targetCount block ≤ lowest (badVertex block) (sourceCount block + targetCount block)) where
+    -- every vertex's record and input places are good
+    pub good : (v : ℕ) → v < sourceCount block + targetCount block
+        → (patternFits block (vertexAt v)
+        && cond (ltb v (sourceCount block)) (sourceInputsFit (ruleOf block) v) (targetInputsFit (ruleOf block) (v - sourceCount block)))
+        ≡ true
+    unfolding badVertex
+    good v l = not-false _ (lowest-passed (badVertex block) (sourceCount block + targetCount block) v (omega arith))
+
+    pub pattern : (v : ℕ) → v < sourceCount block + targetCount block → patternFits block (vertexAt v) ≡ true
+    pattern v l = needed (patternFits block (vertexAt v)) (good v l) (λ f. simp f)
+
+    pub readable : Whole block → Readable block
+    readable w = record {
+      whole = w;
+      inputs = λ v l. pattern-inputs block (vertexAt v) (pattern v l);
+      attributes = λ v l. pattern-attributes block (vertexAt v) (pattern v l);
+    }
+
+    lower : (j : ℕ) → j < sourceCount block → all (λ p. ltb p j) (sourceInputs (ruleOf block) j) ≡ true
+    unfolding sourceInputsFit
+    lower j l =
+        needed (sourceInputsFit (ruleOf block) j) (good j (omega arith))
+        (λ f. simp (lt-ltb j (sourceCount block) l, f, and-false))
+
+    pub layered : ruleHeaderFits block ≡ true → Layered block
+    unfolding ruleHeaderFits ruleOutputPlacesFit
+    layered h = record {
+      lower = λ j i l m.
+          ltb-true (getD (sourceInputs (ruleOf block) j) i 255) j
+          (all-at (λ p. ltb p j) 255 (sourceInputs (ruleOf block) j) i (lower j l) m);
+      outputs = λ i l.
+          let below : ℕ → Bool = λ k. ltb (byteAt block (10 + k)) (sourceCount block) in
+          let listed = needed (allBelow below (ruleOutputCount block)) h (λ f. simp (f, and-false)) in
+          rw (source-output-of block i 255 l)
+          (ltb-true (byteAt block (10 + i)) (sourceCount block) (allBelow-at below (ruleOutputCount block) i listed l));
+    }
+
+  -- ---- the reply, fault by fault: each kind refuses once those before it do not
+
+  pub refused-header : ruleHeaderFits block ≡ false → refused badRule ≡ ruleReply block
+  unfolding ruleReply ruleFaults flag judged
+  refused-header h = simp h
+
+  module _ (header : ruleHeaderFits block ≡ true) where
+    pub refused-vertex : lowest (badVertex block) (sourceCount block + targetCount block) < sourceCount block + targetCount block
+        → refused badRule ≡ ruleReply block
+    unfolding ruleReply ruleFaults flag place judged
+    refused-vertex l = simp (header, lt-ltb _ _ l)
+
+    module _ (vertices : sourceCount block + targetCount block ≤ lowest (badVertex block) (sourceCount block + targetCount block)) where
+      pub refused-order : inVisitingOrder (ruleOf block) ≡ false → refused badRule ≡ ruleReply block
+      unfolding ruleReply ruleFaults flag place judged
+      refused-order f = simp (header, le-ltb _ _ vertices, f)
+
+      module _ (order : inVisitingOrder (ruleOf block) ≡ true) where
+        pub refused-outputs : outputsFit (ruleOf block) ≡ false → refused badRule ≡ ruleReply block
+        unfolding ruleReply ruleFaults flag place judged
+        refused-outputs f = simp (header, le-ltb _ _ vertices, order, f)
+
+        module _ (outputs : outputsFit (ruleOf block) ≡ true) where
+          pub refused-node : lowest (badNode block) (nodeCount block) < nodeCount block → refused badRule ≡ ruleReply block
+          unfolding ruleReply ruleFaults flag place judged
+          refused-node l = simp (header, le-ltb _ _ vertices, order, outputs, lt-ltb _ _ l)
+
+          module _ (nodes : nodeCount block ≤ lowest (badNode block) (nodeCount block)) where
+            pub refused-use : lowest (badUse block) (sourceCount block + targetCount block) < sourceCount block + targetCount block
+                → refused badRule ≡ ruleReply block
+            unfolding ruleReply ruleFaults flag place judged
+            refused-use l = simp (header, le-ltb _ _ vertices, order, outputs, le-ltb _ _ nodes, lt-ltb _ _ l)
+
+            pub sound : sourceCount block + targetCount block ≤ lowest (badUse block) (sourceCount block + targetCount block)
+                → Done ≡ ruleReply block
+            unfolding ruleReply ruleFaults flag place judged
+            sound l = simp (header, le-ltb _ _ vertices, order, outputs, le-ltb _ _ nodes, le-ltb _ _ l)

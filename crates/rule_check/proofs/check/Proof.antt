@@ -1,0 +1,201 @@
+-- Each kind of fault refuses once those before it do not hold; what a passed test says of the block is what the next one asks.
+-- Assumes nothing.
+use borrow.Author.Needs.{needs}
+use borrow.Author.Tests.{not-true, not-false}
+use mathlib.Core.Path.{_≡_, sym, _∙_}
+use mathlib.Core.Bool.{true}
+use mathlib.Core.List.{List}
+use Prim.Native.Nat.{ℕ, _+_, _≤_}
+use native.Mathlib.Omega.{arith}
+use Rattle.definitions.specs.Lists.{lowest}
+use Rattle.definitions.specs.Rule.{sourceCount, targetCount, nodeCount, ruleOf, ruleHeaderFits, badVertex, inVisitingOrder, outputsFit, badNode}
+use Rattle.rule_fields.specs.Readable.{Whole, Readable, Layered}
+use Rattle.rule_check.proofs.Laws.{whole, readable, layered, refused-header, refused-vertex, refused-order, refused-outputs, refused-node, refused-use, sound}
+use Rattle.rule_check.proofs.check.Statement.{statement}
+use Rattle.rule_check.proofs.check.Tie as tie
+
+-- ---- what is known once a test has passed, and of which block
+
+abbrev block₁ : tie.Else1 → List ℕ
+block₁ c = c .before .before .before .args .rule .now
+
+header : (c : tie.Else1) → ruleHeaderFits (block₁ c) ≡ true
+header c = sym (c .before .header-fits .ensures) ∙ not-false (c .before .header-fits .result) (c .if1 .left)
+
+laid-out : (c : tie.Else1) → Whole (block₁ c)
+laid-out c = whole (block₁ c) (header c)
+
+abbrev to₁ : tie.Else2 → tie.Else1
+to₁ c = c .before .before .before .before
+
+abbrev block₂ : tie.Else2 → List ℕ
+block₂ c = block₁ (to₁ c)
+
+vertices : (c : tie.Else2)
+    → let n = sourceCount (block₂ c) + targetCount (block₂ c) in n ≤ lowest (badVertex (block₂ c)) n
+vertices c =
+    let counts = c .before .before in
+    omega (arith, c .before .bad-vertex .ensures, counts .target-count .ensures .0, counts .before .source-count .ensures .0)
+
+read : (c : tie.Else2) → Readable (block₂ c)
+read c = readable (block₂ c) (vertices c) (laid-out (to₁ c))
+
+layers : (c : tie.Else2) → Layered (block₂ c)
+layers c = layered (block₂ c) (vertices c) (header (to₁ c))
+
+abbrev to₂ : tie.Else3 → tie.Else2
+to₂ c = c .before .before
+
+order : (c : tie.Else3) → inVisitingOrder (ruleOf (block₂ (to₂ c))) ≡ true
+order c = sym (c .before .in-visiting-order .ensures) ∙ not-false (c .before .in-visiting-order .result) (c .if3 .left)
+
+abbrev to₃ : tie.Else4 → tie.Else3
+to₃ c = c .before .before
+
+outputs : (c : tie.Else4) → outputsFit (ruleOf (block₂ (to₂ (to₃ c)))) ≡ true
+outputs c = sym (c .before .outputs-fit .ensures) ∙ not-false (c .before .outputs-fit .result) (c .if4 .left)
+
+abbrev to₄ : tie.Else5 → tie.Else4
+to₄ c = c .before .before .before
+
+abbrev block₅ : tie.Else5 → List ℕ
+block₅ c = block₂ (to₂ (to₃ (to₄ c)))
+
+nodes : (c : tie.Else5) → nodeCount (block₅ c) ≤ lowest (badNode (block₅ c)) (nodeCount (block₅ c))
+nodes c = omega (arith, c .before .before .bad-node .ensures, c .before .node-count .ensures .0)
+
+-- ---- the needs, in the code's order
+
+header-fits-requires : tie.Need-header-fits-requires
+header-fits-requires c κs = search needs
+
+bad-rule-requires : tie.Need-bad-rule-requires
+bad-rule-requires c κs = search needs
+
+returns : tie.Need-returns
+returns c =
+    let call = c .before .before in
+    c .bad-rule .ensures
+    ∙ refused-header _ (sym (call .header-fits .ensures) ∙ not-true (call .header-fits .result) (c .before .if1 .taken))
+
+source-count-requires : tie.Need-source-count-requires
+source-count-requires c κs = omega (arith, laid-out c .size)
+
+target-count-requires : tie.Need-target-count-requires
+target-count-requires c κs = omega (arith, laid-out (c .before) .size)
+
+add-vertices : tie.Need-add-vertices
+add-vertices c = search needs
+
+bad-vertex-requires : tie.Need-bad-vertex-requires
+bad-vertex-requires c κs = laid-out (c .before .before)
+
+bad-rule-requires-2 : tie.Need-bad-rule-requires-2
+bad-rule-requires-2 c κs = search needs
+
+returns-2 : tie.Need-returns-2
+returns-2 c =
+    let call = c .before .before in
+    let counts = call .before in
+    c .bad-rule2 .ensures
+    ∙ refused-vertex _ (header (counts .before .before))
+    (omega (arith, call .bad-vertex .ensures, counts .target-count .ensures .0, counts .before .source-count .ensures .0))
+
+in-visiting-order-requires : tie.Need-in-visiting-order-requires
+in-visiting-order-requires c κs = (read c, layers c)
+
+bad-rule-requires-3 : tie.Need-bad-rule-requires-3
+bad-rule-requires-3 c κs = search needs
+
+returns-3 : tie.Need-returns-3
+returns-3 c =
+    let call = c .before .before in
+    let e = call .before in
+    c .bad-rule3 .ensures
+    ∙ refused-order _ (header (to₁ e)) (vertices e)
+    (sym (call .in-visiting-order .ensures) ∙ not-true (call .in-visiting-order .result) (c .before .if3 .taken))
+
+outputs-fit-requires : tie.Need-outputs-fit-requires
+outputs-fit-requires c κs = (read (to₂ c), layers (to₂ c))
+
+bad-rule-requires-4 : tie.Need-bad-rule-requires-4
+bad-rule-requires-4 c κs = search needs
+
+returns-4 : tie.Need-returns-4
+returns-4 c =
+    let call = c .before .before in
+    let e = call .before in
+    c .bad-rule4 .ensures
+    ∙ refused-outputs _ (header (to₁ (to₂ e))) (vertices (to₂ e)) (order e)
+    (sym (call .outputs-fit .ensures) ∙ not-true (call .outputs-fit .result) (c .before .if4 .taken))
+
+bad-node-requires : tie.Need-bad-node-requires
+bad-node-requires c κs = laid-out (to₁ (to₂ (to₃ c)))
+
+node-count-requires : tie.Need-node-count-requires
+node-count-requires c κs = omega (arith, laid-out (to₁ (to₂ (to₃ (c .before)))) .size)
+
+bad-rule-requires-5 : tie.Need-bad-rule-requires-5
+bad-rule-requires-5 c κs = search needs
+
+returns-5 : tie.Need-returns-5
+returns-5 c =
+    let call = c .before .before in
+    let e = call .before .before in
+    let d = to₂ (to₃ e) in
+    c .bad-rule5 .ensures
+    ∙ refused-node _ (header (to₁ d)) (vertices d) (order (to₃ e)) (outputs e)
+    (omega (arith, call .before .bad-node .ensures, call .node-count .ensures .0))
+
+bad-use-requires : tie.Need-bad-use-requires
+bad-use-requires c κs = (read (to₂ (to₃ (to₄ c))), nodes c)
+
+bad-rule-requires-6 : tie.Need-bad-rule-requires-6
+bad-rule-requires-6 c κs = search needs
+
+returns-6 : tie.Need-returns-6
+returns-6 c =
+    let call = c .before .before in
+    let e = to₄ (call .before) in
+    let d = to₂ (to₃ e) in
+    let counts = d .before .before in
+    c .bad-rule6 .ensures
+    ∙ refused-use _ (header (to₁ d)) (vertices d) (order (to₃ e)) (outputs e) (nodes (call .before))
+    (omega (arith, call .bad-use .ensures, counts .target-count .ensures .0, counts .before .source-count .ensures .0))
+
+returns-7 : tie.Need-returns-7
+returns-7 c =
+    let call = c .before in
+    let e = to₄ (call .before) in
+    let d = to₂ (to₃ e) in
+    let counts = d .before .before in
+    sound _ (header (to₁ d)) (vertices d) (order (to₃ e)) (outputs e) (nodes (call .before))
+    (omega (arith, call .bad-use .ensures, counts .target-count .ensures .0, counts .before .source-count .ensures .0))
+
+pub check-spec : {M : Type 1} → statement M
+check-spec =
+    tie.close
+    (tie.spec
+    header-fits-requires
+    bad-rule-requires
+    returns
+    source-count-requires
+    target-count-requires
+    add-vertices
+    bad-vertex-requires
+    bad-rule-requires-2
+    returns-2
+    in-visiting-order-requires
+    bad-rule-requires-3
+    returns-3
+    outputs-fit-requires
+    bad-rule-requires-4
+    returns-4
+    bad-node-requires
+    node-count-requires
+    bad-rule-requires-5
+    returns-5
+    bad-use-requires
+    bad-rule-requires-6
+    returns-6
+    returns-7)

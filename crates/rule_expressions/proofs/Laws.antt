@@ -1,0 +1,122 @@
+-- Laws about the highest access of an expression, about the array of them, and about the operands of a node.
+-- Assumes nothing.
+use mathlib.Core.Path.{_≡_, refl, sym, ap, ap₂, _∙_}
+use mathlib.Core.Bool.{Bool, true, false, not, _&&_}
+use mathlib.Core.List.{List, _++_, map}
+use mathlib.Core.Logic.{_⊎_, inl, inr}
+use Prim.Native.Nat.{ℕ, _+_, _-_, _<_, _≤_, max}
+use native.Mathlib.Numerals.{add-one}
+use native.Mathlib.Omega.{arith}
+use borrow.Author.Tests.{lt-ltb, le-ltb, ltb-true, le-leb, lt-leb, leb-true, leb-false, ne-eqb, eqb-true, eqb-false, not-false}
+use lib.Dec.{eqb, ltb, leb, leb·zero}
+use lib.ListN.{getD, set, replicate, List·getD-map}
+use Rattle.definitions.specs.Lists.{build, lowest}
+use Rattle.definitions.specs.Fields.{byteAt, filled}
+use Rattle.definitions.specs.Rule.{nodeCount, nodeAt, Expression, anything, constant, access, apply, nodeForm, nodeLeft, nodeRight, nodeFrom, expressions, expressionOf, operandFits, nodeFits, badNode, accessesBelow}
+use Rattle.laws.proofs.Lists.{decided, and-left, and-right, lowest-passed}
+use Rattle.laws.proofs.Builds.{build-more, getD-padded, map-build}
+use Rattle.rule_expressions.specs.Access.{topAccess, topFrom}
+
+-- ---- the highest access
+
+both-below : (a b j : ℕ) → (leb a j && leb b j) ≡ leb (max a b) j
+both-below a b j = go (decided (leb a j)) (decided (leb b j))
+  where
+    go : (leb a j ≡ true) ⊎ (leb a j ≡ false) → (leb b j ≡ true) ⊎ (leb b j ≡ false) → (leb a j && leb b j) ≡ leb (max a b) j
+    go (inl s) (inl t) = simp (s, t) (sym (le-leb (max a b) j (omega (arith, leb-true a j s, leb-true b j t))))
+    go (inl s) (inr t) = simp (s, t) (sym (lt-leb (max a b) j (omega (arith, leb-false b j t))))
+    go (inr s) t = simp s (sym (lt-leb (max a b) j (omega (arith, leb-false a j s))))
+
+pub below-top : (j : ℕ) (e : Expression) → accessesBelow j e ≡ leb (topAccess e) j
+unfolding accessesBelow topAccess
+below-top j anything = sym (leb·zero j)
+below-top j (constant z) = sym (leb·zero j)
+below-top j (access v b) = refl
+below-top j (apply o x y) = simp (below-top j x, below-top j y) (both-below (topAccess x) (topAccess y) j)
+
+-- ---- parts of a conjunction
+
+last : (a b d : Bool) → (a && (b && d)) ≡ true → d ≡ true
+last a b d h = and-right b d (and-right a (b && d) h)
+
+middle : (a b d : Bool) → (a && b && d) ≡ true → b ≡ true
+middle a b d h = and-right a b (and-left (a && b) d h)
+
+-- ---- the nodes of a block
+
+module _ (block : List ℕ) where
+  top-node : (earlier : List Expression) (k : ℕ) → topAccess (nodeFrom block earlier k) ≡ topFrom block (map topAccess earlier) k
+  unfolding nodeFrom topFrom topAccess
+  top-node earlier k =
+      go (decided (eqb (nodeForm block k) 0)) (decided (eqb (nodeForm block k) 1)) (decided (eqb (nodeForm block k) 2))
+    where
+      many : eqb (nodeForm block k) 0 ≡ false → eqb (nodeForm block k) 1 ≡ false → 2 ≤ nodeForm block k
+      many s t = omega (arith, eqb-false (nodeForm block k) 0 s, eqb-false (nodeForm block k) 1 t)
+
+      go : (eqb (nodeForm block k) 0 ≡ true) ⊎ (eqb (nodeForm block k) 0 ≡ false)
+          → (eqb (nodeForm block k) 1 ≡ true) ⊎ (eqb (nodeForm block k) 1 ≡ false)
+          → (eqb (nodeForm block k) 2 ≡ true) ⊎ (eqb (nodeForm block k) 2 ≡ false)
+          → topAccess (nodeFrom block earlier k) ≡ topFrom block (map topAccess earlier) k
+      go (inl s) t u = simp (s, lt-ltb (nodeForm block k) 2 (omega (arith, eqb-true (nodeForm block k) 0 s)))
+      go (inr s) (inl t) u = simp (s, t, lt-ltb (nodeForm block k) 2 (omega (arith, eqb-true (nodeForm block k) 1 t)))
+      go (inr s) (inr t) (inl u) =
+          simp (s, t, u, le-ltb (nodeForm block k) 2 (omega (arith, eqb-true (nodeForm block k) 2 u))) (sym (add-one (nodeLeft block k)))
+      go (inr s) (inr t) (inr u) =
+          simp (s, t, u, le-ltb (nodeForm block k) 2 (many s t))
+          (ap₂ max (sym (List·getD-map topAccess earlier (nodeLeft block k) anything))
+          (sym (List·getD-map topAccess earlier (nodeRight block k) anything)))
+
+  -- tops that are not found yet are as no tops
+  top-unpadded : (tops : List ℕ) (n k : ℕ) → topFrom block (tops ++ replicate n 0) k ≡ topFrom block tops k
+  unfolding topFrom
+  top-unpadded tops n k = simp getD-padded
+
+  -- the array of tops, when one more is stored, and when all are
+  module _ (n : ℕ) (tops : List ℕ) (so-far : tops ≡ build (topFrom block) n ++ replicate (64 - n) 0) where
+    pub tops-more : (x : ℕ) → n < 64 → x ≡ topFrom block tops n
+        → set tops n x ≡ build (topFrom block) (n + 1) ++ replicate (64 - (n + 1)) 0
+    tops-more x l e =
+        ap (λ (xs : List ℕ). set xs n x) so-far
+        ∙ build-more (topFrom block) 64 n 0 x l
+        (e ∙ ap (λ (xs : List ℕ). topFrom block xs n) so-far ∙ top-unpadded (build (topFrom block) n) (64 - n) n)
+
+    pub tops-all : n ≡ nodeCount block → (k : ℕ) → getD tops k 0 ≡ topAccess (expressionOf block k)
+    unfolding expressionOf expressions topAccess
+    tops-all e k =
+        ap (λ (xs : List ℕ). getD xs k 0) so-far
+        ∙ getD-padded (build (topFrom block) n) (64 - n) k 0
+        ∙ ap (λ (m : ℕ). getD (build (topFrom block) m) k 0) e
+        ∙ ap (λ (xs : List ℕ). getD xs k 0) (sym (map-build topAccess (nodeFrom block) (topFrom block) top-node (nodeCount block)))
+        ∙ List·getD-map topAccess (build (nodeFrom block) (nodeCount block)) k anything
+
+  -- ---- operands
+
+  operand-earlier : (k j : ℕ) → operandFits block k j ≡ true → j < k
+  unfolding operandFits
+  operand-earlier k j h = ltb-true j k (and-left (ltb j k) (not (eqb (nodeForm block j) 0)) h)
+
+  module _ (k : ℕ) (fits : nodeFits block k ≡ true) (operation : 2 < nodeForm block k) where
+    operands : (leb (nodeForm block k) 7 && operandFits block k (nodeLeft block k) && operandFits block k (nodeRight block k)) ≡ true
+    unfolding nodeFits
+    operands =
+        let no-any : eqb (nodeForm block k) 0 ≡ false = ne-eqb (nodeForm block k) 0 (λ e. omega arith) in
+        let no-constant : eqb (nodeForm block k) 1 ≡ false = ne-eqb (nodeForm block k) 1 (λ e. omega arith) in
+        let no-access : eqb (nodeForm block k) 2 ≡ false = ne-eqb (nodeForm block k) 2 (λ e. omega arith) in
+        last (eqb (byteAt block (nodeAt block k + 3)) 0) (filled block (nodeAt block k + 4) (nodeAt block k + 8) 0)
+        (leb (nodeForm block k) 7 && operandFits block k (nodeLeft block k) && operandFits block k (nodeRight block k))
+        (simp (no-any, no-constant, no-access) at fits)
+
+    pub left-earlier : nodeLeft block k < k
+    left-earlier =
+        operand-earlier k (nodeLeft block k)
+        (middle (leb (nodeForm block k) 7) (operandFits block k (nodeLeft block k)) (operandFits block k (nodeRight block k)) operands)
+
+    pub right-earlier : nodeRight block k < k
+    right-earlier =
+        operand-earlier k (nodeRight block k)
+        (and-right (leb (nodeForm block k) 7 && operandFits block k (nodeLeft block k)) (operandFits block k (nodeRight block k)) operands)
+
+  -- every node fits where a search for a fault passed all
+  pub all-fit : nodeCount block ≤ lowest (badNode block) (nodeCount block) → (k : ℕ) → k < nodeCount block → nodeFits block k ≡ true
+  unfolding badNode
+  all-fit h k l = not-false (nodeFits block k) (lowest-passed (badNode block) (nodeCount block) k (omega arith))

@@ -1,0 +1,277 @@
+// The faults of a rule's expression nodes, and of the attributes that use them. Each test gives the lowest place with a fault, or
+// the number of places looked at where there is none.
+use definitions::ATTRIBUTE_LIMIT;
+use definitions::NODE_BYTES;
+use definitions::NODE_LIMIT;
+use definitions::PATTERN_BYTES;
+use definitions::RULE_HEADER_BYTES;
+use fields::byte_at;
+use fields::is_filled;
+use rule_fields::node_count;
+use rule_fields::source_count;
+use rule_fields::target_count;
+ghost use mathlib.Core.Path.{_≡_};
+ghost use mathlib.Core.Bool.{true, not, _&&_};
+ghost use Prim.Native.Nat.{ℕ, _+_, _<_, _≤_, max};
+ghost use lib.Dec.{eqb, ltb, leb};
+ghost use lib.ListN.{length, getD};
+ghost use Rattle.definitions.specs.Lists.{within, lowest};
+ghost use Rattle.definitions.specs.Fields.{byteAt, filled};
+ghost use Rattle.definitions.specs.Graph.{attributeLimit};
+ghost use Rattle.definitions.specs.Rule.{ruleHeaderBytes, nodeBytes, sourceCount, targetCount, nodeCount, nodeAt, nodeForm, expressionOf, operandFits, nodeFits, badNode, useFits, badUse};
+ghost use Rattle.rule_fields.specs.Readable.{Whole, Readable};
+ghost use Rattle.rule_expressions.specs.Access.{topAccess, topFrom};
+
+// ---- nodes
+
+// Where node k starts.
+fn node_at(rule: &[u8], k: usize) -> usize
+    requires { ⌜ Whole (now rule) ⌝ }
+    requires { ⌜ k < nodeCount (now rule) ⌝ }
+    ensures { λ r. ⌜ (r ≡ nodeAt (now (rule .entry)) k) × (r + nodeBytes ≤ length (now (rule .entry))) ⌝ }
+{
+    let vertices = source_count(rule) + target_count(rule);
+    RULE_HEADER_BYTES + PATTERN_BYTES * vertices + NODE_BYTES * k
+}
+
+// The form of node k, its first byte.
+fn node_form(rule: &[u8], k: usize) -> usize
+    requires { ⌜ Whole (now rule) ⌝ }
+    requires { ⌜ k < nodeCount (now rule) ⌝ }
+    ensures { λ r. ⌜ (r ≡ nodeForm (now (rule .entry)) k) × (r < 256) ⌝ }
+{
+    let at = node_at(rule, k);
+    byte_at(rule, at)
+}
+
+// Byte i of node k: after the form come the left and the right operand, a zero byte, and the number.
+fn node_byte(rule: &[u8], k: usize, i: usize) -> usize
+    requires { ⌜ Whole (now rule) ⌝ }
+    requires { ⌜ k < nodeCount (now rule) ⌝ }
+    requires { ⌜ i < nodeBytes ⌝ }
+    ensures { λ r. ⌜ (r ≡ byteAt (now (rule .entry)) (nodeAt (now (rule .entry)) k + i)) × (r < 256) ⌝ }
+{
+    let at = node_at(rule, k);
+    byte_at(rule, at + i)
+}
+
+// Whether node k leaves its number zero.
+fn number_unused(rule: &[u8], k: usize) -> bool
+    requires { ⌜ Whole (now rule) ⌝ }
+    requires { ⌜ k < nodeCount (now rule) ⌝ }
+    ensures { λ r. ⌜ r ≡ filled (now (rule .entry)) (nodeAt (now (rule .entry)) k + 4) (nodeAt (now (rule .entry)) k + 8) 0 ⌝ }
+{
+    let at = node_at(rule, k);
+    is_filled(rule, at + 4, at + NODE_BYTES, 0)
+}
+
+// Whether a node that has no operands leaves both zero.
+fn operands_unused(left: usize, right: usize) -> bool
+    ensures { λ r. ⌜ r ≡ (eqb left 0 && eqb right 0) ⌝ }
+{
+    if left != 0 {
+        return false;
+    }
+    if right != 0 {
+        return false;
+    }
+    true
+}
+
+// Whether an access names a source vertex, and an attribute place, counted from 1.
+fn access_fits(rule: &[u8], vertex: usize, attribute: usize) -> bool
+    requires { ⌜ ruleHeaderBytes ≤ length (now rule) ⌝ }
+    ensures { λ r. ⌜ r ≡ (ltb vertex (sourceCount (now (rule .entry))) && within 1 attribute attributeLimit) ⌝ }
+{
+    if source_count(rule) <= vertex {
+        return false;
+    }
+    if attribute < 1 {
+        return false;
+    }
+    if ATTRIBUTE_LIMIT < attribute {
+        return false;
+    }
+    true
+}
+
+// Whether node k may name node j as an operand: an earlier one that is not any.
+fn operand_fits(rule: &[u8], k: usize, j: usize) -> bool
+    requires { ⌜ Whole (now rule) ⌝ }
+    requires { ⌜ k < nodeCount (now rule) ⌝ }
+    ensures { λ r. ⌜ r ≡ operandFits (now (rule .entry)) k j ⌝ }
+{
+    if k <= j {
+        return false;
+    }
+    if node_form(rule, j) == 0 {
+        return false;
+    }
+    true
+}
+
+// Whether node k, whose form is none of 0 to 2, is an operation with two operands that it may name.
+fn operation_fits(rule: &[u8], k: usize, form: usize, left: usize, right: usize) -> bool
+    requires { ⌜ Whole (now rule) ⌝ }
+    requires { ⌜ k < nodeCount (now rule) ⌝ }
+    ensures { λ r. ⌜ r ≡ (leb form 7 && operandFits (now (rule .entry)) k left && operandFits (now (rule .entry)) k right) ⌝ }
+{
+    if 7 < form {
+        return false;
+    }
+    if !operand_fits(rule, k, left) {
+        return false;
+    }
+    operand_fits(rule, k, right)
+}
+
+// Whether node k has a form, its used fields in range, and its unused fields zero.
+fn node_fits(rule: &[u8], k: usize) -> bool
+    requires { ⌜ Whole (now rule) ⌝ }
+    requires { ⌜ k < nodeCount (now rule) ⌝ }
+    ensures { λ r. ⌜ r ≡ nodeFits (now (rule .entry)) k ⌝ }
+{
+    let form = node_form(rule, k);
+    let left = node_byte(rule, k, 1);
+    let right = node_byte(rule, k, 2);
+    if node_byte(rule, k, 3) != 0 {
+        return false;
+    }
+    if form == 1 {
+        return operands_unused(left, right);
+    }
+    // Only a constant has a number.
+    if !number_unused(rule, k) {
+        return false;
+    }
+    if form == 0 {
+        return operands_unused(left, right);
+    }
+    if form == 2 {
+        return access_fits(rule, left, right);
+    }
+    operation_fits(rule, k, form, left, right)
+}
+
+// The lowest node with a fault, or the number of nodes.
+pub fn bad_node(rule: &[u8]) -> usize
+    requires { ⌜ Whole (now rule) ⌝ }
+    ensures { λ r. ⌜ r ≡ lowest (badNode (now (rule .entry))) (nodeCount (now (rule .entry))) ⌝ }
+{
+    let nodes = node_count(rule);
+    let mut k = 0;
+    while k < nodes {
+        if !node_fits(rule, k) {
+            return k;
+        }
+        k += 1;
+    }
+    nodes
+}
+
+// ---- uses
+
+fn greater(a: usize, b: usize) -> usize
+    ensures { λ r. ⌜ r ≡ max a b ⌝ }
+{
+    if a < b {
+        return b;
+    }
+    a
+}
+
+// The top of node k: one more than the highest source vertex that it accesses, itself or through the nodes that it names, or 0
+// where it accesses none. The tops of the earlier nodes are in `tops`.
+fn node_top(rule: &[u8], k: usize, tops: &[usize; NODE_LIMIT]) -> usize
+    requires { ⌜ Whole (now rule) ⌝ }
+    requires { ⌜ k < nodeCount (now rule) ⌝ }
+    requires { ⌜ nodeFits (now rule) k ≡ true ⌝ }
+    ensures { λ r. ⌜ r ≡ topFrom (now (rule .entry)) (now (tops .entry)) k ⌝ }
+{
+    let form = node_form(rule, k);
+    let left = node_byte(rule, k, 1);
+    let right = node_byte(rule, k, 2);
+    if form < 2 {
+        return 0;
+    }
+    if form == 2 {
+        return left + 1;
+    }
+    let first = tops[left];
+    let second = tops[right];
+    greater(first, second)
+}
+
+// The top of every node. Each is found once, from those of its operands: to follow the operands from each use anew could take a
+// time that doubles with every node.
+fn access_tops(rule: &[u8]) -> [usize; NODE_LIMIT]
+    requires { ⌜ Whole (now rule) ⌝ }
+    requires { ⌜ nodeCount (now rule) ≤ lowest (badNode (now rule)) (nodeCount (now rule)) ⌝ }
+    ensures { λ r. ⌜ ((k : ℕ) → getD r k 0 ≡ topAccess (expressionOf (now (rule .entry)) k)) ⌝ }
+{
+    let nodes = node_count(rule);
+    let mut tops = [0usize; NODE_LIMIT];
+    let mut k = 0;
+    while k < nodes {
+        let top = node_top(rule, k, &tops);
+        tops[k] = top;
+        k += 1;
+    }
+    tops
+}
+
+// Whether vertex v may use node k as an attribute.
+fn use_fits(rule: &[u8], tops: &[usize; NODE_LIMIT], v: usize, k: usize) -> bool
+    requires { ⌜ Whole (now rule) ⌝ }
+    requires { ⌜ ((n : ℕ) → getD (now tops) n 0 ≡ topAccess (expressionOf (now rule) n)) ⌝ }
+    ensures { λ r. ⌜ r ≡ useFits (now (rule .entry)) v k ⌝ }
+{
+    if node_count(rule) <= k {
+        return false;
+    }
+    if v < source_count(rule) {
+        return tops[k] <= v;
+    }
+    if node_form(rule, k) == 0 {
+        return false;
+    }
+    true
+}
+
+// Whether vertex v may use each node that is an attribute of it.
+fn vertex_uses_fit(rule: &[u8], tops: &[usize; NODE_LIMIT], v: usize) -> bool
+    requires { ⌜ Readable (now rule) ⌝ }
+    requires { ⌜ v < sourceCount (now rule) + targetCount (now rule) ⌝ }
+    requires { ⌜ ((n : ℕ) → getD (now tops) n 0 ≡ topAccess (expressionOf (now rule) n)) ⌝ }
+    ensures { λ r. ⌜ r ≡ not (badUse (now (rule .entry)) v) ⌝ }
+{
+    let at = RULE_HEADER_BYTES + PATTERN_BYTES * v;
+    let count = byte_at(rule, at + 3);
+    let mut i = 0;
+    while i < count {
+        let k = byte_at(rule, at + 10 + i);
+        if !use_fits(rule, tops, v, k) {
+            return false;
+        }
+        i += 1;
+    }
+    true
+}
+
+// The lowest vertex that uses a node wrongly, or the number of vertices.
+pub fn bad_use(rule: &[u8]) -> usize
+    requires { ⌜ Readable (now rule) ⌝ }
+    requires { ⌜ nodeCount (now rule) ≤ lowest (badNode (now rule)) (nodeCount (now rule)) ⌝ }
+    ensures { λ r. ⌜ r ≡ lowest (badUse (now (rule .entry))) (sourceCount (now (rule .entry)) + targetCount (now (rule .entry))) ⌝ }
+{
+    let vertices = source_count(rule) + target_count(rule);
+    let tops = access_tops(rule);
+    let mut v = 0;
+    while v < vertices {
+        if !vertex_uses_fit(rule, &tops, v) {
+            return v;
+        }
+        v += 1;
+    }
+    vertices
+}

@@ -1,0 +1,204 @@
+-- The vertices visited so far, as the counter has them: what one vertex more does to 0, 1, .. n - 1, and why a list that is out of
+-- order stays so. The traversal only appends.
+-- Assumes nothing.
+use mathlib.Core.Path.{_≡_, refl, sym, ap, _∙_}
+use mathlib.Core.Bool.{Bool, true, false, _||_, false≢true, or-true}
+use mathlib.Core.List.{List, [], _∷_, _++_, append-assoc, append-nil}
+use mathlib.Core.Logic.{⊎-elim}
+use Prim.Native.Nat.{ℕ, zero, suc, _+_, _<_, _≤_}
+use native.Mathlib.Numerals.{add-one}
+use native.Mathlib.Nat.{not-suc-le-zero, le-of-suc-le-suc}
+use native.Mathlib.Omega.{arith}
+use borrow.Author.Tests.{eq-eqb, ne-eqb, eqb-true, eqb-false, ltb-true, ltb-false}
+use lib.Dec.{eqb, ltb}
+use lib.ListN.{length, getD, drop, length-append, drop-of-length-le}
+use lib.Seq.{getD-at, drop-cons}
+use Rattle.definitions.specs.Lists.{tabulate, foldl, member, range}
+use Rattle.definitions.specs.Rule.{Rule, sourceCount, ruleOutputCount, ruleOf, sourceInputs, visit, traversal, inVisitingOrder}
+use Rattle.laws.proofs.Lists.{decided, true-not-false}
+use Rattle.laws.proofs.Ranges.{length-range, range-at, range-more, member-more, same-self, other-lists}
+use Rattle.laws.proofs.Rule.{length-source, length-source-outputs}
+use Rattle.rule_order.specs.Order.{OutOfOrder, Counts, Visits, VisitsInputs}
+
+-- ---- 0, 1, .. n - 1
+
+visited : (v n : ℕ) → v < n → member v (range 0 n) ≡ true
+visited v zero h = absurd (not-suc-le-zero h)
+visited v (suc n) h = ap (member v) (range-more n) ∙ member-more v n (range 0 n) ∙ ⊎-elim
+    (λ (t : ltb v n ≡ true). ap (λ (b : Bool). b || eqb v n) (visited v n (ltb-true v n t)))
+    (λ (t : ltb v n ≡ false). simp (eq-eqb v n (omega (arith, ltb-false v n t)), or-true))
+    (decided (ltb v n))
+
+unvisited : (v n : ℕ) → n ≤ v → member v (range 0 n) ≡ false
+unfolding range tabulate member
+unvisited v zero h = refl
+unvisited v (suc n) h = ap (member v) (range-more n) ∙ member-more v n (range 0 n)
+    ∙ simp (unvisited v n (omega arith), ne-eqb v n (omega arith))
+
+-- ---- lists that are out of order
+
+out-of-order-more : (done later : List ℕ) → OutOfOrder done → OutOfOrder (done ++ later)
+unfolding OutOfOrder
+out-of-order-more done later h rest n e = h (later ++ rest) n (sym (append-assoc done later rest) ∙ e)
+
+-- n vertices in order, and then another than n
+other-out-of-order : (n v : ℕ) → (v ≡ n → ⊥) → OutOfOrder (range 0 n ++ v ∷ [])
+unfolding OutOfOrder
+other-out-of-order n v h rest m e =
+    let whole : range 0 n ++ v ∷ rest ≡ range 0 m = sym (append-assoc (range 0 n) (v ∷ []) rest) ∙ e in
+    let longer : n < m = omega (arith, length-append (range 0 n) (v ∷ rest), ap length whole, length-range n, length-range m) in
+    h (sym (getD-at (range 0 n) v rest 0 n (length-range n)) ∙ ap (λ (l : List ℕ). getD l n 0) whole ∙ range-at m n 0 longer)
+
+foldl-keeps : (P : List ℕ → Type 0) (f : List ℕ → ℕ → List ℕ) → ((done : List ℕ) (v : ℕ) → P done → P (f done v))
+    → (vs done : List ℕ) → P done → P (foldl f done vs)
+unfolding foldl
+foldl-keeps P f keeps [] done h = h
+foldl-keeps P f keeps (v ∷ vs) done h = foldl-keeps P f keeps vs (f done v) (keeps done v h)
+
+module _ (r : Rule) where
+  visit-keeps : (d : ℕ) (done : List ℕ) (v : ℕ) → OutOfOrder done → OutOfOrder (visit r d done v)
+  unfolding visit
+  visit-keeps zero done v h = h
+  visit-keeps (suc d) done v h = ⊎-elim
+      (λ (t : member v done ≡ true). rw t h)
+      (λ (t : member v done ≡ false). rw t
+      (out-of-order-more (foldl (visit r d) done (sourceInputs r v)) (v ∷ []) (foldl-keeps OutOfOrder (visit r d) (visit-keeps d) (sourceInputs r v) done h)))
+      (decided (member v done))
+
+  -- ---- one vertex
+
+  passed : (d n v : ℕ) → v < n → visit r (suc d) (range 0 n) v ≡ range 0 n
+  unfolding visit
+  passed d n v h = rw (visited v n h)
+
+  entered : (d n v : ℕ) → n ≤ v → visit r (suc d) (range 0 n) v ≡ foldl (visit r d) (range 0 n) (sourceInputs r v) ++ v ∷ []
+  unfolding visit
+  entered d n v h = rw (unvisited v n h)
+
+  -- ---- a list of vertices, from place i on
+
+  module _ (d : ℕ) (vs : List ℕ) (i : ℕ) where
+    none-left : (done : List ℕ) → length vs ≤ i → foldl (visit r d) done (drop i vs) ≡ done
+    unfolding foldl
+    none-left done h = rw (drop-of-length-le vs h)
+
+    one-first : (done : List ℕ) (u : ℕ) → i < length vs → u ≡ getD vs i 255
+        → foldl (visit r d) done (drop i vs) ≡ foldl (visit r d) (visit r d done u) (drop (i + 1) vs)
+    unfolding foldl
+    one-first done u h e = rw (drop-cons vs i 255 h, ← e, add-one)
+
+    one-wrong : (n u : ℕ) → i < length vs → u ≡ getD vs i 255 → OutOfOrder (visit r d (range 0 n) u)
+        → OutOfOrder (foldl (visit r d) (range 0 n) (drop i vs))
+    one-wrong n u h e l = rw (one-first (range 0 n) u h e)
+        (foldl-keeps OutOfOrder (visit r d) (visit-keeps d) (drop (i + 1) vs) (visit r d (range 0 n) u) l)
+
+-- ---- what the code's functions give
+
+right-count : {done : List ℕ} {next : ℕ} → done ≡ range 0 next → Counts done true next
+right-count e = record { right = λ t. e; wrong = λ f. absurd (false≢true (sym f)) }
+
+wrong-count : {done : List ℕ} {ok : Bool} {next : ℕ} → ok ≡ false → OutOfOrder done → Counts done ok next
+wrong-count f h = record { right = λ t. absurd (true-not-false t f); wrong = λ z. h }
+
+module _ (block : List ℕ) (v next : ℕ) (fits : next ≤ sourceCount block) where
+  -- a depth above v is one more than another
+  above : {ok : Bool} {after : ℕ} → ((d : ℕ) → v ≤ d → Counts (visit (ruleOf block) (suc d) (range 0 next) v) ok after)
+      → (d : ℕ) → v < d → Counts (visit (ruleOf block) d (range 0 next) v) ok after
+  above h zero l = absurd (not-suc-le-zero l)
+  above h (suc d) l = h d (le-of-suc-le-suc l)
+
+  pub visited-before : v < next → Visits block v next true next
+  visited-before h = record { counts = above (λ d l. right-count (passed (ruleOf block) d next v h)); small = fits }
+
+  module _ (fresh : next ≤ v) where
+    pub inputs-wrong : {ok : Bool} {after : ℕ} → VisitsInputs block v 0 next ok after → ok ≡ false → Visits block v next ok after
+    inputs-wrong i f = record {
+      counts = above (λ d l. wrong-count f (rw (entered (ruleOf block) d next v fresh)
+          (out-of-order-more (foldl (visit (ruleOf block) d) (range 0 next) (sourceInputs (ruleOf block) v)) (v ∷ []) (i .counts d l .wrong f))));
+      small = i .small;
+    }
+
+    pub not-next : {ok : Bool} {after : ℕ} → VisitsInputs block v 0 next ok after → ok ≡ true → (v ≡ after → ⊥)
+        → Visits block v next false next
+    not-next {after = after} i t h = record {
+      counts = above (λ d l. wrong-count refl (rw (entered (ruleOf block) d next v fresh, i .counts d l .right t) (other-out-of-order after v h)));
+      small = fits;
+    }
+
+    pub is-next : {ok : Bool} {after : ℕ} → VisitsInputs block v 0 next ok after → ok ≡ true → v ≡ after → v < sourceCount block
+        → Visits block v next true (after + 1)
+    is-next {after = after} i t e b = record {
+      counts = above (λ d l. right-count (entered (ruleOf block) d next v fresh ∙ rw (i .counts d l .right t, e, add-one) (sym (range-more after))));
+      small = omega arith;
+    }
+
+module _ (block : List ℕ) (v i next : ℕ) where
+  pub inputs-done : length (sourceInputs (ruleOf block) v) ≤ i → next ≤ sourceCount block → VisitsInputs block v i next true next
+  inputs-done h b = record {
+    counts = λ d l. right-count (none-left (ruleOf block) d (sourceInputs (ruleOf block) v) i (range 0 next) h);
+    small = b;
+  }
+
+  module _ (u : ℕ) (h : i < length (sourceInputs (ruleOf block) v)) (e : u ≡ getD (sourceInputs (ruleOf block) v) i 255) (lower : u < v) where
+    pub input-wrong : {ok : Bool} {after : ℕ} → Visits block u next ok after → ok ≡ false → VisitsInputs block v i next ok after
+    input-wrong one f = record {
+      counts = λ d l. wrong-count f (one-wrong (ruleOf block) d (sourceInputs (ruleOf block) v) i next u h e (one .counts d (omega arith) .wrong f));
+      small = one .small;
+    }
+
+    pub input-passed : {passed ok : Bool} {mid after : ℕ} → Visits block u next passed mid → passed ≡ true
+        → VisitsInputs block v (i + 1) mid ok after → VisitsInputs block v i next ok after
+    input-passed one t rest = record {
+      counts = λ d l. rw (one-first (ruleOf block) d (sourceInputs (ruleOf block) v) i (range 0 next) u h e, one .counts d (omega arith) .right t)
+          (rest .counts d l);
+      small = rest .small;
+    }
+
+-- ---- the whole traversal
+
+module _ (r : Rule) where
+  order-wrong : OutOfOrder (traversal r) → inVisitingOrder r ≡ false
+  unfolding OutOfOrder inVisitingOrder
+  order-wrong h = other-lists (traversal r) (range 0 (length (r .source)))
+      (λ e. h [] (length (r .source)) (append-nil (traversal r) ∙ e))
+
+  order-counted : (next : ℕ) → traversal r ≡ range 0 next → inVisitingOrder r ≡ eqb next (length (r .source))
+  unfolding inVisitingOrder
+  order-counted next e = rw e (⊎-elim
+      (λ (t : eqb next (length (r .source)) ≡ true). rw (t, ← eqb-true next (length (r .source)) t) (same-self (range 0 next)))
+      (λ (t : eqb next (length (r .source)) ≡ false). rw t (other-lists (range 0 next) (range 0 (length (r .source)))
+      (λ q. eqb-false next (length (r .source)) t (sym (length-range next) ∙ ap length q ∙ length-range (length (r .source))))))
+      (decided (eqb next (length (r .source)))))
+
+-- where i outputs are visited and no vertex is out of order, the other outputs complete the traversal
+abbrev pub Continues : List ℕ → ℕ → ℕ → Type 0
+Continues block i next =
+    foldl (visit (ruleOf block) (sourceCount block)) (range 0 next) (drop i (ruleOf block .sourceOutputs)) ≡ traversal (ruleOf block)
+
+pub outputs-begin : (block : List ℕ) → Continues block 0 0
+unfolding traversal range tabulate
+outputs-begin block = rw (length-source block)
+
+pub outputs-done : (block : List ℕ) (i next : ℕ) → Continues block i next → ruleOutputCount block ≤ i
+    → eqb next (sourceCount block) ≡ inVisitingOrder (ruleOf block)
+outputs-done block i next more h =
+    let all : length (ruleOf block .sourceOutputs) ≤ i = rw (length-source-outputs block) h in
+    let counted : traversal (ruleOf block) ≡ range 0 next =
+    sym more ∙ none-left (ruleOf block) (sourceCount block) (ruleOf block .sourceOutputs) i (range 0 next) all in
+    rw (← length-source block) (sym (order-counted (ruleOf block) next counted))
+
+module _ (block : List ℕ) (i next u : ℕ) (more : Continues block i next) (h : i < ruleOutputCount block)
+    (e : u ≡ getD (ruleOf block .sourceOutputs) i 255) (inside : u < sourceCount block) where
+  within : i < length (ruleOf block .sourceOutputs)
+  within = rw (length-source-outputs block) h
+
+  pub output-wrong : {ok : Bool} {after : ℕ} → Visits block u next ok after → ok ≡ false → false ≡ inVisitingOrder (ruleOf block)
+  output-wrong one f = sym (order-wrong (ruleOf block) (rw (← more)
+      (one-wrong (ruleOf block) (sourceCount block) (ruleOf block .sourceOutputs) i next u within e (one .counts (sourceCount block) inside .wrong f))))
+
+  pub output-passed : {ok : Bool} {after : ℕ} → Visits block u next ok after → ok ≡ true → Continues block (i + 1) after
+  output-passed one t =
+      rw (
+        ← one .counts (sourceCount block) inside .right t,
+        ← one-first (ruleOf block) (sourceCount block) (ruleOf block .sourceOutputs) i (range 0 next) u within e,
+      ) more

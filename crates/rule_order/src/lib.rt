@@ -1,0 +1,84 @@
+// Whether a rule's source vertices stand in visiting order: a vertex's inputs before the vertex, left to right, each vertex once,
+// from the listed outputs. As long as the order is right, the vertices visited so far are 0, 1, .. next - 1 in this order, so the
+// search keeps next alone, and enters each vertex at most once.
+use rule_fields::output_count;
+use rule_fields::source_count;
+use rule_fields::source_input;
+use rule_fields::source_input_count;
+use rule_fields::source_output;
+ghost use mathlib.Core.Path.{_≡_};
+ghost use Prim.Native.Nat.{_<_, _≤_};
+ghost use lib.ListN.{length};
+ghost use Rattle.definitions.specs.Rule.{sourceCount, ruleOf, sourceInputs, inVisitingOrder};
+ghost use Rattle.rule_fields.specs.Readable.{Readable, Layered};
+ghost use Rattle.rule_order.specs.Order.{Visits, VisitsInputs};
+
+// Whether the order is right so far, and how many vertices are visited where it is. Once it is wrong it stays wrong: a visit only
+// adds vertices after those that are visited.
+struct Visited {
+    ok: bool,
+    next: usize,
+}
+
+// Visits v, its inputs first, where next vertices are visited already.
+fn visit(rule: &[u8], v: usize, next: usize) -> Visited
+    requires { ⌜ Readable (now rule) ⌝ }
+    requires { ⌜ Layered (now rule) ⌝ }
+    requires { ⌜ v < sourceCount (now rule) ⌝ }
+    requires { ⌜ next ≤ sourceCount (now rule) ⌝ }
+    ensures { λ r. ⌜ Visits (now (rule .entry)) v next (r .ok) (r .next) ⌝ }
+{
+    if v < next {
+        return Visited { ok: true, next };
+    }
+    let inputs = visit_inputs(rule, v, 0, next);
+    if !inputs.ok {
+        return inputs;
+    }
+    if v != inputs.next {
+        return Visited { ok: false, next };
+    }
+    Visited {
+        ok: true,
+        next: inputs.next + 1,
+    }
+}
+
+// Visits the inputs of v from place i on.
+fn visit_inputs(rule: &[u8], v: usize, i: usize, next: usize) -> Visited
+    requires { ⌜ Readable (now rule) ⌝ }
+    requires { ⌜ Layered (now rule) ⌝ }
+    requires { ⌜ v < sourceCount (now rule) ⌝ }
+    requires { ⌜ i ≤ length (sourceInputs (ruleOf (now rule)) v) ⌝ }
+    requires { ⌜ next ≤ sourceCount (now rule) ⌝ }
+    ensures { λ r. ⌜ VisitsInputs (now (rule .entry)) v i next (r .ok) (r .next) ⌝ }
+{
+    if i == source_input_count(rule, v) {
+        return Visited { ok: true, next };
+    }
+    let input = visit(rule, source_input(rule, v, i), next);
+    if !input.ok {
+        return input;
+    }
+    visit_inputs(rule, v, i + 1, input.next)
+}
+
+// Whether the traversal from the outputs gives the source vertices in their order, each of them.
+pub fn in_visiting_order(rule: &[u8]) -> bool
+    requires { ⌜ Readable (now rule) ⌝ }
+    requires { ⌜ Layered (now rule) ⌝ }
+    ensures { λ r. ⌜ r ≡ inVisitingOrder (ruleOf (now (rule .entry))) ⌝ }
+{
+    let outputs = output_count(rule);
+    let mut next = 0;
+    let mut i = 0;
+    while i < outputs {
+        let output = visit(rule, source_output(rule, i), next);
+        if !output.ok {
+            return false;
+        }
+        next = output.next;
+        i += 1;
+    }
+    next == source_count(rule)
+}

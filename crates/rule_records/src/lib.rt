@@ -1,0 +1,222 @@
+// The first two kinds of fault of a rule block: its length and header, and the records of its vertices
+// with their input places.
+use definitions::NODE_BYTES;
+use definitions::NODE_LIMIT;
+use definitions::PATTERN_BYTES;
+use definitions::RULE_HEADER_BYTES;
+use definitions::RULE_LETTER;
+use definitions::RULE_OUTPUT_LIMIT;
+use definitions::RULE_VERSION;
+use definitions::SIDE_LIMIT;
+use fields::byte_at;
+use fields::has_mark;
+use fields::is_filled;
+use fields::u16_at;
+use operators::shape_fits;
+use rule_fields::is_rule_input;
+use rule_fields::node_count;
+use rule_fields::output_count;
+use rule_fields::source_count;
+use rule_fields::target_count;
+ghost use mathlib.Core.Path.{_≡_};
+ghost use mathlib.Core.Bool.{not};
+ghost use Prim.Native.Nat.{_+_, _<_, _≤_};
+ghost use lib.Dec.{eqb};
+ghost use lib.ListN.{length};
+ghost use Rattle.definitions.specs.Lists.{lowest};
+ghost use Rattle.definitions.specs.Fields.{byteAt};
+ghost use Rattle.definitions.specs.Graph.{inputLimit};
+ghost use Rattle.definitions.specs.Rule.{ruleHeaderBytes, patternBytes, ruleOutputLimit, sourceCount, targetCount, ruleOutputCount, nodeCount, vertexAt, nodeAt, originOf, ruleOf, ruleSizesFit, ruleOutputPlacesFit, ruleHeaderFits, patternFits, originFits, sourceInputsFit, targetInputsFit, badVertex};
+ghost use Rattle.rule_fields.specs.Readable.{Whole};
+
+// Whether the header's four counts are in range.
+fn sizes_fit(rule: &[u8]) -> bool
+    requires { ⌜ ruleHeaderBytes ≤ length (now rule) ⌝ }
+    ensures { λ r. ⌜ r ≡ ruleSizesFit (now (rule .entry)) ⌝ }
+{
+    let source = source_count(rule);
+    let outputs = output_count(rule);
+    if source < 1 {
+        return false;
+    }
+    if SIDE_LIMIT < source {
+        return false;
+    }
+    if SIDE_LIMIT < target_count(rule) {
+        return false;
+    }
+    if outputs < 1 {
+        return false;
+    }
+    if RULE_OUTPUT_LIMIT < outputs {
+        return false;
+    }
+    if NODE_LIMIT < node_count(rule) {
+        return false;
+    }
+    true
+}
+
+// Whether the source outputs name source vertices, and the unused output places hold 255.
+fn output_places_fit(rule: &[u8]) -> bool
+    requires { ⌜ ruleHeaderBytes ≤ length (now rule) ⌝ }
+    requires { ⌜ ruleOutputCount (now rule) ≤ ruleOutputLimit ⌝ }
+    ensures { λ r. ⌜ r ≡ ruleOutputPlacesFit (now (rule .entry)) ⌝ }
+{
+    let source = source_count(rule);
+    let outputs = output_count(rule);
+    let mut i = 0;
+    while i < outputs {
+        if source <= byte_at(rule, 10 + i) {
+            return false;
+        }
+        i += 1;
+    }
+    if !is_filled(rule, 10 + outputs, 12, 255) {
+        return false;
+    }
+    is_filled(rule, 12 + outputs, 14, 255)
+}
+
+// Whether the length is the one that the header's counts give.
+fn length_fits(rule: &[u8]) -> bool
+    requires { ⌜ ruleHeaderBytes ≤ length (now rule) ⌝ }
+    ensures { λ r. ⌜ r ≡ eqb (length (now (rule .entry))) (nodeAt (now (rule .entry)) (nodeCount (now (rule .entry)))) ⌝ }
+{
+    let vertices = source_count(rule) + target_count(rule);
+    let nodes = node_count(rule);
+    rule.len() == RULE_HEADER_BYTES + PATTERN_BYTES * vertices + NODE_BYTES * nodes
+}
+
+// Whether the length and the header are right.
+pub fn header_fits(rule: &[u8]) -> bool
+    ensures { λ r. ⌜ r ≡ ruleHeaderFits (now (rule .entry)) ⌝ }
+{
+    if rule.len() < RULE_HEADER_BYTES {
+        return false;
+    }
+    if !length_fits(rule) {
+        return false;
+    }
+    if !has_mark(rule, RULE_LETTER) {
+        return false;
+    }
+    if u16_at(rule, 4) != RULE_VERSION {
+        return false;
+    }
+    if !sizes_fit(rule) {
+        return false;
+    }
+    if !output_places_fit(rule) {
+        return false;
+    }
+    is_filled(rule, 14, RULE_HEADER_BYTES, 0)
+}
+
+// Whether the record at `at` follows the tables, and its unused places hold 255.
+fn pattern_fits(rule: &[u8], at: usize) -> bool
+    requires { ⌜ at + patternBytes ≤ length (now rule) ⌝ }
+    ensures { λ r. ⌜ r ≡ patternFits (now (rule .entry)) at ⌝ }
+{
+    let kind = byte_at(rule, at);
+    let operator = byte_at(rule, at + 1);
+    let inputs = byte_at(rule, at + 2);
+    let attributes = byte_at(rule, at + 3);
+    if !shape_fits(kind, operator, inputs, attributes) {
+        return false;
+    }
+    if !is_filled(rule, at + 4 + inputs, at + 10, 255) {
+        return false;
+    }
+    is_filled(rule, at + 10 + attributes, at + 16, 255)
+}
+
+// Whether every input of source vertex j names a lower vertex.
+fn source_inputs_fit(rule: &[u8], j: usize) -> bool
+    requires { ⌜ Whole (now rule) ⌝ }
+    requires { ⌜ j < sourceCount (now rule) ⌝ }
+    requires { ⌜ byteAt (now rule) (vertexAt j + 2) ≤ inputLimit ⌝ }
+    ensures { λ r. ⌜ r ≡ sourceInputsFit (ruleOf (now (rule .entry))) j ⌝ }
+{
+    let at = RULE_HEADER_BYTES + PATTERN_BYTES * j;
+    let inputs = byte_at(rule, at + 2);
+    let mut i = 0;
+    while i < inputs {
+        if j <= byte_at(rule, at + 4 + i) {
+            return false;
+        }
+        i += 1;
+    }
+    true
+}
+
+// Whether the place number p of the target names a rule input, or a target vertex below t.
+pub fn origin_fits(rule: &[u8], t: usize, p: usize) -> bool
+    requires { ⌜ Whole (now rule) ⌝ }
+    ensures { λ r. ⌜ r ≡ originFits (ruleOf (now (rule .entry))) t (originOf p) ⌝ }
+{
+    if p < SIDE_LIMIT {
+        return is_rule_input(rule, p);
+    }
+    p - SIDE_LIMIT < t
+}
+
+// Whether target vertex t is of a target's kind, and its inputs name rule inputs and earlier target
+// vertices.
+fn target_inputs_fit(rule: &[u8], t: usize) -> bool
+    requires { ⌜ Whole (now rule) ⌝ }
+    requires { ⌜ t < targetCount (now rule) ⌝ }
+    requires { ⌜ byteAt (now rule) (vertexAt (sourceCount (now rule) + t) + 2) ≤ inputLimit ⌝ }
+    ensures { λ r. ⌜ r ≡ targetInputsFit (ruleOf (now (rule .entry))) t ⌝ }
+{
+    let v = source_count(rule) + t;
+    let at = RULE_HEADER_BYTES + PATTERN_BYTES * v;
+    let kind = byte_at(rule, at);
+    if kind == 0 {
+        return false;
+    }
+    if kind == 2 {
+        return false;
+    }
+    let inputs = byte_at(rule, at + 2);
+    let mut i = 0;
+    while i < inputs {
+        if !origin_fits(rule, t, byte_at(rule, at + 4 + i)) {
+            return false;
+        }
+        i += 1;
+    }
+    true
+}
+
+// Whether vertex v, a source or a target one, has a good record and good input places.
+fn vertex_fits(rule: &[u8], v: usize) -> bool
+    requires { ⌜ Whole (now rule) ⌝ }
+    requires { ⌜ v < sourceCount (now rule) + targetCount (now rule) ⌝ }
+    ensures { λ r. ⌜ r ≡ not (badVertex (now (rule .entry)) v) ⌝ }
+{
+    if !pattern_fits(rule, RULE_HEADER_BYTES + PATTERN_BYTES * v) {
+        return false;
+    }
+    let source = source_count(rule);
+    if v < source {
+        return source_inputs_fit(rule, v);
+    }
+    target_inputs_fit(rule, v - source)
+}
+
+// The lowest vertex with a bad record or a bad input place, or the number of vertices.
+pub fn bad_vertex(rule: &[u8]) -> usize
+    requires { ⌜ Whole (now rule) ⌝ }
+    ensures { λ r. ⌜ r ≡ lowest (badVertex (now (rule .entry))) (sourceCount (now (rule .entry)) + targetCount (now (rule .entry))) ⌝ }
+{
+    let vertices = source_count(rule) + target_count(rule);
+    let mut v = 0;
+    while v < vertices {
+        if !vertex_fits(rule, v) {
+            return v;
+        }
+        v += 1;
+    }
+    vertices
+}
