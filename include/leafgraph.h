@@ -1,0 +1,86 @@
+/* leafgraph: checks and rewrites the operator graphs of an image pipeline.
+ *
+ * What holds for every function here:
+ *
+ * - Any bytes of any length are answered. A bad block is refused by number;
+ *   the caller need not have checked anything before.
+ * - Each pointer must be valid for the length given with it. A length of 0
+ *   still wants a pointer that is not null. No alignment is needed.
+ * - Buffers given to one call must not overlap.
+ * - After a refusal every lent byte is as it came.
+ * - There is no state: calls may be made from any number of threads at once,
+ *   as long as no buffer is written by one call while another one uses it.
+ * - No memory is allocated, and a call uses at most 64 KiB of stack.
+ * - Numbers in the blocks are little-endian on every machine.
+ */
+#ifndef LEAFGRAPH_H
+#define LEAFGRAPH_H
+
+#include <stddef.h>
+#include <stdint.h>
+
+#ifdef __cplusplus
+extern "C" {
+#endif
+
+/* Reply numbers. Tested in this order, the lowest that applies is given. */
+enum {
+    LG_DONE = 0,           /* done */
+    LG_BAD_MAP_LENGTH = 1, /* the map buffer is not 32 bytes */
+    LG_BAD_GRAPH = 2,      /* bad graph block */
+    LG_BAD_RULE = 3,       /* bad rule block */
+    LG_NO_MATCH = 4,       /* no match from the start number on */
+    LG_NO_RESULT = 5,      /* a target attribute has no result, or a
+                              projection's index is below 1 */
+    LG_NO_ROOM = 6,        /* more target vertices than Empty and freed slots */
+    LG_CYCLE = 7           /* the table so made would have a cycle */
+};
+
+/* The number of a reply: bits 0 to 7. Compare this, and not the whole reply,
+ * with the constants above. */
+static inline unsigned lg_reply_number(uint64_t reply) {
+    return (unsigned)(reply & 0xff);
+}
+
+/* The place that a refusal names: bits 8 to 39. Zero for now. Bits 40 to 63
+ * are zero for now, too. */
+static inline uint32_t lg_reply_place(uint64_t reply) {
+    return (uint32_t)((reply >> 8) & 0xffffffff);
+}
+
+/* Checks a graph block.
+ *
+ * Reads:   graph_len bytes at graph.
+ * Writes:  nothing.
+ * Replies: LG_DONE if the bytes are a sound graph block, else LG_BAD_GRAPH.
+ */
+uint64_t lg_check_graph(const uint8_t *graph, size_t graph_len);
+
+/* Checks a rule block.
+ *
+ * Reads:   rule_len bytes at rule.
+ * Writes:  nothing.
+ * Replies: LG_DONE if the bytes are a sound rule block, else LG_BAD_RULE.
+ */
+uint64_t lg_check_rule(const uint8_t *rule, size_t rule_len);
+
+/* Finding a match and rewriting follow in later deliveries, with exactly
+ * these prototypes. They are not declared before they exist, so that a call
+ * to them is found by the compiler and not by the linker.
+ *
+ * uint64_t lg_find_match(const uint8_t *graph, size_t graph_len,
+ *                        const uint8_t *rule, size_t rule_len,
+ *                        size_t start,
+ *                        uint8_t *map, size_t map_len);
+ *
+ * uint64_t lg_rewrite(uint8_t *graph, size_t graph_len,
+ *                     const uint8_t *rule, size_t rule_len,
+ *                     size_t start,
+ *                     uint8_t *map, size_t map_len);
+ */
+
+#ifdef __cplusplus
+}
+#endif
+
+#endif /* LEAFGRAPH_H */
