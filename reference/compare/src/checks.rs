@@ -1,0 +1,73 @@
+//! The two checks on random blocks.
+
+use leafgraph_reference::generate::{
+    damaged_graph, damaged_rule, noise, noise_with_graph_header, noise_with_rule_header,
+    sound_graph, sound_rule,
+};
+use leafgraph_reference::random::Random;
+
+use crate::lent::Lent;
+use crate::library;
+use crate::tally::{Call, Tally};
+
+/// One of the checks in both programs, with the blocks to try it on.
+struct Check {
+    name: &'static str,
+    proved: fn(&[u8]) -> u64,
+    reference: fn(&[u8]) -> u64,
+    with_header: fn(&mut Random) -> Vec<u8>,
+    sound: fn(&mut Random) -> Vec<u8>,
+    damaged: fn(&mut Random) -> Vec<u8>,
+}
+
+const GRAPH: Check = Check {
+    name: "check graph",
+    proved: library::check_graph,
+    reference: leafgraph_reference::check_graph,
+    with_header: noise_with_graph_header,
+    sound: |random| sound_graph(random).block(),
+    damaged: damaged_graph,
+};
+
+const RULE: Check = Check {
+    name: "check rule",
+    proved: library::check_rule,
+    reference: leafgraph_reference::check_rule,
+    with_header: noise_with_rule_header,
+    sound: |random| sound_rule(random).block(),
+    damaged: damaged_rule,
+};
+
+/// So many calls, half of them to each check.
+pub fn run(random: &mut Random, calls: u64) -> Vec<Tally> {
+    let mut tallies = [GRAPH, RULE].map(|check| (Tally::new(check.name), check));
+    for call in 0..calls {
+        let (tally, check) = &mut tallies[(call % 2) as usize];
+        check.call(random, tally);
+    }
+    tallies.map(|(tally, _)| tally).into()
+}
+
+impl Check {
+    fn call(&self, random: &mut Random, tally: &mut Tally) {
+        let (origin, block) = self.block(random);
+        let lent = Lent::new(random, &block);
+        let proved = (self.proved)(lent.block());
+        tally.record(Call {
+            origin,
+            proved,
+            reference: (self.reference)(&block),
+            changed: !lent.is_as_lent(&block),
+            lent: &[("block", &block)],
+        });
+    }
+
+    fn block(&self, random: &mut Random) -> (&'static str, Vec<u8>) {
+        match random.below(20) {
+            0 => ("random bytes", noise(random)),
+            1 => ("sound header only", (self.with_header)(random)),
+            2..=7 => ("sound block", (self.sound)(random)),
+            _ => ("damaged block", (self.damaged)(random)),
+        }
+    }
+}

@@ -1,0 +1,135 @@
+//! What was seen of one operation, and the verdict on it.
+
+use std::collections::BTreeMap;
+use std::fmt::Write;
+
+/// The least share of calls, in percent, that must be done: a comparison that
+/// only sees refusals shows nothing.
+const LEAST_DONE: u64 = 15;
+
+/// The first call on which the two programs differ.
+struct Difference {
+    call: u64,
+    origin: &'static str,
+    proved: u64,
+    reference: u64,
+    changed: bool,
+    lent: Vec<(&'static str, Vec<u8>)>,
+}
+
+/// One call and what came of it.
+pub struct Call<'a> {
+    pub origin: &'static str,
+    pub proved: u64,
+    pub reference: u64,
+    /// Whether lent bytes are not what they should be.
+    pub changed: bool,
+    pub lent: &'a [(&'static str, &'a [u8])],
+}
+
+#[derive(Default)]
+struct Side {
+    calls: u64,
+    done: u64,
+}
+
+pub struct Tally {
+    name: &'static str,
+    calls: u64,
+    differences: u64,
+    first: Option<Difference>,
+    proved: BTreeMap<u64, u64>,
+    reference: BTreeMap<u64, u64>,
+    origins: BTreeMap<&'static str, Side>,
+}
+
+impl Tally {
+    pub fn new(name: &'static str) -> Tally {
+        Tally {
+            name,
+            calls: 0,
+            differences: 0,
+            first: None,
+            proved: BTreeMap::new(),
+            reference: BTreeMap::new(),
+            origins: BTreeMap::new(),
+        }
+    }
+
+    pub fn record(&mut self, call: Call) {
+        self.calls += 1;
+        *self.proved.entry(call.proved).or_default() += 1;
+        *self.reference.entry(call.reference).or_default() += 1;
+        let origin = self.origins.entry(call.origin).or_default();
+        origin.calls += 1;
+        origin.done += u64::from(call.reference == 0);
+        if call.proved == call.reference && !call.changed {
+            return;
+        }
+        self.differences += 1;
+        if self.first.is_none() {
+            let lent = call.lent.iter().map(|&(name, bytes)| (name, bytes.to_vec()));
+            self.first = Some(Difference {
+                call: self.calls,
+                origin: call.origin,
+                proved: call.proved,
+                reference: call.reference,
+                changed: call.changed,
+                lent: lent.collect(),
+            });
+        }
+    }
+
+    fn done(&self) -> u64 {
+        self.reference.get(&0).copied().unwrap_or(0)
+    }
+
+    fn has_enough_done(&self) -> bool {
+        self.done() * 100 >= self.calls * LEAST_DONE
+    }
+
+    pub fn passes(&self) -> bool {
+        self.differences == 0 && self.has_enough_done()
+    }
+
+    /// The summary, the first difference included.
+    pub fn report(&self) -> String {
+        let mut text = format!("{}: {} calls\n", self.name, self.calls);
+        for (side, replies) in [("proved", &self.proved), ("reference", &self.reference)] {
+            let counts: Vec<String> =
+                replies.iter().map(|(reply, count)| format!("{reply}: {count}")).collect();
+            writeln!(text, "  replies, {side:9}  {}", counts.join(", ")).expect("text");
+        }
+        for (origin, side) in &self.origins {
+            let (calls, done) = (side.calls, side.done);
+            writeln!(text, "  {origin}: {calls} calls, {done} done").expect("text");
+        }
+        if !self.has_enough_done() {
+            let done = self.done();
+            writeln!(text, "  only {done} calls are done, under {LEAST_DONE} %").expect("text");
+        }
+        writeln!(text, "  differences: {}", self.differences).expect("text");
+        if let Some(first) = &self.first {
+            first.describe(&mut text);
+        }
+        text
+    }
+}
+
+impl Difference {
+    fn describe(&self, text: &mut String) {
+        writeln!(text, "  first difference: call {}, {}", self.call, self.origin).expect("text");
+        writeln!(text, "  proved replies {}, reference {}", self.proved, self.reference)
+            .expect("text");
+        if self.changed {
+            text.push_str("  lent bytes are not what they should be after the call\n");
+        }
+        for (name, bytes) in &self.lent {
+            writeln!(text, "  {name}, {} bytes:", bytes.len()).expect("text");
+            for (line, row) in bytes.chunks(16).enumerate() {
+                let row: Vec<String> = row.iter().map(|byte| format!("{byte:02x}")).collect();
+                writeln!(text, "    {:5}  {}", 16 * line, row.join(" ")).expect("text");
+            }
+        }
+    }
+}

@@ -1,0 +1,244 @@
+//! Builders of graph and rule blocks, for tests, examples and the comparison.
+//!
+//! They write what they are told, sound or not: counts follow from the lists
+//! given, unused places and zero bytes are filled in as document 01 says, and
+//! nothing is judged.
+
+use crate::fields::put_i32;
+use crate::fields::put_u16;
+use crate::graph::{self, write_record, OUTPUT_PLACES};
+use crate::operators::{
+    ADD, CALL, CONST, CONV2D, EMPTY, PROJ, RELU, SUB, TUPLE, VARIABLE, WILDCARD,
+};
+use crate::rule::{self, Node, ACCESS, ANY, CONSTANT, TARGET_BASE};
+
+/// One slot of a graph.
+#[derive(Clone, Debug, PartialEq, Eq)]
+pub struct Vertex {
+    pub kind: u8,
+    pub operator: u8,
+    pub inputs: Vec<u16>,
+    pub attributes: Vec<i32>,
+}
+
+/// A graph before it is written as bytes.
+#[derive(Clone, Debug, PartialEq, Eq)]
+pub struct GraphParts {
+    pub slots: Vec<Vertex>,
+    pub outputs: Vec<u16>,
+}
+
+fn vertex(kind: u8, operator: u8, inputs: &[u16], attributes: &[i32]) -> Vertex {
+    Vertex { kind, operator, inputs: inputs.to_vec(), attributes: attributes.to_vec() }
+}
+
+pub fn empty() -> Vertex {
+    vertex(EMPTY, 0, &[], &[])
+}
+
+pub fn constant(number: i32) -> Vertex {
+    vertex(CONST, 0, &[], &[number])
+}
+
+/// A Variable with the attributes {1 3 8 8 1}.
+pub fn variable() -> Vertex {
+    vertex(VARIABLE, 0, &[], &[1, 3, 8, 8, 1])
+}
+
+pub fn variable_of(attributes: [i32; 5]) -> Vertex {
+    vertex(VARIABLE, 0, &[], &attributes)
+}
+
+pub fn call(operator: u8, inputs: &[u16], attributes: &[i32]) -> Vertex {
+    vertex(CALL, operator, inputs, attributes)
+}
+
+pub fn relu(input: u16) -> Vertex {
+    call(RELU, &[input], &[])
+}
+
+pub fn add(left: u16, right: u16) -> Vertex {
+    call(ADD, &[left, right], &[])
+}
+
+pub fn tuple(inputs: &[u16]) -> Vertex {
+    vertex(TUPLE, 0, inputs, &[])
+}
+
+pub fn projection(input: u16, index: i32) -> Vertex {
+    vertex(PROJ, 0, &[input], &[index])
+}
+
+impl GraphParts {
+    pub fn new(slots: Vec<Vertex>, outputs: &[u16]) -> GraphParts {
+        GraphParts { slots, outputs: outputs.to_vec() }
+    }
+
+    /// The block. At most four outputs, six inputs and six attributes.
+    pub fn block(&self) -> Vec<u8> {
+        let mut bytes = vec![0; graph::HEADER + graph::RECORD * self.slots.len()];
+        bytes[..3].copy_from_slice(b"LGT");
+        put_u16(&mut bytes, 4, 1);
+        put_u16(&mut bytes, 6, self.slots.len() as u16);
+        put_u16(&mut bytes, 8, self.outputs.len() as u16);
+        for place in 0..OUTPUT_PLACES {
+            let output = self.outputs.get(place).copied().unwrap_or(graph::UNUSED);
+            put_u16(&mut bytes, 10 + 2 * place, output);
+        }
+        let records = bytes[graph::HEADER..].chunks_exact_mut(graph::RECORD);
+        for (record, vertex) in records.zip(&self.slots) {
+            let (inputs, attributes) = (&vertex.inputs, &vertex.attributes);
+            let counts = [inputs.len() as u8, attributes.len() as u8];
+            let head = [vertex.kind, vertex.operator, counts[0], counts[1]];
+            write_record(record, head, inputs, attributes);
+        }
+        bytes
+    }
+}
+
+/// One pattern of a rule. Attributes are numbers of nodes.
+#[derive(Clone, Debug, PartialEq, Eq)]
+pub struct PatternParts {
+    pub kind: u8,
+    pub operator: u8,
+    pub inputs: Vec<u8>,
+    pub attributes: Vec<u8>,
+}
+
+/// A rule before it is written as bytes.
+#[derive(Clone, Debug, PartialEq, Eq)]
+pub struct RuleParts {
+    pub source: Vec<PatternParts>,
+    pub target: Vec<PatternParts>,
+    pub source_outputs: Vec<u8>,
+    pub target_outputs: Vec<u8>,
+    pub nodes: Vec<Node>,
+}
+
+pub fn pattern(kind: u8, operator: u8, inputs: &[u8], attributes: &[u8]) -> PatternParts {
+    PatternParts { kind, operator, inputs: inputs.to_vec(), attributes: attributes.to_vec() }
+}
+
+pub fn wildcard() -> PatternParts {
+    pattern(WILDCARD, 0, &[], &[])
+}
+
+pub fn call_pattern(operator: u8, inputs: &[u8], attributes: &[u8]) -> PatternParts {
+    pattern(CALL, operator, inputs, attributes)
+}
+
+/// The place of target vertex t.
+pub fn target_place(vertex: u8) -> u8 {
+    TARGET_BASE + vertex
+}
+
+pub fn any_node() -> Node {
+    node(ANY, 0, 0, 0)
+}
+
+pub fn constant_node(number: i32) -> Node {
+    node(CONSTANT, 0, 0, number)
+}
+
+/// Attribute place (from 1) of a source vertex.
+pub fn access_node(vertex: u8, place: u8) -> Node {
+    node(ACCESS, vertex, place, 0)
+}
+
+/// One of the forms 3 to 7 over two earlier nodes.
+pub fn operation_node(form: u8, left: u8, right: u8) -> Node {
+    node(form, left, right, 0)
+}
+
+pub fn node(form: u8, a: u8, b: u8, number: i32) -> Node {
+    Node { form, a, b, number }
+}
+
+impl RuleParts {
+    /// The block; K is the number of source outputs. At most two outputs a
+    /// side.
+    pub fn block(&self) -> Vec<u8> {
+        let counts = [&self.source, &self.target].map(|side| side.len() as u8);
+        let mut bytes = b"LGR\0\x01\0".to_vec();
+        bytes.extend(counts);
+        bytes.extend([self.source_outputs.len() as u8, self.nodes.len() as u8]);
+        for outputs in [&self.source_outputs, &self.target_outputs] {
+            bytes.extend(padded(outputs, rule::MAX_OUTPUTS));
+        }
+        bytes.extend([0, 0]);
+        for pattern in self.source.iter().chain(&self.target) {
+            let counts = [&pattern.inputs, &pattern.attributes].map(|list| list.len() as u8);
+            bytes.extend([pattern.kind, pattern.operator, counts[0], counts[1]]);
+            bytes.extend(padded(&pattern.inputs, 6));
+            bytes.extend(padded(&pattern.attributes, 6));
+        }
+        for node in &self.nodes {
+            let mut record = [node.form, node.a, node.b, 0, 0, 0, 0, 0];
+            put_i32(&mut record, 4, node.number);
+            bytes.extend(record);
+        }
+        bytes
+    }
+}
+
+/// These places, and 255 in the unused ones.
+fn padded(places: &[u8], count: usize) -> Vec<u8> {
+    let mut padded = places.to_vec();
+    padded.resize(count, rule::UNUSED);
+    padded
+}
+
+/// "E1: slots 0, 1 Variable; 2 conv2d(0,1); 3 relu(2); 4 relu(3); 5 Empty;
+/// output 4."
+pub fn e1() -> GraphParts {
+    let conv2d = call(CONV2D, &[0, 1], &[1, 1, 1, 1]);
+    let slots = vec![variable(), variable(), conv2d, relu(2), relu(3), empty()];
+    GraphParts::new(slots, &[4])
+}
+
+/// "RR: source 0 wildcard, 1 relu(0), 2 relu(1); target relu of input 0."
+pub fn rr() -> RuleParts {
+    let relu = |input| call_pattern(RELU, &[input], &[]);
+    RuleParts {
+        source: vec![wildcard(), relu(0), relu(1)],
+        target: vec![relu(0)],
+        source_outputs: vec![2],
+        target_outputs: vec![target_place(0)],
+        nodes: vec![],
+    }
+}
+
+/// P7's rule: "source outputs relu(x) and add(x,y) [...]; both target outputs
+/// sub(x,y)".
+pub fn p7_rule() -> RuleParts {
+    RuleParts {
+        source: vec![
+            wildcard(),
+            call_pattern(RELU, &[0], &[]),
+            wildcard(),
+            call_pattern(ADD, &[0, 2], &[]),
+        ],
+        target: vec![call_pattern(SUB, &[0, 2], &[])],
+        source_outputs: vec![1, 3],
+        target_outputs: vec![target_place(0); 2],
+        nodes: vec![],
+    }
+}
+
+/// Slot 0 a Variable, slot k relu(k - 1), the last one the output.
+pub fn chain(slots: u16) -> GraphParts {
+    let vertices = (0..slots).map(|slot| match slot {
+        0 => variable(),
+        _ => relu(slot - 1),
+    });
+    GraphParts::new(vertices.collect(), &[slots.saturating_sub(1)])
+}
+
+/// The last slot a Variable, slot k relu(k + 1), slot 0 the output.
+pub fn reversed_chain(slots: u16) -> GraphParts {
+    let vertices = (0..slots).map(|slot| match slots - slot {
+        1 => variable(),
+        _ => relu(slot + 1),
+    });
+    GraphParts::new(vertices.collect(), &[0])
+}

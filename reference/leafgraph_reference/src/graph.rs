@@ -1,0 +1,186 @@
+//! The graph block: a view of its fields, and the check.
+
+use crate::cycle::has_cycle;
+use crate::fields::{all_zero, i32_at, put_i32, put_u16, u16_at};
+use crate::operators::{counts_fit, EMPTY, PLACES, PROJ};
+use crate::reply::Refusal;
+
+/// "N slots, 1 to 512."
+pub const MAX_SLOTS: usize = 512;
+/// "Length exactly 24 + 48N": the header's part.
+pub const HEADER: usize = 24;
+/// The slot record's part.
+pub const RECORD: usize = 48;
+/// The longest sound block.
+pub const MAX_BLOCK: usize = HEADER + RECORD * MAX_SLOTS;
+/// "Unused output and input places hold 65535."
+pub const UNUSED: u16 = 65535;
+/// "output count, 1 to 4"
+pub const OUTPUT_PLACES: usize = 4;
+
+/// A block read as a graph. Outside this crate it is always a sound one.
+#[derive(Clone, Copy)]
+pub struct Graph<'a> {
+    bytes: &'a [u8],
+}
+
+/// One slot record.
+#[derive(Clone, Copy)]
+pub struct Slot<'a> {
+    record: &'a [u8],
+}
+
+impl<'a> Graph<'a> {
+    /// The graph in these bytes, if they are a sound block. The kinds of
+    /// fault, in order: "length or header; a record against its kind; an
+    /// input or output that names no vertex; a cycle".
+    pub fn parse(bytes: &'a [u8]) -> Result<Graph<'a>, Refusal> {
+        if !header_is_sound(bytes) {
+            return Err(Refusal::BAD_GRAPH);
+        }
+        let graph = Graph::view(bytes);
+        let sound = graph.slots().all(Slot::is_sound)
+            && graph.slots().all(|slot| graph.inputs_name_vertices(slot))
+            && graph.outputs().all(|output| graph.names_vertex(output))
+            && !has_cycle(graph);
+        if sound {
+            Ok(graph)
+        } else {
+            Err(Refusal::BAD_GRAPH)
+        }
+    }
+
+    /// The same view without the check, for a table still being made.
+    pub(crate) fn view(bytes: &'a [u8]) -> Graph<'a> {
+        Graph { bytes }
+    }
+
+    pub fn bytes(self) -> &'a [u8] {
+        self.bytes
+    }
+
+    /// N.
+    pub fn slot_count(self) -> usize {
+        usize::from(u16_at(self.bytes, 6))
+    }
+
+    pub fn output_count(self) -> usize {
+        usize::from(u16_at(self.bytes, 8))
+    }
+
+    /// "Slots count from 0."
+    pub fn slot(self, number: usize) -> Slot<'a> {
+        let at = HEADER + RECORD * number;
+        Slot { record: &self.bytes[at..at + RECORD] }
+    }
+
+    pub fn slots(self) -> impl Iterator<Item = Slot<'a>> {
+        self.bytes[HEADER..]
+            .chunks_exact(RECORD)
+            .take(self.slot_count())
+            .map(|record| Slot { record })
+    }
+
+    /// The numbers in the used output places.
+    pub fn outputs(self) -> impl Iterator<Item = u16> + 'a {
+        (0..self.output_count()).map(move |place| u16_at(self.bytes, 10 + 2 * place))
+    }
+
+    /// "Each input and each output names a slot that isn't Empty."
+    fn names_vertex(self, number: u16) -> bool {
+        let number = usize::from(number);
+        number < self.slot_count() && !self.slot(number).is_empty()
+    }
+
+    fn inputs_name_vertices(self, slot: Slot) -> bool {
+        slot.inputs().all(|input| self.names_vertex(input))
+    }
+}
+
+/// "Header: bytes 0-2 `LGT`; 3 zero; 4-5 version 1; 6-7 N; 8-9 output count,
+/// 1 to 4; 10-17 four output numbers; 18-23 zero", and the length.
+fn header_is_sound(bytes: &[u8]) -> bool {
+    if bytes.len() < HEADER || bytes[..4] != *b"LGT\0" || u16_at(bytes, 4) != 1 {
+        return false;
+    }
+    let graph = Graph::view(bytes);
+    let (slots, outputs) = (graph.slot_count(), graph.output_count());
+    (1..=MAX_SLOTS).contains(&slots)
+        && (1..=OUTPUT_PLACES).contains(&outputs)
+        && (outputs..OUTPUT_PLACES).all(|place| u16_at(bytes, 10 + 2 * place) == UNUSED)
+        && all_zero(&bytes[18..24])
+        && bytes.len() == HEADER + RECORD * slots
+}
+
+impl<'a> Slot<'a> {
+    pub fn kind(self) -> u8 {
+        self.record[0]
+    }
+
+    pub fn operator(self) -> u8 {
+        self.record[1]
+    }
+
+    pub fn input_count(self) -> usize {
+        usize::from(self.record[2])
+    }
+
+    pub fn attribute_count(self) -> usize {
+        usize::from(self.record[3])
+    }
+
+    pub fn is_empty(self) -> bool {
+        self.kind() == EMPTY
+    }
+
+    /// Input places count from 0 here.
+    pub fn input(self, place: usize) -> u16 {
+        u16_at(self.record, 4 + 2 * place)
+    }
+
+    /// Attribute places count from 0 here; document 01's place is one more.
+    pub fn attribute(self, place: usize) -> i32 {
+        i32_at(self.record, 16 + 4 * place)
+    }
+
+    pub fn inputs(self) -> impl Iterator<Item = u16> + 'a {
+        (0..self.input_count()).map(move |place| self.input(place))
+    }
+
+    pub fn attributes(self) -> impl Iterator<Item = i32> + 'a {
+        (0..self.attribute_count()).map(move |place| self.attribute(place))
+    }
+
+    /// Kind, operator and counts in one look.
+    pub fn head(self) -> [u8; 4] {
+        [self.record[0], self.record[1], self.record[2], self.record[3]]
+    }
+
+    /// The record against its kind: the table, unused places, "40-47 zero",
+    /// and a Proj's "index, at least 1".
+    fn is_sound(self) -> bool {
+        let [kind, operator, inputs, attributes] = self.head();
+        counts_fit(kind, operator, inputs, attributes)
+            && (self.input_count()..PLACES).all(|place| self.input(place) == UNUSED)
+            && (self.attribute_count()..PLACES).all(|place| self.attribute(place) == 0)
+            && all_zero(&self.record[40..48])
+            && (kind != PROJ || self.attribute(0) >= 1)
+    }
+}
+
+/// The record of an Empty slot: there is exactly one.
+pub(crate) fn write_empty(record: &mut [u8]) {
+    write_record(record, [EMPTY, 0, 0, 0], &[], &[]);
+}
+
+/// A whole record, its unused places included.
+pub(crate) fn write_record(record: &mut [u8], head: [u8; 4], inputs: &[u16], attributes: &[i32]) {
+    record.fill(0);
+    record[..4].copy_from_slice(&head);
+    for place in 0..PLACES {
+        let input = inputs.get(place).copied().unwrap_or(UNUSED);
+        put_u16(record, 4 + 2 * place, input);
+        let attribute = attributes.get(place).copied().unwrap_or(0);
+        put_i32(record, 16 + 4 * place, attribute);
+    }
+}

@@ -1,0 +1,82 @@
+//! The second program of leafgraph: document 01 in plain Rust.
+//!
+//! It is written from document 01 alone, not from the proved library, so that
+//! an error of reading in one of the two shows up as a difference between
+//! them. Sentences in quotation marks are document 01's.
+//!
+//! "Four operations: check a graph, check a rule, find a match, rewrite."
+//! Each answers any bytes of any length. The reply holds its number in bits 0
+//! to 7; the other bits are 0 for now.
+#![forbid(unsafe_code)]
+
+pub mod attributes;
+pub mod blocks;
+mod cycle;
+mod fields;
+pub mod generate;
+pub mod graph;
+pub mod matching;
+pub mod operators;
+pub mod random;
+pub mod reply;
+mod rewriting;
+pub mod rule;
+mod rule_check;
+
+use graph::Graph;
+use reply::{reply_of, Refusal};
+use rule::Rule;
+
+/// "map buffer isn't 32 bytes": the only length of a map that is taken.
+pub const MAP_LENGTH: usize = 32;
+
+/// "Checking a graph gives 0 or 2"; "the checks write nothing".
+pub fn check_graph(graph: &[u8]) -> u64 {
+    reply_of(Graph::parse(graph).map(|_| ()))
+}
+
+/// "a rule 0 or 3".
+pub fn check_rule(rule: &[u8]) -> u64 {
+    reply_of(Rule::parse(rule).map(|_| ()))
+}
+
+/// "matching 0 to 4". "Done, in matching and in rewriting, writes the map."
+/// A start is any number and is compared with N as it is.
+pub fn find_match(graph: &[u8], rule: &[u8], start: usize, map: &mut [u8]) -> u64 {
+    reply_of(try_find_match(graph, rule, start, map))
+}
+
+/// "rewriting 0 to 7". "A refusal returns its number only; every lent byte
+/// keeps its content."
+pub fn rewrite(graph: &mut [u8], rule: &[u8], start: usize, map: &mut [u8]) -> u64 {
+    reply_of(try_rewrite(graph, rule, start, map))
+}
+
+fn try_find_match(graph: &[u8], rule: &[u8], start: usize, map: &mut [u8]) -> Result<(), Refusal> {
+    check_map_length(map)?;
+    let graph = Graph::parse(graph)?;
+    let rule = Rule::parse(rule)?;
+    let images = matching::least_match(graph, rule, start).ok_or(Refusal::NO_MATCH)?;
+    matching::write_map(map, &images);
+    Ok(())
+}
+
+fn try_rewrite(graph: &mut [u8], rule: &[u8], start: usize, map: &mut [u8]) -> Result<(), Refusal> {
+    check_map_length(map)?;
+    let old = Graph::parse(graph)?;
+    let rule = Rule::parse(rule)?;
+    let images = matching::least_match(old, rule, start).ok_or(Refusal::NO_MATCH)?;
+    let new = rewriting::rewritten(old, rule, &images)?;
+    let length = graph.len();
+    graph.copy_from_slice(&new[..length]);
+    matching::write_map(map, &images);
+    Ok(())
+}
+
+fn check_map_length(map: &[u8]) -> Result<(), Refusal> {
+    if map.len() == MAP_LENGTH {
+        Ok(())
+    } else {
+        Err(Refusal::MAP_LENGTH)
+    }
+}

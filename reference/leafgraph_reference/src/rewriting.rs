@@ -1,0 +1,155 @@
+//! "What a rewriting leaves".
+
+use crate::attributes::results;
+use crate::cycle::has_cycle;
+use crate::fields::put_u16;
+use crate::graph::{write_empty, write_record, Graph, HEADER, MAX_BLOCK, RECORD};
+use crate::matching::Images;
+use crate::operators::{PLACES, PROJ};
+use crate::reply::Refusal;
+use crate::rule::{Rule, MAX_OUTPUTS, MAX_VERTICES, TARGET_BASE};
+
+/// The attributes of each target vertex.
+type TargetAttributes = [[i32; PLACES]; MAX_VERTICES];
+
+/// The new table for this match, in a buffer of its own: the lent block is
+/// written only when no refusal can follow. The refusals come in document
+/// 01's order: 5, then 6, then 7.
+pub fn rewritten(old: Graph, rule: Rule, images: &Images) -> Result<[u8; MAX_BLOCK], Refusal> {
+    let attributes = target_attributes(old, rule, images).ok_or(Refusal::NO_RESULT)?;
+    let mut new = [0; MAX_BLOCK];
+    new[..old.bytes().len()].copy_from_slice(old.bytes());
+    let slots = target_slots(old, rule, images).ok_or(Refusal::NO_ROOM)?;
+    let plan = Plan { old, rule, images, slots };
+    plan.redirect(&mut new);
+    plan.remove(&mut new);
+    plan.write_targets(&mut new, &attributes);
+    if has_cycle(Graph::view(&new[..old.bytes().len()])) {
+        return Err(Refusal::CYCLE);
+    }
+    Ok(new)
+}
+
+/// "their attributes are the results of their expressions, read from the old
+/// table". None when "a target attribute has no result, or a Proj index is
+/// below 1".
+fn target_attributes(old: Graph, rule: Rule, images: &Images) -> Option<TargetAttributes> {
+    let results = results(old, rule, images);
+    let mut attributes = [[0; PLACES]; MAX_VERTICES];
+    for (vertex, pattern) in rule.targets().enumerate() {
+        for (place, node) in pattern.attributes().enumerate() {
+            let number = results[usize::from(node)]?;
+            if pattern.kind() == PROJ && number < 1 {
+                return None;
+            }
+            attributes[vertex][place] = number;
+        }
+    }
+    Some(attributes)
+}
+
+/// "Images of non-input source vertices are removed."
+fn is_removed(rule: Rule, images: &Images, slot: u16) -> bool {
+    rule.sources().zip(images).any(|(pattern, &image)| image == slot && !pattern.is_input_kind())
+}
+
+/// "Target vertices, in order, take the lowest Empty slots, those just freed
+/// among them." None when "T exceeds Empty slots plus removed ones".
+fn target_slots(old: Graph, rule: Rule, images: &Images) -> Option<[u16; MAX_VERTICES]> {
+    let mut slots = [0; MAX_VERTICES];
+    let mut free = (0..old.slot_count())
+        .filter(|&slot| old.slot(slot).is_empty() || is_removed(rule, images, slot as u16));
+    for slot in slots.iter_mut().take(rule.target_count()) {
+        *slot = free.next()? as u16;
+    }
+    Some(slots)
+}
+
+/// All that decides the new table, read from the old one and the rule.
+struct Plan<'a> {
+    old: Graph<'a>,
+    rule: Rule<'a>,
+    images: &'a Images,
+    slots: [u16; MAX_VERTICES],
+}
+
+impl Plan<'_> {
+    fn removes(&self, slot: u16) -> bool {
+        is_removed(self.rule, self.images, slot)
+    }
+
+    /// The slot that a target place stands for: a rule input's image or a
+    /// target vertex's slot.
+    fn slot_of(&self, place: u8) -> u16 {
+        match place.checked_sub(TARGET_BASE) {
+            Some(target) => self.slots[usize::from(target)],
+            None => self.images[usize::from(place)],
+        }
+    }
+
+    /// What a place that named this slot names now. One step only: the answer
+    /// is never redirected again, so all is "all at once".
+    fn redirected(&self, named: u16) -> u16 {
+        let rule = self.rule;
+        let replaced = (0..rule.output_count())
+            .find(|&k| self.images[usize::from(rule.source_output(k))] == named);
+        replaced.map_or(named, |k| self.slot_of(rule.target_output(k)))
+    }
+
+    /// "All input places of vertices that stay (rule inputs too) and all graph
+    /// outputs that name the image of source output k now name the place of
+    /// target output k".
+    fn redirect(&self, new: &mut [u8]) {
+        let replaced = self.replaced();
+        for (number, slot) in self.old.slots().enumerate() {
+            for (place, input) in slot.inputs().enumerate() {
+                if replaced.contains(&input) && !self.removes(number as u16) {
+                    let at = HEADER + RECORD * number + 4 + 2 * place;
+                    put_u16(new, at, self.redirected(input));
+                }
+            }
+        }
+        for (place, output) in self.old.outputs().enumerate() {
+            put_u16(new, 10 + 2 * place, self.redirected(output));
+        }
+    }
+
+    /// "A replaced output is the image of a source output." With one output
+    /// it stands twice.
+    fn replaced(&self) -> [u16; MAX_OUTPUTS] {
+        let image = |k: usize| self.images[usize::from(self.rule.source_output(k))];
+        [image(0), image(self.rule.output_count() - 1)]
+    }
+
+    /// Removed vertices' "slots become Empty".
+    fn remove(&self, new: &mut [u8]) {
+        for (pattern, &image) in self.rule.sources().zip(self.images) {
+            if !pattern.is_input_kind() {
+                write_empty(record_mut(new, image));
+            }
+        }
+    }
+
+    /// "their inputs name the rule inputs' images and the target vertices'
+    /// slots". They are written after the redirection and so are not touched
+    /// by it, though such a slot may have been a replaced output's.
+    fn write_targets(&self, new: &mut [u8], attributes: &TargetAttributes) {
+        for (vertex, pattern) in self.rule.targets().enumerate() {
+            let mut inputs = [0; PLACES];
+            for (place, input) in pattern.inputs().enumerate() {
+                inputs[place] = self.slot_of(input);
+            }
+            write_record(
+                record_mut(new, self.slots[vertex]),
+                pattern.head(),
+                &inputs[..pattern.input_count()],
+                &attributes[vertex][..pattern.attribute_count()],
+            );
+        }
+    }
+}
+
+fn record_mut(block: &mut [u8], slot: u16) -> &mut [u8] {
+    let at = HEADER + RECORD * usize::from(slot);
+    &mut block[at..at + RECORD]
+}

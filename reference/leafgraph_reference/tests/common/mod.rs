@@ -1,0 +1,49 @@
+//! What several test files need.
+#![allow(dead_code)]
+
+use leafgraph_reference::blocks::{GraphParts, RuleParts};
+use leafgraph_reference::{find_match, rewrite};
+
+/// The reply and the map as numbers; the map is filled with a mark before, so
+/// that an untouched one shows.
+pub struct Answer {
+    pub reply: u64,
+    pub map: Vec<u16>,
+    pub graph: Vec<u8>,
+}
+
+pub const UNTOUCHED: u8 = 0xa5;
+
+fn numbers(map: &[u8]) -> Vec<u16> {
+    map.chunks_exact(2).map(|pair| u16::from_le_bytes([pair[0], pair[1]])).collect()
+}
+
+pub fn run_match(graph: &GraphParts, rule: &RuleParts, start: usize) -> Answer {
+    let graph = graph.block();
+    let mut map = [UNTOUCHED; 32];
+    let reply = find_match(&graph, &rule.block(), start, &mut map);
+    assert_untouched_after_refusal(reply, &map);
+    Answer { reply, map: numbers(&map), graph }
+}
+
+pub fn run_rewrite(graph: &GraphParts, rule: &RuleParts, start: usize) -> Answer {
+    let before = graph.block();
+    let mut after = before.clone();
+    let mut map = [UNTOUCHED; 32];
+    let reply = rewrite(&mut after, &rule.block(), start, &mut map);
+    assert_untouched_after_refusal(reply, &map);
+    assert!(reply == 0 || before == after, "a refusal wrote the graph");
+    Answer { reply, map: numbers(&map), graph: after }
+}
+
+fn assert_untouched_after_refusal(reply: u64, map: &[u8]) {
+    let untouched = map.iter().all(|&byte| byte == UNTOUCHED);
+    assert_eq!(reply != 0, untouched, "the map is written exactly when done");
+}
+
+/// These images and 65535 after them.
+pub fn map_of(images: &[u16]) -> Vec<u16> {
+    let mut map = images.to_vec();
+    map.resize(16, 65535);
+    map
+}
