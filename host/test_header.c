@@ -1,0 +1,13 @@
+/* The header in C, under strict warnings. */
+
+#include "leafgraph.h"
+#include "leafgraph.h" /* the include guard */
+#include "test_blocks.h"
+
+int main(void) {
+    int count = count_differences() + count_helper_differences();
+    if (count == 0) {
+        puts("header test in C: no difference");
+    }
+    return count == 0 ? 0 : 1;
+}
