@@ -14,7 +14,8 @@ use lib.Seq.{getD-set-same, getD-set-other}
 use Rattle.definitions.specs.Graph.{unusedPlace, emptySlot, slotCount, graphOf, inputsOf, hasCycle}
 use Rattle.definitions.specs.Paths.{Reads, Reaches, here, onward, acyclicBelow}
 use Rattle.laws.proofs.Lists.{decided}
-use Rattle.laws.proofs.Graph.{length-slots, inputs-past}
+use Rattle.laws.proofs.Graph.{length-slots, inputs-past, reader-inside}
+use Rattle.laws.proofs.Members.{mem-place}
 use Rattle.theory.proofs.Paths.{Table, Grounded, grounded, reaches-trans, cyclic, grounded-acyclic}
 use Rattle.graph_fields.specs.Readable.{Closed}
 use Rattle.acyclic.specs.Search.{Sized, Quiet, Kept, Searched}
@@ -40,16 +41,6 @@ unfolding room
 room-set [] i y l h k = absurd (not-suc-le-zero l)
 room-set (x ∷ xs) zero y l h k = omega arith
 room-set (x ∷ xs) (suc i) y l h k = omega (arith, room-set xs i y (le-of-suc-le-suc l) h k)
-
--- an element has an index
-place-of : {x : ℕ} {xs : List ℕ} (d : ℕ) → List·Memᴰ x xs → (i : ℕ) × (i < length xs) × (x ≡ getD xs i d)
-place-of d (List·Memᴰ·head e) = (0, omega arith, e)
-place-of d (List·Memᴰ·tail m) = let t = place-of d m in (suc (t .0), omega (arith, t .1), t .2)
-
-pub mem-at : (xs : List ℕ) (i d : ℕ) → i < length xs → List·Memᴰ (getD xs i d) xs
-mem-at [] i d l = absurd (not-suc-le-zero l)
-mem-at (x ∷ xs) zero d l = List·Memᴰ·head refl
-mem-at (x ∷ xs) (suc i) d l = List·Memᴰ·tail (mem-at xs i d (le-of-suc-le-suc l))
 
 other-mem : {w v : ℕ} {xs : List ℕ} → (w ≡ v → ⊥) → List·Memᴰ w (v ∷ xs) → List·Memᴰ w xs
 other-mem h (List·Memᴰ·head e) = absurd (h e)
@@ -170,8 +161,8 @@ module _ {inputs : ℕ → List ℕ} {n root : ℕ} {before progress parent : Li
 
   -- a slot whose inputs are all passed leads to no cycle
   all-passed : getD progress at 0 ≡ 1 + length (inputs at) → Grounded inputs at
-  all-passed e = grounded {v = at} (λ u m. let t = place-of unusedPlace m in
-      subst (Grounded inputs) (sym (t .2)) (present .passed (t .0) (omega (arith, t .1))))
+  all-passed e = grounded {v = at} (λ u m. let t = mem-place unusedPlace m in
+      subst (Grounded inputs) (t .2) (present .passed (t .0) (omega (arith, t .1))))
 
   -- ---- the turns
 
@@ -302,17 +293,11 @@ module _ {block : List ℕ} (closed : Closed block) where
   pub table : Table (inputsOf (graphOf block)) (slotCount block)
   unfolding emptySlot
   table = record {
-    closed = λ v u m. let t = place-of unusedPlace m in rw (t .2) (closed .named v (t .0) (inside v m) (t .1));
-    ends = ends;
+    closed = λ v u m. let t = mem-place unusedPlace m in
+        subst (λ (x : ℕ). x < slotCount block) (t .2)
+        (closed .named v (t .0) (rw (length-slots block) at (reader-inside (graphOf block) v u m)) (t .1));
+    ends = λ v l. inputs-past (graphOf block) v (rw (length-slots block) l);
   }
-    where
-      ends : (v : ℕ) → slotCount block ≤ v → inputsOf (graphOf block) v ≡ []
-      ends v l = inputs-past (graphOf block) v (rw (length-slots block) l)
-
-      inside : {u : ℕ} (v : ℕ) → Reads (inputsOf (graphOf block)) v u → v < slotCount block
-      inside v m = ⊎-elim (λ (t : ltb v (slotCount block) ≡ true). ltb-true v (slotCount block) t)
-          (λ (t : ltb v (slotCount block) ≡ false). absurd (List·Memᴰ·not-nil (rw (ends v (ltb-false v (slotCount block) t)) at m)))
-          (decided (ltb v (slotCount block)))
 
   -- one search found a cycle
   pub cycle-found : acyclicBelow (inputsOf (graphOf block)) (slotCount block) ≡ false → true ≡ hasCycle (graphOf block)

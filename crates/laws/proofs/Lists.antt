@@ -1,7 +1,7 @@
 -- Laws about the words of `Lists`: what a loop over an index, or a reader of a decoded list, needs to know.
 -- Assumes nothing.
 use mathlib.Core.Path.{_≡_, refl, sym, ap, _∙_}
-use mathlib.Core.Bool.{Bool, true, false, _&&_, _||_, and-true, and-false, or-true, or-false, false≢true}
+use mathlib.Core.Bool.{Bool, true, false, _&&_, _||_, and-false, or-true, or-false, false≢true}
 use mathlib.Core.List.{List, [], _∷_, List·Memᴰ, List·Memᴰ·head, List·Memᴰ·tail}
 use mathlib.Core.Logic.{_⊎_, inl, inr, ⊎-elim}
 use Prim.Native.Nat.{ℕ, zero, suc, _+_, _<_, _≤_}
@@ -131,16 +131,6 @@ module _ (p : ℕ → Bool) where
       (decided (p n)))
       (decided (ltb (lowest p n) n))
 
--- the first turn taken apart
-shifted : (p : ℕ → Bool) (n : ℕ) → allBelow p (suc n) ≡ (p zero && allBelow (λ k. p (suc k)) n)
-unfolding allBelow
-shifted p zero = sym (and-true (p zero))
-shifted p (suc n) = ap (λ (b : Bool). b && p (suc n)) (shifted p n) ∙ assoc (p zero) (allBelow (λ k. p (suc k)) n) (p (suc n))
-  where
-    assoc : (a b c : Bool) → (a && b && c) ≡ (a && (b && c))
-    assoc true b c = refl
-    assoc false b c = refl
-
 -- ---- tabulate
 
 module _ {ℓ} {A : Type ℓ} where
@@ -154,13 +144,6 @@ module _ {ℓ} {A : Type ℓ} where
   getD-tabulate zero f i d h = absurd (not-suc-le-zero h)
   getD-tabulate (suc n) f zero d h = refl
   getD-tabulate (suc n) f (suc i) d h = getD-tabulate n (λ k. f (suc k)) i d (le-of-suc-le-suc h)
-
-  -- a test of every element is a test of every index
-  pub all-tabulate : (p : A → Bool) (n : ℕ) (f : ℕ → A) → all p (tabulate n f) ≡ allBelow (λ i. p (f i)) n
-  unfolding tabulate all
-  all-tabulate p zero f = unfold allBelow in refl
-  all-tabulate p (suc n) f =
-      ap (λ (b : Bool). p (f zero) && b) (all-tabulate p n (λ k. f (suc k))) ∙ sym (shifted (λ i. p (f i)) n)
 
 -- ---- all, by index
 

@@ -1,7 +1,7 @@
--- The numbers 0, 1, .. n - 1, members one by one, and when two lists of numbers are the same.
+-- The numbers 0, 1, .. n - 1, and when two lists of numbers are the same.
 -- Assumes nothing.
-use mathlib.Core.Path.{_≡_, refl, sym, ap, _∙_}
-use mathlib.Core.Bool.{Bool, true, false, _||_, false≢true, or-false, or-assoc}
+use mathlib.Core.Path.{_≡_, refl, ap, _∙_}
+use mathlib.Core.Bool.{true, false, false≢true}
 use mathlib.Core.List.{List, [], _∷_, _++_}
 use mathlib.Core.Logic.{⊎-elim}
 use Prim.Native.Nat.{ℕ, zero, suc, _+_, _-_, _<_}
@@ -10,7 +10,7 @@ use native.Mathlib.Omega.{arith}
 use borrow.Author.Tests.{eq-eqb, eqb-true}
 use lib.Dec.{eqb}
 use lib.ListN.{length, getD}
-use Rattle.definitions.specs.Lists.{tabulate, allPairs, member, range}
+use Rattle.definitions.specs.Lists.{tabulate, allPairs, range}
 use Rattle.laws.proofs.Lists.{decided, and-left, and-right, length-tabulate, getD-tabulate}
 
 pub length-range : (n : ℕ) → length (range 0 n) ≡ n
@@ -29,11 +29,6 @@ tabulate-more (suc n) f = ap (λ (l : List ℕ). f zero ∷ l) (tabulate-more n 
 pub range-more : (n : ℕ) → range 0 (suc n) ≡ range 0 n ++ n ∷ []
 unfolding range
 range-more n = simp (sub-zero, zero-add) (tabulate-more n (λ i. i))
-
-pub member-more : (x y : ℕ) (xs : List ℕ) → member x (xs ++ y ∷ []) ≡ (member x xs || eqb x y)
-unfolding member
-member-more x y [] = or-false (eqb x y)
-member-more x y (z ∷ xs) = ap (λ (b : Bool). eqb x z || b) (member-more x y xs) ∙ sym (or-assoc (eqb x z) (member x xs) (eqb x y))
 
 -- ---- lists of numbers that are the same
 

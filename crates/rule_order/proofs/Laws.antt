@@ -2,38 +2,32 @@
 -- order stays so. The traversal only appends.
 -- Assumes nothing.
 use mathlib.Core.Path.{_≡_, refl, sym, ap, _∙_}
-use mathlib.Core.Bool.{Bool, true, false, _||_, false≢true, or-true}
+use mathlib.Core.Bool.{Bool, true, false, false≢true}
 use mathlib.Core.List.{List, [], _∷_, _++_, append-assoc, append-nil}
 use mathlib.Core.Logic.{⊎-elim}
 use Prim.Native.Nat.{ℕ, zero, suc, _+_, _<_, _≤_}
 use native.Mathlib.Numerals.{add-one}
 use native.Mathlib.Nat.{not-suc-le-zero, le-of-suc-le-suc}
 use native.Mathlib.Omega.{arith}
-use borrow.Author.Tests.{eq-eqb, ne-eqb, eqb-true, eqb-false, ltb-true, ltb-false}
-use lib.Dec.{eqb, ltb}
+use borrow.Author.Tests.{eqb-true, eqb-false}
+use lib.Dec.{eqb}
 use lib.ListN.{length, getD, drop, length-append, drop-of-length-le}
 use lib.Seq.{getD-at, drop-cons}
 use Rattle.definitions.specs.Lists.{tabulate, foldl, member, range}
 use Rattle.definitions.specs.Rule.{Rule, sourceCount, ruleOutputCount, ruleOf, sourceInputs, visit, traversal, inVisitingOrder}
 use Rattle.laws.proofs.Lists.{decided, true-not-false}
-use Rattle.laws.proofs.Ranges.{length-range, range-at, range-more, member-more, same-self, other-lists}
+use Rattle.laws.proofs.Members.{mem-member, no-member, mem-range, range-mem}
+use Rattle.laws.proofs.Ranges.{length-range, range-at, range-more, same-self, other-lists}
 use Rattle.laws.proofs.Rule.{length-source, length-source-outputs}
 use Rattle.rule_order.specs.Order.{OutOfOrder, Counts, Visits, VisitsInputs}
 
 -- ---- 0, 1, .. n - 1
 
 visited : (v n : ℕ) → v < n → member v (range 0 n) ≡ true
-visited v zero h = absurd (not-suc-le-zero h)
-visited v (suc n) h = ap (member v) (range-more n) ∙ member-more v n (range 0 n) ∙ ⊎-elim
-    (λ (t : ltb v n ≡ true). ap (λ (b : Bool). b || eqb v n) (visited v n (ltb-true v n t)))
-    (λ (t : ltb v n ≡ false). simp (eq-eqb v n (omega (arith, ltb-false v n t)), or-true))
-    (decided (ltb v n))
+visited v n h = mem-member (mem-range 0 n v (omega arith) h)
 
 unvisited : (v n : ℕ) → n ≤ v → member v (range 0 n) ≡ false
-unfolding range tabulate member
-unvisited v zero h = refl
-unvisited v (suc n) h = ap (member v) (range-more n) ∙ member-more v n (range 0 n)
-    ∙ simp (unvisited v n (omega arith), ne-eqb v n (omega arith))
+unvisited v n h = no-member v (range 0 n) (λ m. omega (arith, range-mem 0 n m .1))
 
 -- ---- lists that are out of order
 

@@ -1,7 +1,7 @@
 -- Results of a table's vertices: on a table with no cycle there are some, and no two differ on a vertex.
 -- Assumes nothing.
 use mathlib.Core.Path.{_≡_, refl, sym, ap₂, _∙_, subst}
-use mathlib.Core.Bool.{Bool, true, false, false≢true}
+use mathlib.Core.Bool.{true, false≢true}
 use mathlib.Core.List.{List, [], _∷_, map, List·Memᴰ, List·Memᴰ·head, List·Memᴰ·tail}
 use Prim.Native.Nat.{ℕ, zero, suc}
 use lib.Dec.{T}
@@ -11,6 +11,7 @@ use Rattle.definitions.specs.Graph.{Graph, inputsOf, isVertex}
 use Rattle.definitions.specs.Results.{Meaning, resultAt, AreResults}
 use Rattle.laws.proofs.Lists.{allBelow-at, all-member}
 use Rattle.laws.proofs.Graph.{inputs-past, vertex-inside}
+use Rattle.laws.proofs.Members.{holds}
 use Rattle.theory.proofs.Paths.{Table, Grounded, grounded, acyclic-complete, acyclic-grounded}
 
 -- a table whose inputs name vertices, and which has no cycle
@@ -49,10 +50,6 @@ map-agree f h [] same = refl
 map-agree f h (x ∷ xs) same =
     ap₂ _∷_ (same x (List·Memᴰ·head refl)) (map-agree f h xs (λ y m. same y (List·Memᴰ·tail m)))
 
-is-true : (b : Bool) → T b → b ≡ true
-is-true true t = refl
-is-true false t = absurd t
-
 module _ {ℓ} {R : Type ℓ} (m : Meaning R) (g : Graph) where
   -- What a vertex is to have as result is the same for two ways to give results that agree on its inputs.
   pub result-agree : (one other : ℕ → R) (v : ℕ) → ((u : ℕ) → Reads (inputsOf g) v u → one u ≡ other u)
@@ -89,5 +86,5 @@ module _ {ℓ} {R : Type ℓ} (m : Meaning R) (g : Graph) where
     λ v t.
         deep-settled (length (g .slots)) v
         (allBelow-at (shallow (inputsOf g) (length (g .slots))) (length (g .slots)) v (layout-passes g layout)
-        (vertex-inside g v (is-true (isVertex g v) t))),
+        (vertex-inside g v (holds (isVertex g v) t))),
   )

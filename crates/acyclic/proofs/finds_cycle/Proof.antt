@@ -8,7 +8,8 @@ use lib.ListN.{length, getD}
 use Rattle.definitions.specs.Graph.{unusedPlace, slotCount, graphOf, inputsOf}
 use Rattle.definitions.specs.Paths.{Reads}
 use Rattle.acyclic.specs.Search.{Sized}
-use Rattle.acyclic.proofs.Laws.{room, room-set, mem-at, sized-progress, sized-parent, Search, Present, present, finished-grounded, closes, pass, enter, leave, end, begin, since, again, found, table}
+use Rattle.laws.proofs.Members.{mem-at}
+use Rattle.acyclic.proofs.Laws.{room, room-set, sized-progress, sized-parent, Search, Present, present, finished-grounded, closes, pass, enter, leave, end, begin, since, again, found, table}
 use Rattle.acyclic.proofs.finds_cycle.Statement.{statement}
 use Rattle.acyclic.proofs.finds_cycle.Tie as tie
 
