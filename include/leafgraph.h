@@ -1,4 +1,5 @@
-/* leafgraph: checks and rewrites the operator graphs of an image pipeline.
+/* leafgraph: checks the operator graphs of an image pipeline, and the rules
+ * by which later deliveries will rewrite them.
  *
  * What holds for every function here:
  *
