@@ -11,7 +11,7 @@ use Rattle.definitions.specs.declared.Reply.{Reply}
 use Rattle.definitions.specs.declared.Reply.the-variants.{Done, Refused}
 use Rattle.definitions.specs.Lists.{padded, concatMap}
 use Rattle.definitions.specs.Fields.{u16Bytes}
-use Rattle.definitions.specs.Reply.{badMapLength, noMatch, noResult, noRoom, newCycle, refused, firstRefusal}
+use Rattle.definitions.specs.Reply.{badMapLength, noMatch, noResult, noRoom, newCycle, refused, packed, firstRefusal}
 use Rattle.definitions.specs.Graph.{unusedPlace, Graph, graphOf, graphBlock, graphReply, hasCycle}
 use Rattle.definitions.specs.Rule.{sideLimit, Rule, ruleOf, ruleReply}
 use Rattle.definitions.specs.Match.{readAttribute, leastMatch}
@@ -22,6 +22,21 @@ pub record Outcome : Type 0 where
   pub reply : Reply
   pub graph : List ℕ
   pub images : List ℕ
+
+abbrev pub outcome : Reply → List ℕ → List ℕ → Outcome
+outcome reply graph images = record { reply = reply; graph = graph; images = images }
+
+-- what the caller has at the return: the reply as the one number that the C side gets, and the same bytes
+pub record Returned : Type 0 where
+  pub reply : ℕ
+  pub graph : List ℕ
+  pub images : List ℕ
+
+abbrev pub atReturn : ℕ → List ℕ → List ℕ → Returned
+atReturn reply graph images = record { reply = reply; graph = graph; images = images }
+
+unfoldable pub returned : Outcome → Returned
+returned o = atReturn (packed (o .reply)) (o .graph) (o .images)
 
 -- a map block holds sixteen 16-bit numbers, 65535 from S on
 abbrev pub mapBytes : ℕ
@@ -42,14 +57,14 @@ blocksReply graph rule images = firstRefusal (mapReply images ∷ graphReply gra
 -- matching, once the blocks are sound: 4, or the map of the least match from `start`
 unfoldable pub matched : List ℕ → List ℕ → ℕ → List ℕ → Outcome
 matched graph rule start images = elim (leastMatch (graphOf graph) (ruleOf rule) start) [
-  | none ↦ record { reply = refused noMatch; graph = graph; images = images }
-  | some found ↦ record { reply = Done; graph = graph; images = mapBlock found }
+  | none ↦ outcome (refused noMatch) graph images
+  | some found ↦ outcome Done graph (mapBlock found)
 ]
 
 unfoldable pub findMatch : List ℕ → List ℕ → ℕ → List ℕ → Outcome
 findMatch graph rule start images = elim (blocksReply graph rule images) [
   | Done ↦ matched graph rule start images
-  | Refused refusal ↦ record { reply = Refused refusal; graph = graph; images = images }
+  | Refused refusal ↦ outcome (Refused refusal) graph images
 ]
 
 -- what a rewriting at one match comes to: the new table, or the number of the first of 5, 6 and 7 that applies
@@ -71,15 +86,15 @@ rewritten g r found = elim (targetResults (readAttribute g found) (r .target)) [
 -- rewriting at the least match, once the blocks are sound; no other match is tried
 unfoldable pub replaced : List ℕ → List ℕ → List ℕ → List ℕ → Outcome
 replaced graph rule images found = elim (rewritten (graphOf graph) (ruleOf rule) found) [
-  | turnedDown number ↦ record { reply = refused number; graph = graph; images = images }
-  | accepted new ↦ record { reply = Done; graph = graphBlock new; images = mapBlock found }
+  | turnedDown number ↦ outcome (refused number) graph images
+  | accepted new ↦ outcome Done (graphBlock new) (mapBlock found)
 ]
 
 unfoldable pub rewrite : List ℕ → List ℕ → ℕ → List ℕ → Outcome
 rewrite graph rule start images = elim (blocksReply graph rule images) [
-  | Refused refusal ↦ record { reply = Refused refusal; graph = graph; images = images }
+  | Refused refusal ↦ outcome (Refused refusal) graph images
   | Done ↦ elim (leastMatch (graphOf graph) (ruleOf rule) start) [
-    | none ↦ record { reply = refused noMatch; graph = graph; images = images }
+    | none ↦ outcome (refused noMatch) graph images
     | some found ↦ replaced graph rule images found
   ]
 ]

@@ -36,6 +36,9 @@ pub const INPUT_LIMIT: usize = 6;
 
 pub const ATTRIBUTE_LIMIT: usize = 6;
 
+// The map: a 16-bit number for each source vertex that a rule may have.
+pub const MAP_BYTES: usize = 32;
+
 // Where a refusal's fault lies, and why. Both are zero for now.
 pub struct Place {
     pub index: u32,

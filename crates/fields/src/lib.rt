@@ -13,6 +13,13 @@ pub enum Integer {
     Minus(u64),
 }
 
+// A 16-bit number as a place or a slot's number. As a parameter it is known to fit, which an element of an array is not.
+pub fn widened(number: u16) -> usize
+    ensures { λ r. ⌜ r ≡ number ⌝ }
+{
+    number as usize
+}
+
 // The byte at `at`.
 pub fn byte_at(block: &[u8], at: usize) -> usize
     requires { ⌜ at < length (now block) ⌝ }

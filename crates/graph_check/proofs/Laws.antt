@@ -15,8 +15,8 @@ use Rattle.definitions.specs.Operators.{shapeFits}
 use Rattle.definitions.specs.Reply.{badGraph, refused, flag, place, judged}
 use Rattle.definitions.specs.Graph.{slotLimit, outputLimit, unusedPlace, slotCount, outputCount, recordAt, Slot, graphOf, inputsOf, isVertex, outputPlacesFit, headerFits, recordFits, badRecord, badInputs, badOutput, hasCycle, graphFaults, graphReply}
 use Rattle.laws.proofs.Lists.{needed, lowest-passed, all-at}
-use Rattle.laws.proofs.Graph.{vertex-inside, length-slots, slot-of, length-inputs}
-use Rattle.laws.proofs.Operators.{few-inputs}
+use Rattle.laws.proofs.Graph.{vertex-inside, length-slots, slot-of, length-inputs, length-attributes}
+use Rattle.laws.proofs.Operators.{few-inputs, few-attributes}
 use Rattle.graph_fields.specs.Readable.{Whole, Readable, Closed}
 
 module _ (block : List ℕ) where
@@ -28,19 +28,28 @@ module _ (block : List ℕ) where
     outputs = leb-true _ _ (needed (leb (outputCount block) outputLimit) h (λ f. simp (f, and-false)));
   }
 
-  -- a record that follows the tables has at most six inputs
-  pub readable : Whole block → slotCount block ≤ lowest (badRecord block) (slotCount block) → Readable block
+  -- a record without a fault follows the tables
+  shaped : slotCount block ≤ lowest (badRecord block) (slotCount block) → (k : ℕ) → k < slotCount block
+      → let at = recordAt k in
+      shapeFits (byteAt block at) (byteAt block (at + 1)) (byteAt block (at + 2)) (byteAt block (at + 3)) ≡ true
   unfolding badRecord recordFits
+  shaped h k l =
+      let good = not-false (recordFits block (recordAt k)) (lowest-passed (badRecord block) (slotCount block) k (omega arith)) in
+      let at = recordAt k in
+      needed (shapeFits (byteAt block at) (byteAt block (at + 1)) (byteAt block (at + 2)) (byteAt block (at + 3))) good (λ f. simp f)
+
+  -- so it has at most six inputs and six attributes
+  pub readable : Whole block → slotCount block ≤ lowest (badRecord block) (slotCount block) → Readable block
   readable w h = record {
     whole = w;
     inputs = λ k l.
-        let good = not-false (recordFits block (recordAt k)) (lowest-passed (badRecord block) (slotCount block) k (omega arith)) in
         let at = recordAt k in
-        let shape = needed
-        (shapeFits (byteAt block at) (byteAt block (at + 1)) (byteAt block (at + 2)) (byteAt block (at + 3))) good (λ f. simp f) in
-        let few = few-inputs (byteAt block at) (byteAt block (at + 1)) (byteAt block (at + 2)) (byteAt block (at + 3)) shape in
-        let counted = ap (λ (s : Slot). length (s .inputs)) (slot-of block k l) ∙ length-inputs block at in
-        omega (arith, few, counted);
+        let few = few-inputs (byteAt block at) (byteAt block (at + 1)) (byteAt block (at + 2)) (byteAt block (at + 3)) (shaped h k l) in
+        omega (arith, few, ap (λ (s : Slot). length (s .inputs)) (slot-of block k l) ∙ length-inputs block at);
+    attributes = λ k l.
+        let at = recordAt k in
+        let few = few-attributes (byteAt block at) (byteAt block (at + 1)) (byteAt block (at + 2)) (byteAt block (at + 3)) (shaped h k l) in
+        omega (arith, few, ap (λ (s : Slot). length (s .attributes)) (slot-of block k l) ∙ length-attributes block at);
   }
 
   pub closed : Readable block → slotCount block ≤ lowest (badInputs (graphOf block)) (slotCount block) → Closed block

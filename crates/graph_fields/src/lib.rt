@@ -1,12 +1,16 @@
 // A graph block's fields by index, as fields of the graph for which the block stands.
 use definitions::HEADER_BYTES;
 use definitions::SLOT_BYTES;
+use fields::Integer;
 use fields::byte_at;
+use fields::i32_at;
 use fields::u16_at;
 ghost use mathlib.Core.Path.{_≡_};
 ghost use Prim.Native.Nat.{_<_, _≤_};
 ghost use lib.ListN.{length, getD};
-ghost use Rattle.definitions.specs.Graph.{headerBytes, inputLimit, unusedPlace, slotCount, outputCount, graphOf, slotOf, inputsOf, isVertex};
+ghost use Rattle.fields.specs.Integer.{integerOf};
+ghost use Rattle.definitions.specs.Fields.{signed};
+ghost use Rattle.definitions.specs.Graph.{headerBytes, inputLimit, attributeLimit, unusedPlace, slotCount, outputCount, graphOf, slotOf, inputsOf, isVertex};
 ghost use Rattle.graph_fields.specs.Readable.{Whole, Readable};
 
 // How many slots the header counts.
@@ -34,6 +38,15 @@ pub fn kind_of(graph: &[u8], k: usize) -> usize
     byte_at(graph, HEADER_BYTES + SLOT_BYTES * k)
 }
 
+// The operator of slot k.
+pub fn operator_of(graph: &[u8], k: usize) -> usize
+    requires { ⌜ Whole (now graph) ⌝ }
+    requires { ⌜ k < slotCount (now graph) ⌝ }
+    ensures { λ r. ⌜ (r ≡ slotOf (graphOf (now (graph .entry))) k .operator) × (r < 256) ⌝ }
+{
+    byte_at(graph, HEADER_BYTES + SLOT_BYTES * k + 1)
+}
+
 // How many inputs slot k has.
 pub fn input_count(graph: &[u8], k: usize) -> usize
     requires { ⌜ Readable (now graph) ⌝ }
@@ -51,6 +64,25 @@ pub fn input_at(graph: &[u8], k: usize, i: usize) -> usize
     ensures { λ r. ⌜ (r ≡ getD (inputsOf (graphOf (now (graph .entry))) k) i unusedPlace) × (r < 65536) ⌝ }
 {
     u16_at(graph, HEADER_BYTES + SLOT_BYTES * k + 4 + 2 * i)
+}
+
+// How many attributes slot k has.
+pub fn attribute_count(graph: &[u8], k: usize) -> usize
+    requires { ⌜ Readable (now graph) ⌝ }
+    requires { ⌜ k < slotCount (now graph) ⌝ }
+    ensures { λ r. ⌜ (r ≡ length (slotOf (graphOf (now (graph .entry))) k .attributes)) × (r ≤ attributeLimit) ⌝ }
+{
+    byte_at(graph, HEADER_BYTES + SLOT_BYTES * k + 3)
+}
+
+// The number in attribute place i of slot k, here counted from 0.
+pub fn attribute_at(graph: &[u8], k: usize, i: usize) -> Integer
+    requires { ⌜ Readable (now graph) ⌝ }
+    requires { ⌜ k < slotCount (now graph) ⌝ }
+    requires { ⌜ i < length (slotOf (graphOf (now graph)) k .attributes) ⌝ }
+    ensures { λ r. ⌜ integerOf r ≡ signed (getD (slotOf (graphOf (now (graph .entry))) k .attributes) i 0) ⌝ }
+{
+    i32_at(graph, HEADER_BYTES + SLOT_BYTES * k + 16 + 4 * i)
 }
 
 // What output place i names.

@@ -8,7 +8,7 @@ use Prim.Native.Nat.{ℕ, _+_, _*_, _<_, _≤_}
 use borrow.Author.Tests.{leb-true, leb-false}
 use lib.Dec.{leb}
 use lib.ListN.{length, getD, List·getD-eq-default}
-use Rattle.definitions.specs.Fields.{byteAt, u16At}
+use Rattle.definitions.specs.Fields.{byteAt, u16At, u32At}
 use Rattle.definitions.specs.Paths.{Reads}
 use Rattle.definitions.specs.Graph.{slotCount, outputCount, recordAt, Slot, Graph, emptySlot, slotFrom, graphOf, slotOf, inputsOf, isVertex}
 use Rattle.laws.proofs.Lists.{decided, true-not-false, length-tabulate, getD-tabulate}
@@ -67,3 +67,12 @@ module _ (block : List ℕ) where
   pub input-of : (at i d : ℕ) → i < byteAt block (at + 2) → getD (slotFrom block at .inputs) i d ≡ u16At block (at + 4 + 2 * i)
   unfolding slotFrom
   input-of at i d h = getD-tabulate (byteAt block (at + 2)) (λ j. u16At block (at + 4 + 2 * j)) i d h
+
+  pub length-attributes : (at : ℕ) → length (slotFrom block at .attributes) ≡ byteAt block (at + 3)
+  unfolding slotFrom
+  length-attributes at = length-tabulate (byteAt block (at + 3)) (λ i. u32At block (at + 16 + 4 * i))
+
+  pub attribute-of : (at i d : ℕ) → i < byteAt block (at + 3)
+      → getD (slotFrom block at .attributes) i d ≡ u32At block (at + 16 + 4 * i)
+  unfolding slotFrom
+  attribute-of at i d h = getD-tabulate (byteAt block (at + 3)) (λ j. u32At block (at + 16 + 4 * j)) i d h

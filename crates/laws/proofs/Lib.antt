@@ -4,6 +4,7 @@ pub mod Rule
 pub mod Operators
 pub mod Walks
 pub mod Builds
+pub mod Padded
 pub mod Ranges
 pub mod Reply
 pub mod Members

@@ -191,3 +191,15 @@ anyBelow-some p (suc n) h =
     let found = anyBelow-some p n below in
     (found .0, omega (arith, found .1), found .2))
     (decided (p n))
+
+-- ---- elements
+
+-- what stands for an element past the end does not matter within
+pub getD-any : {A : Type 0} (xs : List A) (i : ℕ) (d e : A) → i < length xs → getD xs i d ≡ getD xs i e
+getD-any [] i d e l = absurd (not-suc-le-zero l)
+getD-any (x ∷ xs) zero d e l = refl
+getD-any (x ∷ xs) (suc i) d e l = getD-any xs i d e (le-of-suc-le-suc l)
+
+pub length-none : {A : Type 0} (xs : List A) → length xs ≡ 0 → xs ≡ []
+length-none [] e = refl
+length-none (x ∷ xs) e = absurd (omega arith)

@@ -1,16 +1,18 @@
--- A list of faults is answered by done exactly where none of them holds.
+-- A list of faults is answered by done exactly where none of them holds, and a list of replies by its first refusal.
 -- Assumes nothing.
 use mathlib.Core.Path.{_≡_, refl}
 use mathlib.Core.Bool.{Bool, true, false}
-use mathlib.Core.List.{List, _∷_}
+use mathlib.Core.List.{List, [], _∷_}
 use mathlib.Core.Logic.{⊎-elim}
 use mathlib.Core.Option.{Option, none, some}
 use Prim.Native.Nat.{ℕ, _≤_}
 use native.Mathlib.Omega.{arith}
 use borrow.Author.Tests.{ltb-false}
 use lib.Dec.{ltb}
-use Rattle.definitions.specs.declared.Reply.the-variants.{Done}
-use Rattle.definitions.specs.Reply.{refused, flag, place, judged}
+use Rattle.definitions.specs.declared.Refusal.{Refusal}
+use Rattle.definitions.specs.declared.Reply.{Reply}
+use Rattle.definitions.specs.declared.Reply.the-variants.{Done, Refused}
+use Rattle.definitions.specs.Reply.{refused, flag, place, judged, firstRefusal}
 use Rattle.laws.proofs.Lists.{decided}
 
 pub flag-none : (b : Bool) → flag b ≡ none → b ≡ false
@@ -38,3 +40,26 @@ module _ (number : ℕ) where
   unfolding judged refused
   judged-rest none faults h = h
   judged-rest (some at) faults h = let z : _≡_ {A = ℕ} 0 1 = cc in absurd (omega arith)
+
+-- ---- the first refusal of a list of replies
+
+pub first-done : {reply : Reply} (replies : List Reply) → reply ≡ Done → firstRefusal (reply ∷ replies) ≡ firstRefusal replies
+unfolding firstRefusal
+first-done replies e = rw (e, firstRefusal)
+
+pub first-refused : {reply : Reply} (refusal : Refusal) (replies : List Reply) → reply ≡ Refused refusal
+    → firstRefusal (reply ∷ replies) ≡ Refused refusal
+unfolding firstRefusal
+first-refused refusal replies e = rw (e, firstRefusal)
+
+pub first-last : (reply : Reply) → firstRefusal (reply ∷ []) ≡ reply
+unfolding firstRefusal
+first-last Done = refl
+first-last (Refused refusal) = refl
+
+-- where no reply refuses, each is done
+pub first-all : (reply : Reply) (replies : List Reply) → firstRefusal (reply ∷ replies) ≡ Done
+    → (reply ≡ Done) × (firstRefusal replies ≡ Done)
+unfolding firstRefusal
+first-all Done replies h = (refl, h)
+first-all (Refused refusal) replies h = let z : _≡_ {A = ℕ} 0 1 = cc in absurd (omega arith)

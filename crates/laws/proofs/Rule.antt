@@ -11,7 +11,7 @@ use lib.ListN.{length, getD, List·getD-eq-default}
 use Rattle.definitions.specs.Lists.{allBelow}
 use Rattle.definitions.specs.Paths.{Reads}
 use Rattle.definitions.specs.Fields.{byteAt}
-use Rattle.definitions.specs.Rule.{sourceCount, targetCount, ruleOutputCount, vertexAt, Origin, Pattern, Rule, originOf, patternFrom, ruleOf, wildcard, sourceOf, targetOf, sourceInputs, ruleOutputPlacesFit, ruleHeaderFits, sourceInputsFit}
+use Rattle.definitions.specs.Rule.{sourceCount, targetCount, ruleOutputCount, vertexAt, Expression, Origin, Pattern, Rule, originOf, expressionOf, patternFrom, ruleOf, wildcard, sourceOf, targetOf, sourceInputs, ruleOutputPlacesFit, ruleHeaderFits, sourceInputsFit}
 use Rattle.laws.proofs.Lists.{decided, needed, length-tabulate, getD-tabulate, all-every, all-member, allBelow-at}
 
 -- past the last source vertex nothing is read
@@ -71,10 +71,25 @@ module _ (block : List ℕ) where
     unfolding patternFrom
     pattern-input-of at i d h = getD-tabulate (byteAt block (at + 2)) (λ k. naming (byteAt block (at + 4 + k))) i d h
 
+    pub length-pattern-attributes : (at : ℕ) → length (patternFrom naming block at .attributes) ≡ byteAt block (at + 3)
+    unfolding patternFrom
+    length-pattern-attributes at =
+        length-tabulate (byteAt block (at + 3)) (λ i. expressionOf block (byteAt block (at + 10 + i)))
+
+    pub pattern-attribute-of : (at i : ℕ) (d : Expression) → i < byteAt block (at + 3)
+        → getD (patternFrom naming block at .attributes) i d ≡ expressionOf block (byteAt block (at + 10 + i))
+    unfolding patternFrom
+    pattern-attribute-of at i d h =
+        getD-tabulate (byteAt block (at + 3)) (λ k. expressionOf block (byteAt block (at + 10 + k))) i d h
+
   -- the same, from the vertex's number to its bytes
   pub source-kind-at : (j : ℕ) → j < sourceCount block → sourceOf (ruleOf block) j .kind ≡ byteAt block (vertexAt j)
   unfolding patternFrom
   source-kind-at j h = ap (λ (p : Pattern ℕ). p .kind) (source-of j h)
+
+  pub source-operator-at : (j : ℕ) → j < sourceCount block → sourceOf (ruleOf block) j .operator ≡ byteAt block (vertexAt j + 1)
+  unfolding patternFrom
+  source-operator-at j h = ap (λ (p : Pattern ℕ). p .operator) (source-of j h)
 
   pub source-count-at : (j : ℕ) → j < sourceCount block → length (sourceInputs (ruleOf block) j) ≡ byteAt block (vertexAt j + 2)
   source-count-at j h = ap (λ (p : Pattern ℕ). length (p .inputs)) (source-of j h) ∙ length-pattern-inputs (λ p. p) (vertexAt j)
@@ -84,6 +99,17 @@ module _ (block : List ℕ) where
   source-input-at j i d h l =
       ap (λ (p : Pattern ℕ). getD (p .inputs) i d) (source-of j h)
       ∙ pattern-input-of (λ p. p) (vertexAt j) i d (rw (source-count-at j h) at l)
+
+  pub source-attributes-at : (j : ℕ) → j < sourceCount block
+      → length (sourceOf (ruleOf block) j .attributes) ≡ byteAt block (vertexAt j + 3)
+  source-attributes-at j h =
+      ap (λ (p : Pattern ℕ). length (p .attributes)) (source-of j h) ∙ length-pattern-attributes (λ p. p) (vertexAt j)
+
+  pub source-attribute-at : (j i : ℕ) (d : Expression) → j < sourceCount block → i < length (sourceOf (ruleOf block) j .attributes)
+      → getD (sourceOf (ruleOf block) j .attributes) i d ≡ expressionOf block (byteAt block (vertexAt j + 10 + i))
+  source-attribute-at j i d h l =
+      ap (λ (p : Pattern ℕ). getD (p .attributes) i d) (source-of j h)
+      ∙ pattern-attribute-of (λ p. p) (vertexAt j) i d (rw (source-attributes-at j h) at l)
 
   pub target-kind-at : (t : ℕ) → t < targetCount block
       → targetOf (ruleOf block) t .kind ≡ byteAt block (vertexAt (sourceCount block + t))

@@ -5,10 +5,14 @@ use definitions::Reply;
 ghost use mathlib.Core.Path.{_≡_};
 ghost use Rattle.definitions.specs.Reply as answer;
 
-// The reply table's numbers for bad blocks.
+// The reply table's numbers.
+pub const BAD_MAP_LENGTH: u8 = 1;
+
 pub const BAD_GRAPH: u8 = 2;
 
 pub const BAD_RULE: u8 = 3;
+
+pub const NO_MATCH: u8 = 4;
 
 // The refusal with this number. No request names a place yet.
 pub fn refuse(number: u8) -> Reply

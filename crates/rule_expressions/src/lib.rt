@@ -10,6 +10,9 @@ use fields::is_filled;
 use rule_fields::node_count;
 use rule_fields::source_count;
 use rule_fields::target_count;
+use rule_nodes::node_at;
+use rule_nodes::node_byte;
+use rule_nodes::node_form;
 ghost use mathlib.Core.Path.{_≡_};
 ghost use mathlib.Core.Bool.{true, not, _&&_};
 ghost use Prim.Native.Nat.{ℕ, _+_, _<_, _≤_, max};
@@ -23,37 +26,6 @@ ghost use Rattle.rule_fields.specs.Readable.{Whole, Readable};
 ghost use Rattle.rule_expressions.specs.Access.{topAccess, topFrom};
 
 // ---- nodes
-
-// Where node k starts.
-fn node_at(rule: &[u8], k: usize) -> usize
-    requires { ⌜ Whole (now rule) ⌝ }
-    requires { ⌜ k < nodeCount (now rule) ⌝ }
-    ensures { λ r. ⌜ (r ≡ nodeAt (now (rule .entry)) k) × (r + nodeBytes ≤ length (now (rule .entry))) ⌝ }
-{
-    let vertices = source_count(rule) + target_count(rule);
-    RULE_HEADER_BYTES + PATTERN_BYTES * vertices + NODE_BYTES * k
-}
-
-// The form of node k, its first byte.
-fn node_form(rule: &[u8], k: usize) -> usize
-    requires { ⌜ Whole (now rule) ⌝ }
-    requires { ⌜ k < nodeCount (now rule) ⌝ }
-    ensures { λ r. ⌜ (r ≡ nodeForm (now (rule .entry)) k) × (r < 256) ⌝ }
-{
-    let at = node_at(rule, k);
-    byte_at(rule, at)
-}
-
-// Byte i of node k: after the form come the left and the right operand, a zero byte, and the number.
-fn node_byte(rule: &[u8], k: usize, i: usize) -> usize
-    requires { ⌜ Whole (now rule) ⌝ }
-    requires { ⌜ k < nodeCount (now rule) ⌝ }
-    requires { ⌜ i < nodeBytes ⌝ }
-    ensures { λ r. ⌜ (r ≡ byteAt (now (rule .entry)) (nodeAt (now (rule .entry)) k + i)) × (r < 256) ⌝ }
-{
-    let at = node_at(rule, k);
-    byte_at(rule, at + i)
-}
 
 // Whether node k leaves its number zero.
 fn number_unused(rule: &[u8], k: usize) -> bool

@@ -3,10 +3,11 @@ use definitions::PATTERN_BYTES;
 use definitions::RULE_HEADER_BYTES;
 use fields::byte_at;
 ghost use mathlib.Core.Path.{_≡_};
-ghost use Prim.Native.Nat.{_<_, _≤_};
+ghost use Prim.Native.Nat.{_+_, _<_, _≤_};
 ghost use lib.ListN.{length, getD};
-ghost use Rattle.definitions.specs.Graph.{inputLimit};
-ghost use Rattle.definitions.specs.Rule.{ruleHeaderBytes, sourceCount, targetCount, ruleOutputCount, nodeCount, made, originOf, ruleOf, sourceOf, targetOf, sourceInputs, isRuleInput};
+ghost use Rattle.definitions.specs.Fields.{byteAt};
+ghost use Rattle.definitions.specs.Graph.{inputLimit, attributeLimit};
+ghost use Rattle.definitions.specs.Rule.{ruleHeaderBytes, sourceCount, targetCount, ruleOutputCount, nodeCount, vertexAt, anything, made, originOf, expressionOf, ruleOf, sourceOf, targetOf, sourceInputs, isRuleInput};
 ghost use Rattle.rule_fields.specs.Readable.{Whole, Readable};
 
 // How many source vertices the header counts.
@@ -50,6 +51,15 @@ pub fn source_kind(rule: &[u8], j: usize) -> usize
     byte_at(rule, RULE_HEADER_BYTES + PATTERN_BYTES * j)
 }
 
+// The operator of source vertex j.
+pub fn source_operator(rule: &[u8], j: usize) -> usize
+    requires { ⌜ Whole (now rule) ⌝ }
+    requires { ⌜ j < sourceCount (now rule) ⌝ }
+    ensures { λ r. ⌜ (r ≡ sourceOf (ruleOf (now (rule .entry))) j .operator) × (r < 256) ⌝ }
+{
+    byte_at(rule, RULE_HEADER_BYTES + PATTERN_BYTES * j + 1)
+}
+
 // How many inputs source vertex j has.
 pub fn source_input_count(rule: &[u8], j: usize) -> usize
     requires { ⌜ Readable (now rule) ⌝ }
@@ -67,6 +77,26 @@ pub fn source_input(rule: &[u8], j: usize, i: usize) -> usize
     ensures { λ r. ⌜ (r ≡ getD (sourceInputs (ruleOf (now (rule .entry))) j) i 255) × (r < 256) ⌝ }
 {
     byte_at(rule, RULE_HEADER_BYTES + PATTERN_BYTES * j + 4 + i)
+}
+
+// How many attributes source vertex j has.
+pub fn source_attribute_count(rule: &[u8], j: usize) -> usize
+    requires { ⌜ Readable (now rule) ⌝ }
+    requires { ⌜ j < sourceCount (now rule) ⌝ }
+    ensures { λ r. ⌜ (r ≡ length (sourceOf (ruleOf (now (rule .entry))) j .attributes)) × (r ≤ attributeLimit) ⌝ }
+{
+    byte_at(rule, RULE_HEADER_BYTES + PATTERN_BYTES * j + 3)
+}
+
+// The node of attribute i of source vertex j, here counted from 0.
+pub fn source_attribute(rule: &[u8], j: usize, i: usize) -> usize
+    requires { ⌜ Readable (now rule) ⌝ }
+    requires { ⌜ j < sourceCount (now rule) ⌝ }
+    requires { ⌜ i < length (sourceOf (ruleOf (now rule)) j .attributes) ⌝ }
+    ensures { λ r. ⌜ expressionOf (now (rule .entry)) r ≡ getD (sourceOf (ruleOf (now (rule .entry))) j .attributes) i anything ⌝ }
+    ensures { λ r. ⌜ r ≡ byteAt (now (rule .entry)) (vertexAt j + 10 + i) ⌝ }
+{
+    byte_at(rule, RULE_HEADER_BYTES + PATTERN_BYTES * j + 10 + i)
 }
 
 // The kind of target vertex t.

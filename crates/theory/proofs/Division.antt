@@ -11,7 +11,7 @@ use Rattle.definitions.specs.Attributes.{quotient}
 -- ---- sums and differences of numbers with a sign
 
 -- c - k, where that is a
-pos-minus : (c k a : ℕ) → c ≡ a + k → pos a ≡ pos c +ℤ negℤ (pos k)
+pub pos-minus : (c k a : ℕ) → c ≡ a + k → pos a ≡ pos c +ℤ negℤ (pos k)
 pos-minus c zero a e = ap pos (omega arith)
 pos-minus c (suc k) a e =
     let test = le-ltb c (suc k) (omega arith) in
@@ -19,7 +19,7 @@ pos-minus c (suc k) a e =
     simp (test, rest)
 
 -- -c + k, where that is -(a + 1)
-neg-plus : (c k a : ℕ) → c ≡ suc a + k → negsuc a ≡ negℤ (pos c) +ℤ pos k
+pub neg-plus : (c k a : ℕ) → c ≡ suc a + k → negsuc a ≡ negℤ (pos c) +ℤ pos k
 neg-plus zero k a e = absurd (omega arith)
 neg-plus (suc c) k a e =
     let test = lt-ltb k (suc c) (omega arith) in
@@ -27,11 +27,11 @@ neg-plus (suc c) k a e =
     simp (test, rest)
 
 -- -c - k, where that is -(a + 1)
-neg-minus : (c k a : ℕ) → suc a ≡ c + k → negsuc a ≡ negℤ (pos c) +ℤ negℤ (pos k)
+pub neg-minus : (c k a : ℕ) → suc a ≡ c + k → negsuc a ≡ negℤ (pos c) +ℤ negℤ (pos k)
 neg-minus c k a e = ap (λ (b : ℕ). negℤ (pos b)) e ∙ negℤ-+ℤ (pos c) (pos k)
 
 -- -(n + 1) times -q
-neg-times : (n q : ℕ) → negsuc n *ℤ negℤ (pos q) ≡ pos (suc n * q)
+pub neg-times : (n q : ℕ) → negsuc n *ℤ negℤ (pos q) ≡ pos (suc n * q)
 neg-times n zero = ap (λ (b : ℕ). negℤ (pos b)) none ∙ ap pos (sym none)
   where
     none : suc n * zero ≡ zero
@@ -42,7 +42,7 @@ neg-times n (suc q) = refl
 
 -- By a divisor above zero, what is left is at least 0 and less than the divisor: the quotient is the greatest whole number whose
 -- product with the divisor is at most x.
-pub rounds-down-positive : (x : ℤ) (n : ℕ) → (k : ℕ) × (k < suc n) × (x ≡ pos (suc n) *ℤ quotient x (pos (suc n)) +ℤ pos k)
+unfoldable pub rounds-down-positive : (x : ℤ) (n : ℕ) → (k : ℕ) × (k < suc n) × (x ≡ pos (suc n) *ℤ quotient x (pos (suc n)) +ℤ pos k)
 unfolding quotient
 rounds-down-positive (pos a) n = (a % suc n, mod-lt a (omega arith), ap pos (sym (div-add-mod a (suc n))))
 rounds-down-positive (negsuc a) n =
@@ -53,7 +53,7 @@ rounds-down-positive (negsuc a) n =
     )
 
 -- By a divisor below zero, what is left is at most 0 and greater than the divisor: this quotient is rounded down too.
-pub rounds-down-negative : (x : ℤ) (n : ℕ) → (k : ℕ) × (k < suc n) × (x ≡ negsuc n *ℤ quotient x (negsuc n) +ℤ negℤ (pos k))
+unfoldable pub rounds-down-negative : (x : ℤ) (n : ℕ) → (k : ℕ) × (k < suc n) × (x ≡ negsuc n *ℤ quotient x (negsuc n) +ℤ negℤ (pos k))
 unfolding quotient
 rounds-down-negative (pos a) n =
     let less = mod-lt (a + n) {m = suc n} (omega arith) in (
@@ -70,17 +70,17 @@ rounds-down-negative (negsuc a) n = (
 
 -- ---- the remainder is what that leaves
 
-leaves : (x c r : ℤ) → x ≡ c +ℤ r → x -ℤ c ≡ r
+pub leaves : (x c r : ℤ) → x ≡ c +ℤ r → x -ℤ c ≡ r
 leaves x c r e = ap (λ (z : ℤ). z -ℤ c) (e ∙ +ℤ-comm c r) ∙ +ℤ-negℤ-cancel r c
 
 -- By a divisor above zero, the number that `operate` takes for the remainder is at least 0 and less than the divisor.
-pub remainder-positive : (x : ℤ) (n : ℕ) → (k : ℕ) × (k < suc n) × (x -ℤ pos (suc n) *ℤ quotient x (pos (suc n)) ≡ pos k)
+unfoldable pub remainder-positive : (x : ℤ) (n : ℕ) → (k : ℕ) × (k < suc n) × (x -ℤ pos (suc n) *ℤ quotient x (pos (suc n)) ≡ pos k)
 remainder-positive x n =
     let d = rounds-down-positive x n in
     (d .0, d .1, leaves x (pos (suc n) *ℤ quotient x (pos (suc n))) (pos (d .0)) (d .2))
 
 -- By a divisor below zero it is at most 0 and greater than the divisor.
-pub remainder-negative : (x : ℤ) (n : ℕ) → (k : ℕ) × (k < suc n) × (x -ℤ negsuc n *ℤ quotient x (negsuc n) ≡ negℤ (pos k))
+unfoldable pub remainder-negative : (x : ℤ) (n : ℕ) → (k : ℕ) × (k < suc n) × (x -ℤ negsuc n *ℤ quotient x (negsuc n) ≡ negℤ (pos k))
 remainder-negative x n =
     let d = rounds-down-negative x n in
     (d .0, d .1, leaves x (negsuc n *ℤ quotient x (negsuc n)) (negℤ (pos (d .0))) (d .2))

@@ -19,7 +19,7 @@ use Rattle.definitions.specs.Graph.{unusedPlace, Graph, inputsOf}
 use Rattle.definitions.specs.Paths.{Reads}
 use Rattle.definitions.specs.Rule.{sourceCount, ruleOutputCount, vertexAt, Pattern, Rule, ruleOf, wildcard, sourceOf, sourceInputs, ruleSizesFit, ruleHeaderFits, patternFits, visit, traversal, SoundRule}
 use Rattle.definitions.specs.Match.{imageOf, Match, fromReader, imagesFrom, imagesFor}
-use Rattle.laws.proofs.Lists.{decided, true-not-false, needed}
+use Rattle.laws.proofs.Lists.{decided, true-not-false, needed, length-none}
 use Rattle.laws.proofs.Rule.{source-reader, length-source, length-source-outputs, source-kind-at, source-count-at, outputs-below, inputs-lower}
 use Rattle.laws.proofs.Members.{member-mem, mem-member, position-image, mem-range}
 
@@ -169,10 +169,6 @@ unfolding shapeFits rowOf kinds
 no-inputs operator n m h =
     let most : n ≤ 0 = leb-true n 0 (needed (leb n 0) h (λ f. simp (f, and-false))) in
     omega arith
-
-length-none : {A : Type 0} (xs : List A) → length xs ≡ 0 → xs ≡ []
-length-none [] e = refl
-length-none (x ∷ xs) e = absurd (omega arith)
 
 module _ (block : List ℕ) (s : SoundRule block) where
   sound-plain : (j : ℕ) → sourceOf (ruleOf block) j .kind ≡ kindEmpty → sourceInputs (ruleOf block) j ≡ []

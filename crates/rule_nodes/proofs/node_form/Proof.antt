@@ -4,8 +4,8 @@ use mathlib.Core.Path.{ap, _∙_}
 use Prim.Native.Nat.{ℕ}
 use Rattle.definitions.specs.Fields.{byteAt}
 use borrow.Author.Needs.{needs}
-use Rattle.rule_expressions.proofs.node_form.Statement.{statement}
-use Rattle.rule_expressions.proofs.node_form.Tie as tie
+use Rattle.rule_nodes.proofs.node_form.Statement.{statement}
+use Rattle.rule_nodes.proofs.node_form.Tie as tie
 
 node-at-requires : tie.Need-node-at-requires
 node-at-requires c κs = search needs
