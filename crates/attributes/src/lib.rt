@@ -1,0 +1,224 @@
+// What attribute expressions give for a map, and whether the attributes of a source vertex agree with those of a slot.
+use definitions::NODE_LIMIT;
+use definitions::SIDE_LIMIT;
+use fields::widened;
+use graph_fields::attribute_at;
+use graph_fields::attribute_count;
+use graph_fields::slot_count;
+use numbers::Value;
+use numbers::combine;
+use numbers::gives;
+use numbers::number;
+use rule_fields::source_attribute;
+use rule_fields::source_attribute_count;
+use rule_nodes::node_byte;
+use rule_nodes::node_form;
+use rule_nodes::node_number;
+ghost use mathlib.Core.Path.{_≡_};
+ghost use Prim.Native.Nat.{_<_, _≤_};
+ghost use lib.ListN.{length, getD};
+ghost use Rattle.definitions.specs.Fields.{signed};
+ghost use Rattle.definitions.specs.Graph.{slotCount, graphOf, slotOf};
+ghost use Rattle.definitions.specs.Rule.{sideLimit, sourceCount, nodeCount, nodeForm, anything, ruleOf, sourceOf};
+ghost use Rattle.definitions.specs.Attributes.{agrees};
+ghost use Rattle.definitions.specs.Match.{readAttribute};
+ghost use Rattle.numbers.specs.Value.{valueOf};
+ghost use Rattle.graph_fields.specs.Readable as graphs;
+ghost use Rattle.rule_fields.specs.Readable.{Whole, Readable};
+ghost use Rattle.attributes.specs.Evaluable.{Evaluable, agreeFirst};
+ghost use Rattle.attributes.specs.Memo.{nodeResult, stateOf, magnitudeOf, remembered, Memo};
+
+// ---- results
+
+// Attribute place b, counted from 1, of the image of source vertex v; past the image's last there is none.
+fn read_attribute(graph: &[u8], images: &[u16; SIDE_LIMIT], v: usize, b: usize) -> Value
+    requires { ⌜ graphs.Readable (now graph) ⌝ }
+    requires { ⌜ length (now images) ≡ sideLimit ⌝ }
+    requires { ⌜ v < sideLimit ⌝ }
+    ensures { λ r. ⌜ valueOf r ≡ readAttribute (graphOf (now (graph .entry))) (now (images .entry)) v b ⌝ }
+{
+    let image = widened(images[v]);
+    if slot_count(graph) <= image {
+        return Value::Nothing;
+    }
+    if b < 1 {
+        return Value::Nothing;
+    }
+    if attribute_count(graph, image) < b {
+        return Value::Nothing;
+    }
+    number(attribute_at(graph, image, b - 1))
+}
+
+// What node k gives where it is no operation.
+fn leaf_value(graph: &[u8], rule: &[u8], images: &[u16; SIDE_LIMIT], k: usize) -> Value
+    requires { ⌜ graphs.Readable (now graph) ⌝ }
+    requires { ⌜ Whole (now rule) ⌝ }
+    requires { ⌜ Evaluable (now rule) ⌝ }
+    requires { ⌜ length (now images) ≡ sideLimit ⌝ }
+    requires { ⌜ k < nodeCount (now rule) ⌝ }
+    requires { ⌜ nodeForm (now rule) k < 3 ⌝ }
+    ensures { λ r. ⌜ valueOf r ≡ nodeResult (now (graph .entry)) (now (rule .entry)) (now (images .entry)) k ⌝ }
+{
+    let form = node_form(rule, k);
+    if form == 0 {
+        return Value::Nothing;
+    }
+    if form == 1 {
+        return number(node_number(rule, k));
+    }
+    let vertex = node_byte(rule, k, 1);
+    let place = node_byte(rule, k, 2);
+    read_attribute(graph, images, vertex, place)
+}
+
+// ---- results that are known
+
+// The result with that state and magnitude, which is known.
+fn recalled(state: u8, magnitude: u64) -> Value
+    ensures { λ r. ⌜ valueOf r ≡ remembered state magnitude ⌝ }
+{
+    if state == 1 {
+        return Value::Nothing;
+    }
+    if state == 2 {
+        return Value::Plus(magnitude);
+    }
+    Value::Minus(magnitude)
+}
+
+fn state_of(value: Value) -> u8
+    ensures { λ r. ⌜ r ≡ stateOf value ⌝ }
+{
+    match value {
+        Value::Nothing => 1,
+        Value::Plus(_) => 2,
+        Value::Minus(_) => 3,
+    }
+}
+
+fn magnitude_of(value: Value) -> u64
+    ensures { λ r. ⌜ r ≡ magnitudeOf value ⌝ }
+{
+    match value {
+        Value::Nothing => 0,
+        Value::Plus(n) => n,
+        Value::Minus(n) => n,
+    }
+}
+
+// ---- expressions
+
+// What node k gives. An operation's result is remembered, so that each operation is worked out once, however many nodes name it:
+// without that, the time could double with every node. A state of 0 says that the node's result is not known.
+fn node_value(
+    graph: &[u8],
+    rule: &[u8],
+    images: &[u16; SIDE_LIMIT],
+    k: usize,
+    states: &mut [u8; NODE_LIMIT],
+    magnitudes: &mut [u64; NODE_LIMIT],
+) -> Value
+    requires { ⌜ graphs.Readable (now graph) ⌝ }
+    requires { ⌜ Whole (now rule) ⌝ }
+    requires { ⌜ Evaluable (now rule) ⌝ }
+    requires { ⌜ length (now images) ≡ sideLimit ⌝ }
+    requires { ⌜ k < nodeCount (now rule) ⌝ }
+    requires { ⌜ Memo (now graph) (now rule) (now images) (now states) (now magnitudes) ⌝ }
+    ensures { λ r. ⌜ valueOf r ≡ nodeResult (now (graph .entry)) (now (rule .entry)) (now (images .entry)) k ⌝ }
+    ensures { λ r. ⌜ Memo (now (graph .entry)) (now (rule .entry)) (now (images .entry)) (now (states .exit)) (now (magnitudes .exit)) ⌝ }
+{
+    if states[k] != 0 {
+        return recalled(states[k], magnitudes[k]);
+    }
+    let form = node_form(rule, k);
+    if form < 3 {
+        return leaf_value(graph, rule, images, k);
+    }
+    let left = node_byte(rule, k, 1);
+    let right = node_byte(rule, k, 2);
+    let first = node_value(graph, rule, images, left, states, magnitudes);
+    let second = node_value(graph, rule, images, right, states, magnitudes);
+    let value = combine(form, first, second);
+    states[k] = state_of(value);
+    magnitudes[k] = magnitude_of(value);
+    value
+}
+
+// What node k gives where it is an operation: nothing is known before.
+fn operation_value(graph: &[u8], rule: &[u8], images: &[u16; SIDE_LIMIT], k: usize) -> Value
+    requires { ⌜ graphs.Readable (now graph) ⌝ }
+    requires { ⌜ Whole (now rule) ⌝ }
+    requires { ⌜ Evaluable (now rule) ⌝ }
+    requires { ⌜ length (now images) ≡ sideLimit ⌝ }
+    requires { ⌜ k < nodeCount (now rule) ⌝ }
+    ensures { λ r. ⌜ valueOf r ≡ nodeResult (now (graph .entry)) (now (rule .entry)) (now (images .entry)) k ⌝ }
+{
+    let mut states = [0u8; NODE_LIMIT];
+    let mut magnitudes = [0u64; NODE_LIMIT];
+    node_value(graph, rule, images, k, &mut states, &mut magnitudes)
+}
+
+// ---- attributes
+
+// Whether attribute i of source vertex j agrees with attribute i of slot v. Only an operation needs a memo.
+fn attribute_agrees(
+    graph: &[u8],
+    rule: &[u8],
+    images: &[u16; SIDE_LIMIT],
+    j: usize,
+    i: usize,
+    v: usize,
+) -> bool
+    requires { ⌜ graphs.Readable (now graph) ⌝ }
+    requires { ⌜ Readable (now rule) ⌝ }
+    requires { ⌜ Evaluable (now rule) ⌝ }
+    requires { ⌜ length (now images) ≡ sideLimit ⌝ }
+    requires { ⌜ j < sourceCount (now rule) ⌝ }
+    requires { ⌜ i < length (sourceOf (ruleOf (now rule)) j .attributes) ⌝ }
+    requires { ⌜ v < slotCount (now graph) ⌝ }
+    requires { ⌜ i < length (slotOf (graphOf (now graph)) v .attributes) ⌝ }
+    ensures { λ r. ⌜ r ≡ agrees (readAttribute (graphOf (now (graph .entry))) (now (images .entry)))
+        (getD (sourceOf (ruleOf (now (rule .entry))) j .attributes) i anything)
+        (signed (getD (slotOf (graphOf (now (graph .entry))) v .attributes) i 0)) ⌝ }
+{
+    let k = source_attribute(rule, j, i);
+    let form = node_form(rule, k);
+    if form == 0 {
+        return true;
+    }
+    let found = attribute_at(graph, v, i);
+    if form < 3 {
+        return gives(leaf_value(graph, rule, images, k), found);
+    }
+    gives(operation_value(graph, rule, images, k), found)
+}
+
+// Whether the attributes of source vertex j agree with those of slot v, as many as j has.
+pub fn attributes_agree(
+    graph: &[u8],
+    rule: &[u8],
+    images: &[u16; SIDE_LIMIT],
+    j: usize,
+    v: usize,
+) -> bool
+    requires { ⌜ graphs.Readable (now graph) ⌝ }
+    requires { ⌜ Readable (now rule) ⌝ }
+    requires { ⌜ Evaluable (now rule) ⌝ }
+    requires { ⌜ length (now images) ≡ sideLimit ⌝ }
+    requires { ⌜ j < sourceCount (now rule) ⌝ }
+    requires { ⌜ v < slotCount (now graph) ⌝ }
+    requires { ⌜ length (sourceOf (ruleOf (now rule)) j .attributes) ≤ length (slotOf (graphOf (now graph)) v .attributes) ⌝ }
+    ensures { λ r. ⌜ r ≡ agreeFirst (readAttribute (graphOf (now (graph .entry))) (now (images .entry)))
+        (sourceOf (ruleOf (now (rule .entry))) j .attributes) (slotOf (graphOf (now (graph .entry))) v .attributes) ⌝ }
+{
+    let count = source_attribute_count(rule, j);
+    let mut i = 0;
+    while i < count {
+        if !attribute_agrees(graph, rule, images, j, i, v) {
+            return false;
+        }
+        i += 1;
+    }
+    true
+}
