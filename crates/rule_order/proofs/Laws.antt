@@ -61,11 +61,11 @@ module _ (r : Rule) where
 
   -- ---- one vertex
 
-  passed : (d n v : ℕ) → v < n → visit r (suc d) (range 0 n) v ≡ range 0 n
+  pub passed : (d n v : ℕ) → v < n → visit r (suc d) (range 0 n) v ≡ range 0 n
   unfolding visit
   passed d n v h = rw (visited v n h)
 
-  entered : (d n v : ℕ) → n ≤ v → visit r (suc d) (range 0 n) v ≡ foldl (visit r d) (range 0 n) (sourceInputs r v) ++ v ∷ []
+  pub entered : (d n v : ℕ) → n ≤ v → visit r (suc d) (range 0 n) v ≡ foldl (visit r d) (range 0 n) (sourceInputs r v) ++ v ∷ []
   unfolding visit
   entered d n v h = rw (unvisited v n h)
 

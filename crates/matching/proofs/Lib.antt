@@ -1,0 +1,3 @@
+pub mod Candidates
+pub mod Maps
+pub mod Steps

@@ -1,0 +1,80 @@
+-- A map that gains one image, or a reason why no match that has these images sends j to v.
+-- Assumes nothing.
+use mathlib.Core.Path.{sym, _∙_}
+use Prim.Native.Nat.{_<_}
+use native.Mathlib.Omega.{arith}
+use borrow.Author.Needs.{needs}
+use borrow.Author.Tests.{not-true, not-false}
+use lib.ListN.{length}
+use Rattle.definitions.specs.Graph.{graphOf}
+use Rattle.definitions.specs.Rule.{ruleOf}
+use Rattle.laws.proofs.Rule.{length-source}
+use Rattle.matching.proofs.Candidates.{Formed, formed, candidate-attributes}
+use Rattle.matching.proofs.Maps.{settled}
+use Rattle.matching.proofs.Steps.{is-taken, disagree}
+use Rattle.matching.proofs.settle.Statement.{statement}
+use Rattle.matching.proofs.settle.Tie as tie
+
+well : (s : tie.Start) → Formed (ruleOf (s .args .rule .now))
+well s = formed (s .args .rule .now) (s .pre .1 .0)
+
+inside : (s : tie.Start) → s .args .j < length (ruleOf (s .args .rule .now) .source)
+inside s = rw (length-source (s .args .rule .now)) (s .pre .1 .1 .0)
+
+is-taken-requires : tie.Need-is-taken-requires
+is-taken-requires c κs = search needs
+
+returns : tie.Need-returns
+returns c =
+    let s = c .before .before .before .before .before in
+    is-taken (graphOf (s .args .graph .now)) (ruleOf (s .args .rule .now)) (well s) (s .args .j) (s .args .v) (inside s)
+    (sym (c .before .is-taken .ensures) ∙ c .if1 .taken)
+
+attributes-agree-requires : tie.Need-attributes-agree-requires
+attributes-agree-requires c κs =
+    let s = c .before .before .before .before .before .before in
+    let m = s .pre .1 .0 in
+    let fit = candidate-attributes (graphOf (s .args .graph .now)) (ruleOf (s .args .rule .now)) (well s) (s .args .j) (s .args .v)
+    (inside s) (s .pre .1 .1 .1 .1 .0) in
+    (s .pre .0, (m .readable, (m .evaluable, (s .pre .1 .1 .1 .1 .1 .0 .size, (s .pre .1 .1 .0, (s .pre .1 .1 .1 .0, fit))))))
+
+returns-2 : tie.Need-returns-2
+returns-2 c =
+    let s = c .before .before .before .before .before .before .before .before in
+    disagree (graphOf (s .args .graph .now)) (ruleOf (s .args .rule .now)) (well s) (s .args .j) (s .args .v) (inside s)
+    (sym (c .before .attributes-agree .ensures) ∙ not-true _ (c .if2 .taken))
+
+cast-made : tie.Need-cast-made
+cast-made c = search needs
+
+mul-made : tie.Need-mul-made
+mul-made c = search needs
+
+array-write-made : tie.Need-array-write-made
+array-write-made c = search needs
+
+add-t17 : tie.Need-add-t17
+add-t17 c = search needs
+
+returns-3 : tie.Need-returns-3
+returns-3 c =
+    let t = c .before .before .before in
+    let s = t .before .before .before .before .before in
+    settled (graphOf (s .args .graph .now)) (ruleOf (s .args .rule .now)) (well s) (s .args .j) (s .args .v) (s .args .t5) (inside s)
+    (omega (arith, s .pre .1 .1 .0, s .pre .1 .0 .readable .whole .source)) (s .pre .1 .1 .1 .1 .1 .0) (s .pre .1 .1 .1 .1 .0)
+    (sym (t .before .is-taken .ensures) ∙ t .if1 .left) (s .pre .1 .1 .1 .1 .1 .1)
+    (sym (c .before .attributes-agree .ensures) ∙ not-false _ (c .if2 .left))
+
+pub settle-spec : {M : Type 1} → statement M
+settle-spec =
+    tie.close
+    (tie.spec
+    is-taken-requires
+    returns
+    attributes-agree-requires
+    returns-2
+    cast-made
+    mul-made
+    array-write-made
+    add-t17
+    returns-3)

@@ -1,0 +1,3 @@
+pub mod Candidate
+pub mod Partial
+pub mod Setting

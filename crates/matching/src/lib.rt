@@ -1,0 +1,275 @@
+// Matching a source vertex with a slot. The traversal that put the source vertices in order is followed: inputs first, left to right,
+// each vertex once, so the images found so far are those of the first `next` source vertices.
+use attributes::attributes_agree;
+use definitions::SIDE_LIMIT;
+use definitions::SLOT_LIMIT;
+use graph_fields::attribute_count;
+use graph_fields::input_at;
+use graph_fields::input_count;
+use graph_fields::kind_of;
+use graph_fields::operator_of;
+use rule_fields::source_attribute_count;
+use rule_fields::source_input;
+use rule_fields::source_input_count;
+use rule_fields::source_kind;
+use rule_fields::source_operator;
+ghost use mathlib.Core.Path.{_≡_};
+ghost use mathlib.Core.Bool.{true};
+ghost use mathlib.Core.List.{[], _∷_};
+ghost use Prim.Native.Nat.{ℕ, suc, _<_, _≤_, max};
+ghost use lib.Dec.{eqb};
+ghost use lib.ListN.{length, drop};
+ghost use Rattle.definitions.specs.Lists.{anyBelow};
+ghost use Rattle.definitions.specs.Graph.{unusedPlace, slotCount, graphOf, slotOf, inputsOf};
+ghost use Rattle.definitions.specs.Rule.{sideLimit, sourceCount, ruleOf, sourceOf, sourceInputs};
+ghost use Rattle.definitions.specs.Match.{imageOf};
+ghost use Rattle.graph_fields.specs.Readable as table;
+ghost use Rattle.rule_fields.specs.Readable as pattern;
+ghost use Rattle.rule_order.specs.InOrder.{InOrder, visitedAfter};
+ghost use Rattle.matching.specs.Candidate.{slotHead, patternHead, headFits, usesFit, isCandidate};
+ghost use Rattle.matching.specs.Partial.{Partial, Sends, SendsInputs, Step};
+ghost use Rattle.matching.specs.Setting.{Matchable, Setting};
+
+// What a record says of itself in four numbers. A look at these is cheap, and turns away most candidates.
+pub struct Head {
+    pub kind: usize,
+    pub operator: usize,
+    pub inputs: usize,
+    pub attributes: usize,
+}
+
+// The images of the first `next` source vertices, where `ok`; from there on stands 65535.
+pub struct Found {
+    pub ok: bool,
+    pub next: usize,
+    pub images: [u16; SIDE_LIMIT],
+}
+
+// ---- the look
+
+fn slot_head(graph: &[u8], v: usize) -> Head
+    requires { ⌜ table.Readable (now graph) ⌝ }
+    requires { ⌜ v < slotCount (now graph) ⌝ }
+    ensures { λ r. ⌜ r ≡ slotHead (slotOf (graphOf (now (graph .entry))) v) ⌝ }
+{
+    Head {
+        kind: kind_of(graph, v),
+        operator: operator_of(graph, v),
+        inputs: input_count(graph, v),
+        attributes: attribute_count(graph, v),
+    }
+}
+
+fn pattern_head(rule: &[u8], j: usize) -> Head
+    requires { ⌜ pattern.Readable (now rule) ⌝ }
+    requires { ⌜ j < sourceCount (now rule) ⌝ }
+    ensures { λ r. ⌜ r ≡ patternHead (sourceOf (ruleOf (now (rule .entry))) j) ⌝ }
+{
+    Head {
+        kind: source_kind(rule, j),
+        operator: source_operator(rule, j),
+        inputs: source_input_count(rule, j),
+        attributes: source_attribute_count(rule, j),
+    }
+}
+
+// The look: it takes nothing but these four numbers of each record. A wildcard, of kind 0, takes any slot that is not Empty.
+pub fn head_fits(pattern: Head, slot: Head) -> bool
+    ensures { λ r. ⌜ r ≡ headFits pattern slot ⌝ }
+{
+    if pattern.kind == 0 {
+        return slot.kind != 0;
+    }
+    if slot.kind != pattern.kind {
+        return false;
+    }
+    if slot.operator != pattern.operator {
+        return false;
+    }
+    if slot.inputs != pattern.inputs {
+        return false;
+    }
+    slot.attributes == pattern.attributes
+}
+
+// Whether a slot with so many uses meets a demand: 0 is none, and another is one more than the uses.
+fn uses_fit(demand: u16, uses: u16) -> bool
+    ensures { λ r. ⌜ r ≡ usesFit demand uses ⌝ }
+{
+    if demand == 0 {
+        return true;
+    }
+    demand - 1 == uses
+}
+
+// Whether slot v can be the image of source vertex j, by what can be told without entering its inputs.
+fn is_candidate(
+    graph: &[u8],
+    rule: &[u8],
+    uses: &[u16; SLOT_LIMIT],
+    demands: &[u16; SIDE_LIMIT],
+    j: usize,
+    v: usize,
+) -> bool
+    requires { ⌜ Setting (now graph) (now rule) (now uses) (now demands) ⌝ }
+    requires { ⌜ j < sourceCount (now rule) ⌝ }
+    requires { ⌜ v < slotCount (now graph) ⌝ }
+    ensures { λ r. ⌜ r ≡ isCandidate (graphOf (now (graph .entry))) (ruleOf (now (rule .entry))) j v ⌝ }
+{
+    if !head_fits(pattern_head(rule, j), slot_head(graph, v)) {
+        return false;
+    }
+    uses_fit(demands[j], uses[v])
+}
+
+// ---- one vertex
+
+// An image as a slot's number.
+fn widened(image: u16) -> usize
+    ensures { λ r. ⌜ r ≡ image ⌝ }
+{
+    image as usize
+}
+
+// Whether v is the image of one of the first `next` source vertices.
+fn is_taken(images: &[u16; SIDE_LIMIT], next: usize, v: usize) -> bool
+    requires { ⌜ next ≤ sideLimit ⌝ }
+    requires { ⌜ length (now images) ≡ sideLimit ⌝ }
+    ensures { λ r. ⌜ r ≡ anyBelow (λ i. eqb (imageOf (now (images .entry)) i) v) next ⌝ }
+{
+    let mut i = 0;
+    while i < next {
+        if widened(images[i]) == v {
+            return true;
+        }
+        i += 1;
+    }
+    false
+}
+
+// Gives source vertex j, a candidate whose inputs have their images, the image v: where v is no lower vertex's image, and the
+// attributes agree.
+fn settle(graph: &[u8], rule: &[u8], j: usize, v: usize, images: [u16; SIDE_LIMIT]) -> Found
+    requires { ⌜ table.Readable (now graph) ⌝ }
+    requires { ⌜ Matchable (now rule) ⌝ }
+    requires { ⌜ j < sourceCount (now rule) ⌝ }
+    requires { ⌜ v < slotCount (now graph) ⌝ }
+    requires { ⌜ isCandidate (graphOf (now graph)) (ruleOf (now rule)) j v ≡ true ⌝ }
+    requires { ⌜ Partial (graphOf (now graph)) (ruleOf (now rule)) j images ⌝ }
+    requires { ⌜ SendsInputs (graphOf (now graph)) (ruleOf (now rule)) j v 0 images ⌝ }
+    ensures { λ r. ⌜ Step (graphOf (now (graph .entry))) (ruleOf (now (rule .entry))) j images (Sends j v) (suc j) (r .ok) (r .next) (r .images) ⌝ }
+{
+    if is_taken(&images, j, v) {
+        return Found {
+            ok: false,
+            next: j,
+            images,
+        };
+    }
+    if !attributes_agree(graph, rule, &images, j, v) {
+        return Found {
+            ok: false,
+            next: j,
+            images,
+        };
+    }
+    let mut made = images;
+    made[j] = v as u16;
+    Found {
+        ok: true,
+        next: j + 1,
+        images: made,
+    }
+}
+
+// Matches source vertex j with slot v, its inputs first. A vertex that has its image is compared, not entered again.
+pub fn match_vertex(
+    graph: &[u8],
+    rule: &[u8],
+    uses: &[u16; SLOT_LIMIT],
+    demands: &[u16; SIDE_LIMIT],
+    j: usize,
+    v: usize,
+    found: Found,
+) -> Found
+    requires { ⌜ Setting (now graph) (now rule) (now uses) (now demands) ⌝ }
+    requires { ⌜ j < sourceCount (now rule) ⌝ }
+    requires { ⌜ v < slotCount (now graph) ⌝ }
+    requires { ⌜ Partial (graphOf (now graph)) (ruleOf (now rule)) (found .next) (found .images) ⌝ }
+    requires { ⌜ InOrder (ruleOf (now rule)) (found .next) (j ∷ []) ⌝ }
+    ensures { λ r. ⌜ Step (graphOf (now (graph .entry))) (ruleOf (now (rule .entry))) (found .next) (found .images) (Sends j v) (max (found .next) (suc j)) (r .ok) (r .next) (r .images) ⌝ }
+{
+    let next = found.next;
+    let images = found.images;
+    if j < next {
+        return Found {
+            ok: widened(images[j]) == v,
+            next,
+            images,
+        };
+    }
+    if !is_candidate(graph, rule, uses, demands, j, v) {
+        return Found {
+            ok: false,
+            next,
+            images,
+        };
+    }
+    let inputs = match_inputs(graph, rule, uses, demands, j, v, 0, found);
+    if !inputs.ok {
+        return inputs;
+    }
+    let below = inputs.images;
+    settle(graph, rule, j, v, below)
+}
+
+// Matches the inputs of source vertex j, from place i on, with those of slot v.
+fn match_inputs(
+    graph: &[u8],
+    rule: &[u8],
+    uses: &[u16; SLOT_LIMIT],
+    demands: &[u16; SIDE_LIMIT],
+    j: usize,
+    v: usize,
+    i: usize,
+    found: Found,
+) -> Found
+    requires { ⌜ Setting (now graph) (now rule) (now uses) (now demands) ⌝ }
+    requires { ⌜ j < sourceCount (now rule) ⌝ }
+    requires { ⌜ v < slotCount (now graph) ⌝ }
+    requires { ⌜ i ≤ length (sourceInputs (ruleOf (now rule)) j) ⌝ }
+    requires { ⌜ length (sourceInputs (ruleOf (now rule)) j) ≤ length (inputsOf (graphOf (now graph)) v) ⌝ }
+    requires { ⌜ Partial (graphOf (now graph)) (ruleOf (now rule)) (found .next) (found .images) ⌝ }
+    requires { ⌜ InOrder (ruleOf (now rule)) (found .next) (drop i (sourceInputs (ruleOf (now rule)) j)) ⌝ }
+    ensures { λ r. ⌜ Step (graphOf (now (graph .entry))) (ruleOf (now (rule .entry))) (found .next) (found .images)
+        (SendsInputs (graphOf (now (graph .entry))) (ruleOf (now (rule .entry))) j v i)
+        (visitedAfter (found .next) (drop i (sourceInputs (ruleOf (now (rule .entry))) j))) (r .ok) (r .next) (r .images) ⌝ }
+{
+    if i == source_input_count(rule, j) {
+        let next = found.next;
+        let images = found.images;
+        return Found {
+            ok: true,
+            next,
+            images,
+        };
+    }
+    let u = source_input(rule, j, i);
+    let w = input_at(graph, v, i);
+    let first = match_vertex(graph, rule, uses, demands, u, w, found);
+    if !first.ok {
+        return first;
+    }
+    match_inputs(graph, rule, uses, demands, j, v, i + 1, first)
+}
+
+// Nothing mapped yet.
+pub fn no_images() -> Found
+    ensures { λ r. ⌜ (r .next ≡ 0) × (length (r .images) ≡ sideLimit) × ((i : ℕ) → imageOf (r .images) i ≡ unusedPlace) ⌝ }
+{
+    Found {
+        ok: true,
+        next: 0,
+        images: [65535u16; SIDE_LIMIT],
+    }
+}
