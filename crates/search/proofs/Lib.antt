@@ -1,0 +1,4 @@
+pub mod Least
+pub mod Sound
+pub mod Steps
+pub mod Whole

@@ -1,0 +1,165 @@
+-- What sound blocks give to the functions that match: the layout, what inputs and outputs name, and what the tables say of rule
+-- inputs.
+-- Assumes nothing.
+use mathlib.Core.Path.{_≡_, refl, sym, ap, _∙_}
+use mathlib.Core.Bool.{true, false, and-false}
+use mathlib.Core.List.{List, [], _∷_}
+use mathlib.Core.Logic.{⊎-elim}
+use Prim.Native.Nat.{ℕ, _+_, _<_, _≤_}
+use native.Mathlib.Omega.{arith}
+use borrow.Author.Tests.{leb-true, ltb-true, ltb-false, eqb-true, lt-ltb}
+use lib.Dec.{eqb, leb, ltb}
+use lib.ListN.{length, getD, List·getD-eq-default}
+use Rattle.definitions.specs.Fields.{byteAt}
+use Rattle.definitions.specs.Operators.{kindEmpty, kindVariable, kinds, rowOf, shapeFits}
+use Rattle.definitions.specs.Graph.{unusedPlace, slotCount, graphOf, inputsOf, isVertex, badRecord, badInputs, SoundGraph}
+use Rattle.definitions.specs.Rule.{sourceCount, ruleOutputCount, nodeCount, vertexAt, anything, Pattern, ruleOf, expressionOf, wildcard, sourceOf, sourceInputs, inputKind, isRuleInput, ruleSizesFit, ruleHeaderFits, patternFits, accessesBelow, useFits, SoundRule}
+use Rattle.laws.proofs.Lists.{decided, needed, lowest-whole, all-members}
+use Rattle.laws.proofs.Members.{mem-at}
+use Rattle.laws.proofs.Graph.{vertex-inside, length-slots, length-outputs}
+use Rattle.laws.proofs.Rule.{length-source, length-source-outputs, source-kind-at, source-count-at, source-attributes-at, source-attribute-at, outputs-below, inputs-lower}
+use Rattle.theory.proofs.Fixing.{sound-fixing}
+use Rattle.graph_fields.specs.Readable as table
+use Rattle.rule_fields.specs.Readable as pattern
+use Rattle.attributes.specs.Evaluable.{Evaluable}
+use Rattle.matching.specs.Setting.{Matchable}
+use Rattle.graph_check.proofs.Laws as graph-check
+use Rattle.rule_records.proofs.Laws.{pattern-inputs, pattern-attributes}
+use Rattle.rule_check.proofs.Laws as rule-check
+
+-- ---- a sound graph
+
+module _ (block : List ℕ) (sound : SoundGraph block) where
+  good-record : (k : ℕ) → k < slotCount block → badRecord block k ≡ false
+  unfolding badRecord
+  good-record k l = simp (sound .records k l)
+
+  good-inputs : (k : ℕ) → k < slotCount block → badInputs (graphOf block) k ≡ false
+  unfolding badInputs
+  good-inputs k l = simp (all-members (isVertex (graphOf block)) (inputsOf (graphOf block) k) (λ v m. sound .inputs k v m))
+
+  pub graph-readable : table.Readable block
+  graph-readable = graph-check.readable block (graph-check.whole block (sound .header))
+      (lowest-whole (badRecord block) (slotCount block) good-record)
+
+  pub graph-closed : table.Closed block
+  graph-closed = graph-check.closed block graph-readable (lowest-whole (badInputs (graphOf block)) (slotCount block) good-inputs)
+
+  pub graph-outputs : table.OutputsNamed block
+  graph-outputs = record {
+    named = λ i l.
+        let inside : i < length (graphOf block .outputs) = rw (length-outputs block) l in
+        rw (length-slots block) at (vertex-inside (graphOf block) (getD (graphOf block .outputs) i unusedPlace)
+        (sound .outputs (getD (graphOf block .outputs) i unusedPlace) (mem-at (graphOf block .outputs) i unusedPlace inside)));
+  }
+
+-- ---- the tables: kind 2 has no inputs, and kind 0 has no attributes
+
+variable-inputs : (operator n m : ℕ) → shapeFits kindVariable operator n m ≡ true → n ≡ 0
+unfolding shapeFits rowOf kinds
+variable-inputs operator n m h =
+    let most : n ≤ 0 = leb-true n 0 (needed (leb n 0) h (λ f. simp (f, and-false))) in
+    omega arith
+
+empty-attributes : (operator n m : ℕ) → shapeFits kindEmpty operator n m ≡ true → m ≡ 0
+unfolding shapeFits rowOf kinds
+empty-attributes operator n m h = eqb-true m 0 (needed (eqb m 0) h (λ f. simp (f, and-false)))
+
+length-none : {A : Type 0} (xs : List A) → length xs ≡ 0 → xs ≡ []
+length-none [] e = refl
+length-none (x ∷ xs) e = absurd (omega arith)
+
+-- ---- a sound rule
+
+module _ (block : List ℕ) (sound : SoundRule block) where
+  pub rule-readable : pattern.Readable block
+  rule-readable = record {
+    whole = rule-check.whole block (sound .header);
+    inputs = λ v l. pattern-inputs block (vertexAt v) (sound .patterns v l);
+    attributes = λ v l. pattern-attributes block (vertexAt v) (sound .patterns v l);
+  }
+
+  pub rule-layered : pattern.Layered block
+  rule-layered = record {
+    lower = λ j i l m. inputs-lower block (sound .lowerInputs) j (getD (sourceInputs (ruleOf block) j) i 255)
+        (mem-at (sourceInputs (ruleOf block) j) i 255 m);
+    outputs = λ i l. outputs-below block (sound .header) (getD (ruleOf block .sourceOutputs) i 255)
+        (mem-at (ruleOf block .sourceOutputs) i 255 (rw (length-source-outputs block) l));
+  }
+
+  evaluable : Evaluable block
+  unfolding useFits
+  evaluable = record {
+    nodes = sound .nodes;
+    uses = λ v i l m. ltb-true (byteAt block (vertexAt v + 10 + i)) (nodeCount block)
+        (needed (ltb (byteAt block (vertexAt v + 10 + i)) (nodeCount block)) (sound .uses v i l m) (λ f. simp f));
+  }
+
+  shape : (j : ℕ) → j < sourceCount block → let at = vertexAt j in
+      shapeFits (byteAt block at) (byteAt block (at + 1)) (byteAt block (at + 2)) (byteAt block (at + 3)) ≡ true
+  unfolding patternFits
+  shape j l =
+      let at = vertexAt j in
+      needed (shapeFits (byteAt block at) (byteAt block (at + 1)) (byteAt block (at + 2)) (byteAt block (at + 3)))
+      (sound .patterns j (omega arith)) (λ f. simp f)
+
+  -- a source vertex has a given kind in its record where it has it in the rule
+  shape-of : (j kind : ℕ) → j < sourceCount block → sourceOf (ruleOf block) j .kind ≡ kind → let at = vertexAt j in
+      shapeFits kind (byteAt block (at + 1)) (byteAt block (at + 2)) (byteAt block (at + 3)) ≡ true
+  shape-of j kind l e = let same : byteAt block (vertexAt j) ≡ kind = sym (source-kind-at block j l) ∙ e in rw same at (shape j l)
+
+  pub rule-plain : (j : ℕ) → isRuleInput (ruleOf block) j ≡ true → sourceInputs (ruleOf block) j ≡ []
+  unfolding isRuleInput inputKind
+  rule-plain j h =
+      let kind : ℕ = sourceOf (ruleOf block) j .kind in
+      let at : ℕ = vertexAt j in
+      let low = ltb-true j (length (ruleOf block .source)) (needed (ltb j (length (ruleOf block .source))) h (λ f. simp f)) in
+      let inside : j < sourceCount block = rw (length-source block) at low in
+      ⊎-elim (λ (t : eqb kind kindEmpty ≡ true).
+      sound-fixing block sound .plain j (eqb-true kind kindEmpty t))
+      (λ (t : eqb kind kindEmpty ≡ false).
+      let second : eqb kind kindVariable ≡ true = needed (eqb kind kindVariable) h (λ f. simp (t, f, and-false)) in
+      length-none (sourceInputs (ruleOf block) j) (source-count-at block j inside
+      ∙ variable-inputs (byteAt block (at + 1)) (byteAt block (at + 2)) (byteAt block (at + 3))
+      (shape-of j kindVariable inside (eqb-true kind kindVariable second))))
+      (decided (eqb kind kindEmpty))
+
+  rule-bare : (j : ℕ) → sourceOf (ruleOf block) j .kind ≡ kindEmpty → sourceOf (ruleOf block) j .attributes ≡ []
+  unfolding sourceOf wildcard
+  rule-bare j e =
+      ⊎-elim (λ (t : ltb j (sourceCount block) ≡ true).
+      let inside : j < sourceCount block = ltb-true j (sourceCount block) t in
+      let at : ℕ = vertexAt j in
+      length-none (sourceOf (ruleOf block) j .attributes) (source-attributes-at block j inside
+      ∙ empty-attributes (byteAt block (at + 1)) (byteAt block (at + 2)) (byteAt block (at + 3)) (shape-of j kindEmpty inside e)))
+      (λ (t : ltb j (sourceCount block) ≡ false).
+      ap (λ (p : Pattern ℕ). p .attributes)
+      (List·getD-eq-default (ruleOf block .source) wildcard (rw (length-source block) (ltb-false j (sourceCount block) t))))
+      (decided (ltb j (sourceCount block)))
+
+  rule-below : (j i : ℕ) → j < sourceCount block → i < length (sourceOf (ruleOf block) j .attributes)
+      → accessesBelow j (getD (sourceOf (ruleOf block) j .attributes) i anything) ≡ true
+  unfolding useFits
+  rule-below j i l m =
+      let k : ℕ = byteAt block (vertexAt j + 10 + i) in
+      rw (source-attribute-at block j i anything l m)
+      (needed (accessesBelow j (expressionOf block k)) (sound .uses j i (omega arith) (rw (source-attributes-at block j l) at m))
+      (λ f. simp (lt-ltb j (sourceCount block) l, f, and-false)))
+
+  pub rule-matchable : Matchable block
+  rule-matchable = record {
+    readable = rule-readable;
+    layered = rule-layered;
+    evaluable = evaluable;
+    plain = rule-plain;
+    bare = rule-bare;
+    below = rule-below;
+  }
+
+  -- one output or two
+  pub output-counts : (1 ≤ ruleOutputCount block) × (ruleOutputCount block ≤ 2)
+  unfolding ruleHeaderFits ruleSizesFit
+  output-counts = (
+    leb-true 1 (ruleOutputCount block) (needed (leb 1 (ruleOutputCount block)) (sound .header) (λ f. simp (f, and-false))),
+    leb-true (ruleOutputCount block) 2 (needed (leb (ruleOutputCount block) 2) (sound .header) (λ f. simp (f, and-false))),
+  )

@@ -1,0 +1,228 @@
+-- What the nested search knows at each step: no match has output images among those that it passed.
+-- Assumes nothing.
+use mathlib.Core.Path.{_≡_, refl, sym, _∙_, subst}
+use mathlib.Core.Bool.{Bool, true, false}
+use mathlib.Core.List.{List, [], _∷_}
+use mathlib.Core.Logic.{_⊎_, inl, inr, ⊎-elim}
+use mathlib.Core.Option.{none}
+use Prim.Native.Nat.{ℕ, suc, _+_, _-_, _<_, _≤_, max}
+use native.Mathlib.Omega.{arith}
+use borrow.Author.Tests.{eqb-true, eqb-false, ltb-true, ltb-false}
+use lib.Dec.{eqb, ltb}
+use lib.ListN.{length, getD, take}
+use Rattle.definitions.specs.Graph.{unusedPlace, slotCount, Graph, graphOf, isVertex}
+use Rattle.definitions.specs.Rule.{sideLimit, sourceCount, ruleOutputCount, Rule, ruleOf, SoundRule}
+use Rattle.definitions.specs.Match.{imageOf, Match, MatchFrom, leastMatch}
+use Rattle.laws.proofs.Lists.{decided, true-not-false}
+use Rattle.laws.proofs.Members.{holds}
+use Rattle.laws.proofs.Graph.{vertex-inside, length-slots}
+use Rattle.laws.proofs.Rule.{length-source, length-source-outputs, inputs-lower}
+use Rattle.theory.proofs.Choices.{NotAfter}
+use Rattle.theory.proofs.Fixing.{sound-fixing}
+use Rattle.theory.proofs.Least.{outputImages}
+use Rattle.rule_order.specs.InOrder.{InOrder, visitedAfter}
+use Rattle.rule_order.proofs.InOrder.{in-order-first, in-order-rest, in-order-start, in-order-whole}
+use Rattle.matching.specs.Partial.{Partial, Extends, Sends, Step}
+use Rattle.search.specs.Finds.{Finds}
+use Rattle.search.proofs.Least.{least-is, least-none}
+use Rattle.search.proofs.Sound.{rule-readable, rule-plain, output-counts}
+use Rattle.search.proofs.Whole.{short-images, partial-match}
+
+-- ---- the outputs, by number
+
+pub record Outputs (r : Rule) (count first last : ℕ) : Type 0 where
+  pub one : count ≡ 1 → r .sourceOutputs ≡ first ∷ []
+  pub two : (count ≡ 1 → ⊥) → r .sourceOutputs ≡ first ∷ last ∷ []
+
+one-element : (xs : List ℕ) (d : ℕ) → length xs ≡ 1 → xs ≡ getD xs 0 d ∷ []
+one-element [] d e = absurd (omega arith)
+one-element (x ∷ []) d e = refl
+one-element (x ∷ y ∷ xs) d e = absurd (omega arith)
+
+two-elements : (xs : List ℕ) (d : ℕ) → length xs ≡ 2 → xs ≡ getD xs 0 d ∷ getD xs 1 d ∷ []
+two-elements [] d e = absurd (omega arith)
+two-elements (x ∷ []) d e = absurd (omega arith)
+two-elements (x ∷ y ∷ []) d e = refl
+two-elements (x ∷ y ∷ z ∷ xs) d e = absurd (omega arith)
+
+pub outputs-read : (rule : List ℕ) → SoundRule rule → (count first last : ℕ) → count ≡ ruleOutputCount rule
+    → first ≡ getD (ruleOf rule .sourceOutputs) 0 255 → last ≡ getD (ruleOf rule .sourceOutputs) (count - 1) 255
+    → Outputs (ruleOf rule) count first last
+outputs-read rule sound count first last e f l =
+    let os : List ℕ = ruleOf rule .sourceOutputs in
+    let size : length os ≡ ruleOutputCount rule = length-source-outputs rule in
+    record {
+      one = λ h. rw f (one-element os 255 (omega arith));
+      two = λ h.
+          let both : count ≡ 2 = omega (arith, output-counts rule sound) in
+          rw (f, l, both) (two-elements os 255 (omega arith));
+    }
+
+-- ---- what was passed
+
+-- every match from the start on has the first output's image at `first` or later
+pub record Passed (g : Graph) (r : Rule) (o start first : ℕ) : Type 0 where
+  pub from : start ≤ first
+  pub left : (whole : List ℕ) → Match g r whole → start ≤ imageOf whole o → first ≤ imageOf whole o
+
+-- and where it is at `first`, it has the other output's image at `second` or later
+pub record PassedSecond (g : Graph) (r : Rule) (o p first second : ℕ) : Type 0 where
+  pub left : (whole : List ℕ) → Match g r whole → imageOf whole o ≡ first → second ≤ imageOf whole p
+
+pub passed-start : (g : Graph) (r : Rule) (o start : ℕ) → Passed g r o start start
+passed-start g r o start = record { from = omega arith; left = λ whole m h. h }
+
+pub second-start : (g : Graph) (r : Rule) (o p first : ℕ) → PassedSecond g r o p first 0
+second-start g r o p first = record { left = λ whole m h. omega arith }
+
+-- where `first` itself is no match's image, one more is passed
+pass-first : (g : Graph) (r : Rule) (o start first : ℕ) → Passed g r o start first
+    → ((whole : List ℕ) → Match g r whole → imageOf whole o ≡ first → ⊥) → Passed g r o start (first + 1)
+pass-first g r o start first passed never = record {
+  from = omega (arith, passed .from);
+  left = λ whole m h.
+      let other : imageOf whole o ≡ first → ⊥ = never whole m in
+      omega (arith, passed .left whole m h);
+}
+
+-- a match's images are slots
+image-inside : (g : Graph) (r : Rule) (whole : List ℕ) (j : ℕ) → Match g r whole → j < length (r .source)
+    → imageOf whole j < length (g .slots)
+image-inside g r whole j m l = vertex-inside g (imageOf whole j) (holds (isVertex g (imageOf whole j)) (m .vertices j l))
+
+module _ (g : Graph) (r : Rule) (o start first : ℕ) (passed : Passed g r o start first)
+    {next end after : ℕ} {images made : List ℕ} {ok : Bool} (none : next ≡ 0)
+    (root : Step g r next images (Sends o first) end ok after made) where
+  -- nothing is mapped before the first step, so every match extends that
+  nothing-kept : (whole : List ℕ) → Extends next images whole
+  nothing-kept whole i l = absurd (omega arith)
+
+  pub root-fails : ok ≡ false → Passed g r o start (first + 1)
+  root-fails f = pass-first g r o start first passed
+      (λ whole m e. true-not-false (root .forced whole m (nothing-kept whole) e .0) f)
+
+  module _ (p second : ℕ) (before : PassedSecond g r o p first second) where
+    pub second-fails : {end' after' : ℕ} {made' : List ℕ} {ok' : Bool}
+        → Step g r after made (Sends p second) end' ok' after' made' → ok' ≡ false → PassedSecond g r o p first (second + 1)
+    second-fails pair f = record {
+      left = λ whole m e.
+          let other : imageOf whole p ≡ second → ⊥ =
+          λ h. true-not-false (pair .forced whole m (root .forced whole m (nothing-kept whole) e .1) h .0) f in
+          omega (arith, before .left whole m e);
+    }
+
+    pub seconds-passed : p < length (r .source) → length (g .slots) ≤ second → Passed g r o start (first + 1)
+    seconds-passed l h = pass-first g r o start first passed
+        (λ whole m e. omega (arith, before .left whole m e, image-inside g r whole p m l))
+
+-- ---- what is asked for the two steps
+
+pub nothing-mapped : (g : Graph) (r : Rule) (next : ℕ) (images : List ℕ) → next ≡ 0 → length images ≡ sideLimit
+    → ((i : ℕ) → imageOf images i ≡ unusedPlace) → Partial g r next images
+nothing-mapped g r next images e size unused = record {
+  size = size;
+  small = omega arith;
+  vertices = λ i l. absurd (omega arith);
+  injective = λ i k l m h. absurd (omega arith);
+  takes = λ i l h. absurd (omega arith);
+  demands = λ i l h. absurd (omega arith);
+  rest = λ i l. unused i;
+}
+
+-- ---- what is found
+
+-- x is not after y, by their first numbers
+le-cases : {A : Type 0} (x y : ℕ) → x ≤ y → (x ≡ y → A) → (x < y) ⊎ ((x ≡ y) × A)
+le-cases x y h f = ⊎-elim (λ (t : ltb x y ≡ true). inl (ltb-true x y t))
+    (λ (t : ltb x y ≡ false). let e : x ≡ y = omega (arith, ltb-false x y t) in inr (e, f e))
+    (decided (ltb x y))
+
+module _ (graph rule : List ℕ) (sound : SoundRule rule) where
+  abbrev g : Graph
+  g = graphOf graph
+
+  abbrev r : Rule
+  r = ruleOf rule
+
+  -- a map of all source vertices is the least match where no match from the start has output images before its own
+  least-map : (start : ℕ) (made : List ℕ) (after : ℕ) {ok : Bool} → ok ≡ true → Partial g r after made
+      → after ≡ length (r .source) → start ≤ imageOf made (getD (r .sourceOutputs) 0 0)
+      → ((whole : List ℕ) → MatchFrom g r start whole → NotAfter (outputImages r made) (outputImages r whole))
+      → Finds (leastMatch g r start) (sourceCount rule) ok made
+  least-map start made after t p e from least =
+      let whole : Partial g r (length (r .source)) made = rw e at p in
+      let fits : length (r .source) ≤ sideLimit = rw (length-source rule) (rule-readable rule sound .whole .source) in
+      let plain = rule-plain rule sound in
+      let lower = inputs-lower rule (sound .lowerInputs) in
+      let same = short-images g r plain lower made whole fits in
+      let isMatch = partial-match g r plain lower made whole fits in
+      record {
+        found = λ b. rw (← length-source rule) (least-is g r (sound-fixing rule sound) start (take (length (r .source)) made)
+            (record { isMatch = isMatch; first = rw same from }) (rw same least));
+        none = λ f. absurd (true-not-false t f);
+        size = λ b. p .size;
+        small = λ b. rule-readable rule sound .whole .source;
+        rest = λ b i l. p .rest i (rw (e, length-source rule) l);
+      }
+
+  module _ (count o q : ℕ) (outputs : Outputs r count o q) where
+    -- the first output is the first of the list, whatever the count
+    first-output : getD (r .sourceOutputs) 0 0 ≡ o
+    first-output = ⊎-elim (λ (t : eqb count 1 ≡ true). rw (outputs .one (eqb-true count 1 t)))
+        (λ (t : eqb count 1 ≡ false). rw (outputs .two (eqb-false count 1 t)))
+        (decided (eqb count 1))
+
+    pub first-in-order : (next : ℕ) → next ≡ 0 → InOrder r next (o ∷ [])
+    first-in-order next z = rw z (⊎-elim
+        (λ (t : eqb count 1 ≡ true). subst (InOrder r 0) (outputs .one (eqb-true count 1 t)) (in-order-start rule sound))
+        (λ (t : eqb count 1 ≡ false).
+        in-order-first r 0 o (q ∷ []) (subst (InOrder r 0) (outputs .two (eqb-false count 1 t)) (in-order-start rule sound)))
+        (decided (eqb count 1)))
+
+    pub second-in-order : (next after : ℕ) → (count ≡ 1 → ⊥) → next ≡ 0 → after ≡ max next (suc o) → InOrder r after (q ∷ [])
+    second-in-order next after h z e =
+        rw (e, z) (in-order-rest r 0 o (q ∷ []) (subst (InOrder r 0) (outputs .two h) (in-order-start rule sound)))
+
+    module _ (start first : ℕ) (passed : Passed g r o start first) where
+      first-from : (whole : List ℕ) → MatchFrom g r start whole → first ≤ imageOf whole o
+      first-from whole from = passed .left whole (from .isMatch) (rw first-output at (from .first))
+
+      pub nothing-found : {ok : Bool} {images : List ℕ} → o < sourceCount rule → slotCount graph ≤ first → ok ≡ false
+          → Finds (leastMatch g r start) (sourceCount rule) ok images
+      nothing-found l h f = record {
+        found = λ t. absurd (true-not-false t f);
+        none = λ t. least-none g r (sound-fixing rule sound) start
+            (λ whole from. omega (
+              arith,
+              first-from whole from,
+              image-inside g r whole o (from .isMatch) (rw (length-source rule) l),
+              length-slots graph,
+            ));
+        size = λ t. absurd (true-not-false t f);
+        small = λ t. absurd (true-not-false t f);
+        rest = λ t. absurd (true-not-false t f);
+      }
+
+      module _ {next after : ℕ} {images made : List ℕ} {ok : Bool} (none : next ≡ 0)
+          (root : Step g r next images (Sends o first) (max next (suc o)) ok after made) (t : ok ≡ true) where
+        pub one-found : count ≡ 1 → Finds (leastMatch g r start) (sourceCount rule) ok made
+        unfolding visitedAfter
+        one-found c =
+            let whole : max 0 (suc o) ≡ length (r .source) = rw (outputs .one c) at (in-order-whole rule sound) in
+            let image : imageOf made o ≡ first = root .meets t in
+            least-map start made after t (root .partial t) (omega (arith, root .reached t))
+            (rw (first-output, image) (passed .from))
+            (λ other from. rw (outputs .one c, image) (le-cases first (imageOf other o) (first-from other from) (λ e. tt)))
+
+        pub two-found : {after' : ℕ} {made' : List ℕ} {ok' : Bool} (second : ℕ) → (count ≡ 1 → ⊥)
+            → PassedSecond g r o q first second → Step g r after made (Sends q second) (max after (suc q)) ok' after' made' → ok' ≡ true
+            → Finds (leastMatch g r start) (sourceCount rule) ok' made'
+        unfolding visitedAfter
+        two-found {after'} {made'} second c before pair s =
+            let whole : max (max 0 (suc o)) (suc q) ≡ length (r .source) = rw (outputs .two c) at (in-order-whole rule sound) in
+            let image : imageOf made' o ≡ first = pair .kept s o (omega (arith, root .reached t)) ∙ root .meets t in
+            let other-image : imageOf made' q ≡ second = pair .meets s in
+            least-map start made' after' s (pair .partial s) (omega (arith, root .reached t, pair .reached s))
+            (rw (first-output, image) (passed .from))
+            (λ other from. rw (outputs .two c, image, other-image) (le-cases first (imageOf other o) (first-from other from)
+            (λ e. le-cases second (imageOf other q) (before .left other (from .isMatch) (sym e)) (λ d. tt))))

@@ -1,0 +1,38 @@
+-- The counts are what the nested search asks for.
+-- Assumes nothing.
+use Rattle.search.proofs.least_match.Statement.{statement}
+use Rattle.search.proofs.least_match.Tie as tie
+use Rattle.search.proofs.Sound.{graph-readable, graph-closed, graph-outputs, rule-readable, rule-layered, rule-matchable}
+
+count-uses-requires : tie.Need-count-uses-requires
+count-uses-requires c κs =
+    let s = c .before .before in
+    let block = s .args .graph .now in
+    (graph-readable block (s .pre .0), (graph-closed block (s .pre .0), graph-outputs block (s .pre .0)))
+
+count-demands-requires : tie.Need-count-demands-requires
+count-demands-requires c κs =
+    let s = c .before .before .before in
+    (rule-readable (s .args .rule .now) (s .pre .1), rule-layered (s .args .rule .now) (s .pre .1))
+
+search-requires : tie.Need-search-requires
+search-requires c κs =
+    let s = c .before .before .before .before .before .before in (
+      s .pre .0,
+      (
+        s .pre .1,
+        record {
+          readable = graph-readable (s .args .graph .now) (s .pre .0);
+          closed = graph-closed (s .args .graph .now) (s .pre .0);
+          matchable = rule-matchable (s .args .rule .now) (s .pre .1);
+          uses = c .before .before .before .count-uses .ensures;
+          demands = c .before .before .count-demands .ensures;
+        },
+      ),
+    )
+
+returns : tie.Need-returns
+returns c = c .search .ensures
+
+pub least-match-spec : {M : Type 1} → statement M
+least-match-spec = tie.close (tie.spec count-uses-requires count-demands-requires search-requires returns)
