@@ -5,6 +5,7 @@ ghost use mathlib.Core.Path.{_≡_};
 ghost use Rattle.definitions.specs.Reply as answer;
 ghost use Rattle.definitions.specs.Graph.{graphReply};
 ghost use Rattle.definitions.specs.Rule.{ruleReply};
+ghost use Rattle.definitions.specs.Operations as operation;
 
 // Checks a graph block: 0 or 2.
 #[no_mangle]
@@ -20,4 +21,13 @@ pub extern "C" fn lg_check_rule(rule: &[u8]) -> u64
     ensures { λ r. ⌜ r ≡ answer.packed (ruleReply (now (rule .entry))) ⌝ }
 {
     pack(rule_check::check(rule))
+}
+
+// Finds the least match from `start`: 0 to 4. Done writes the map; a refusal leaves every byte as it came.
+#[no_mangle]
+pub extern "C" fn lg_find_match(graph: &[u8], rule: &[u8], start: usize, map: &mut [u8]) -> u64
+    ensures { λ r. ⌜ operation.atReturn r (now (graph .entry)) (now (map .exit))
+        ≡ operation.returned (operation.findMatch (now (graph .entry)) (now (rule .entry)) start (now (map .entry))) ⌝ }
+{
+    pack(find_match::find_match(graph, rule, start, map))
 }

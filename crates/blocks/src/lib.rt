@@ -1,0 +1,52 @@
+// The blocks that a caller of matching or rewriting lends: replies 1 to 3 about them, and the bytes of the map.
+use definitions::MAP_BYTES;
+use definitions::Reply;
+use definitions::SIDE_LIMIT;
+use reply::BAD_MAP_LENGTH;
+use reply::refuse;
+ghost use mathlib.Core.Path.{_≡_};
+ghost use lib.ListN.{length};
+ghost use Rattle.definitions.specs.Lists.{concatMap};
+ghost use Rattle.definitions.specs.Fields.{u16Bytes};
+ghost use Rattle.definitions.specs.Rule.{sideLimit};
+ghost use Rattle.definitions.specs.Operations.{mapBytes, mapReply, blocksReply};
+
+// Reply 1 is about the map's length alone: its bytes are not read.
+fn check_map(map: &[u8]) -> Reply
+    ensures { λ r. ⌜ r ≡ mapReply (now (map .entry)) ⌝ }
+{
+    if map.len() != MAP_BYTES {
+        return refuse(BAD_MAP_LENGTH);
+    }
+    Reply::Done
+}
+
+// Replies 1 to 3, in that order: the map, the graph, the rule.
+pub fn check_blocks(graph: &[u8], rule: &[u8], map: &[u8]) -> Reply
+    ensures { λ r. ⌜ r ≡ blocksReply (now (graph .entry)) (now (rule .entry)) (now (map .entry)) ⌝ }
+{
+    match check_map(map) {
+        Reply::Refused(refusal) => return Reply::Refused(refusal),
+        Reply::Done => {}
+    }
+    match graph_check::check(graph) {
+        Reply::Refused(refusal) => return Reply::Refused(refusal),
+        Reply::Done => {}
+    }
+    rule_check::check(rule)
+}
+
+// Writes the map: the sixteen images, each as two bytes, the lower one first.
+pub fn write_map(map: &mut [u8], images: &[u16; SIDE_LIMIT])
+    requires { ⌜ length (now map) ≡ mapBytes ⌝ }
+    requires { ⌜ length (now images) ≡ sideLimit ⌝ }
+    ensures { λ r. ⌜ now (map .exit) ≡ concatMap u16Bytes (now (images .entry)) ⌝ }
+{
+    let mut j = 0;
+    while j < SIDE_LIMIT {
+        let image = images[j];
+        map[2 * j] = (image % 256) as u8;
+        map[2 * j + 1] = (image / 256 % 256) as u8;
+        j += 1;
+    }
+}

@@ -1,0 +1,108 @@
+-- Each stage's answer is the definition's. The search is asked only where the blocks are sound, and the map written only where it
+-- found a match.
+-- Assumes nothing.
+use mathlib.Core.Path.{_≡_, sym, ap, _∙_}
+use mathlib.Core.List.{List}
+use Prim.Native.Nat.{ℕ}
+use borrow.Author.Tests.{not-true, not-false}
+use lib.ListN.{take}
+use Rattle.definitions.specs.declared.Reply.the-variants.{Done}
+use Rattle.definitions.specs.Rule.{sourceCount}
+use Rattle.definitions.specs.Operations.{outcome, blocksReply}
+use Rattle.find_match.proofs.Laws.{map-bytes, blocks-done, blocks-refused, nothing-found, match-found}
+use borrow.Author.Needs.{needs}
+use Rattle.find_match.proofs.find_match.Statement.{statement}
+use Rattle.find_match.proofs.find_match.Tie as tie
+
+abbrev start : tie.After-enum-told → tie.Start
+start c = c .before .before .before .before .before .before .before
+
+abbrev graph : tie.After-enum-told → List ℕ
+graph c = start c .args .graph .now
+
+abbrev rule : tie.After-enum-told → List ℕ
+rule c = start c .args .rule .now
+
+abbrev map : tie.After-enum-told → List ℕ
+map c = start c .args .map .now
+
+-- past the first three replies the blocks are good
+good : (c : tie.After-enum-told) → blocksReply (graph c) (rule c) (map c) ≡ Done
+good c = sym (c .before .before .check-blocks .ensures) ∙ c .enum-told .given .1
+
+check-blocks-requires : tie.Need-check-blocks-requires
+check-blocks-requires c κs = search needs
+
+enum-known-refusal : tie.Need-enum-known-refusal
+enum-known-refusal c = search needs
+
+same-length : tie.Need-same-length
+same-length c = search needs
+
+returns : tie.Need-returns
+returns c =
+    let r = c .before in
+    let b = r .before .before in
+    let s = b .before .before .before .before .before in
+    blocks-refused (s .args .graph .now) (s .args .rule .now) (s .args .start) (s .args .map .now) (r .refusal .given .0 .0)
+    (sym (b .check-blocks .ensures) ∙ r .refusal .given .1)
+
+enum-told : tie.Need-enum-told
+enum-told c = search needs
+
+least-match-requires : tie.Need-least-match-requires
+least-match-requires c κs = let g = blocks-done (graph c) (rule c) (start c .args .start) (map c) (good c) in (g .1, g .2)
+
+refuse-requires : tie.Need-refuse-requires
+refuse-requires c κs = search needs
+
+same-length-2 : tie.Need-same-length-2
+same-length-2 c = search needs
+
+returns-2 : tie.Need-returns-2
+returns-2 c =
+    let t = c .before in
+    let l = t .before .before in
+    let b = l .before in
+    ap (λ r. outcome r (graph b) (map b)) (c .refuse .ensures)
+    ∙ nothing-found (graph b) (rule b) (start b .args .start) (map b) (good b) (l .least-match .ensures .none (not-true _ (t .if1 .taken)))
+
+write-map-requires : tie.Need-write-map-requires
+write-map-requires c κs =
+    let e = c .before .before .before in
+    let l = e .before .before in
+    let b = l .before in
+    (blocks-done (graph b) (rule b) (start b .args .start) (map b) (good b) .0, l .least-match .ensures .size (not-false _ (e .if1 .left)))
+
+same-length-3 : tie.Need-same-length-3
+same-length-3 c = search needs
+
+returns-3 : tie.Need-returns-3
+returns-3 c =
+    let w = c .before .before in
+    let e = w .before .before .before .before in
+    let l = e .before .before in
+    let b = l .before in
+    let yes = not-false _ (e .if1 .left) in
+    let found = l .least-match .ensures in
+    let images = l .least-match .result .images in
+    let n = sourceCount (rule b) in
+    ap (outcome Done (graph b)) (w .write-map .ensures ∙ map-bytes n images (found .size yes) (found .small yes) (found .rest yes))
+    ∙ match-found (graph b) (rule b) (start b .args .start) (map b) (good b) (take n images) (found .found yes)
+
+pub find-match-spec : {M : Type 1} → statement M
+find-match-spec =
+    tie.close
+    (tie.spec
+    check-blocks-requires
+    enum-known-refusal
+    same-length
+    returns
+    enum-told
+    least-match-requires
+    refuse-requires
+    same-length-2
+    returns-2
+    write-map-requires
+    same-length-3
+    returns-3)

@@ -1,0 +1,26 @@
+-- The outcome, with its reply packed.
+-- Assumes nothing.
+use mathlib.Core.Path.{ap, _∙_}
+use Rattle.definitions.specs.Operations.{atReturn, returned}
+use borrow.Author.Needs.{needs}
+use Rattle.leafgraph.proofs.lg_find_match.Statement.{statement}
+use Rattle.leafgraph.proofs.lg_find_match.Tie as tie
+
+find-match-requires : tie.Need-find-match-requires
+find-match-requires c κs = search needs
+
+pack-requires : tie.Need-pack-requires
+pack-requires c κs = search needs
+
+same-length : tie.Need-same-length
+same-length c = search needs
+
+returns : tie.Need-returns
+unfolding returned
+returns c =
+    let f = c .before .before .before in
+    ap (λ n. atReturn n (f .before .before .before .before .before .args .graph .now) (f .find-match .last .1 .1 .1 .0)) (c .pack .ensures)
+    ∙ ap returned (f .find-match .ensures)
+
+pub lg-find-match-spec : {M : Type 1} → statement M
+lg-find-match-spec = tie.close (tie.spec find-match-requires pack-requires same-length returns)
