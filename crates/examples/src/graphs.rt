@@ -3,6 +3,7 @@ use crate::records::put_byte;
 use crate::records::put_mark;
 use crate::records::put_u16;
 use crate::records::put_unused;
+use crate::records::put_word;
 use leafgraph::lg_check_graph;
 ghost use Prim.Native.Nat.{_<_, _≤_};
 
@@ -81,19 +82,34 @@ fn put_conv2d(block: &mut [u8], k: usize, left: usize, right: usize)
     put_byte(block, at + 28, 1);
 }
 
+// E1, into a block of zeros.
+pub fn put_e1(block: &mut [u8]) {
+    put_header(block, 6, 4);
+    put_variable(block, 0);
+    put_variable(block, 1);
+    put_conv2d(block, 2, 0, 1);
+    put_relu(block, 3, 2);
+    put_relu(block, 4, 3);
+    put_empty(block, 5);
+}
+
 // The first `length` bytes of E1 and a zero byte after it.
 pub fn check_e1(length: usize) -> u64
     requires { ⌜ length ≤ 313 ⌝ }
 {
     let mut block = [0u8; 313];
-    put_header(&mut block, 6, 4);
-    put_variable(&mut block, 0);
-    put_variable(&mut block, 1);
-    put_conv2d(&mut block, 2, 0, 1);
-    put_relu(&mut block, 3, 2);
-    put_relu(&mut block, 4, 3);
-    put_empty(&mut block, 5);
+    put_e1(&mut block);
     lg_check_graph(&block[..length])
+}
+
+// Slot 0 is a Const of this word, and slot 1 relu(0), into a block of zeros.
+pub fn put_constant(block: &mut [u8], word: usize) {
+    put_header(block, 2, 1);
+    put_byte(block, 24, 1);
+    put_byte(block, 27, 1);
+    put_unused(block, 28);
+    put_word(block, 40, word);
+    put_relu(block, 1, 0);
 }
 
 // Slot 1 reads itself.

@@ -1,6 +1,7 @@
-// Document 01's run-only examples for the two checks. What this prints is held to the stored stdout,
+// Document 01's run-only examples for the checks and for matching, and P9's values as the code finds them. What this prints is held to the stored stdout,
 // which the second program under reference/ wrote.
 mod graphs;
+mod matches;
 mod records;
 mod rules;
 
@@ -39,8 +40,84 @@ fn rule_blocks() {
     line(b"rule empty", rules::check_rr(0));
 }
 
+// The number in two bytes, the lower one first.
+fn number(low: u8, high: u8) -> u64 {
+    low as u64 + 256 * (high as u64)
+}
+
+// The sixteen numbers of a map.
+fn map_line(map: &[u8; 32]) {
+    io::write_all(1, b"map:");
+    let mut j = 0;
+    while j < 16 {
+        io::write_all(1, b" ");
+        io::print_decimal(1, number(map[2 * j], map[2 * j + 1]));
+        j += 1;
+    }
+    io::write_all(1, b"\n");
+}
+
+// A match of RR on E1. Every byte of the map is 170 before, so that a refusal is seen to keep it.
+fn match_line(name: &[u8], start: usize) {
+    let mut map = [170u8; 32];
+    let reply = matches::find_rr(start, &mut map);
+    line(name, reply);
+    map_line(&map);
+}
+
+fn matches_of_rr() {
+    match_line(b"match RR on E1 from 0", 0);
+    match_line(b"match RR on E1 from 4", 4);
+    match_line(b"match RR on E1 from 5", 5);
+    match_line(b"match RR on E1 from 65535", 65535);
+    match_line(b"match RR on E1 from 65536", 65536);
+    match_line(
+        b"match RR on E1 from 18446744073709551615",
+        18446744073709551615,
+    );
+}
+
+// P9: -7, -4, -3, -2 and -1 are 4294967289, 4294967292, 4294967293, 4294967294 and 4294967295 as words, -2147483648 is 2147483648.
+fn quotients() {
+    line(
+        b"quotient of -7 by 2 is -4",
+        matches::agrees(6, 4294967289, 2, 4294967292),
+    );
+    line(
+        b"quotient of -7 by 2 is -3",
+        matches::agrees(6, 4294967289, 2, 4294967293),
+    );
+    line(
+        b"quotient of 7 by -2 is -4",
+        matches::agrees(6, 7, 4294967294, 4294967292),
+    );
+    line(
+        b"quotient of -2147483648 by -1 is -2147483648",
+        matches::agrees(6, 2147483648, 4294967295, 2147483648),
+    );
+}
+
+fn remainders() {
+    line(
+        b"remainder of -7 by 2 is 1",
+        matches::agrees(7, 4294967289, 2, 1),
+    );
+    line(
+        b"remainder of 7 by -2 is -1",
+        matches::agrees(7, 7, 4294967294, 4294967295),
+    );
+    line(
+        b"remainder of -2147483648 by -1 is 0",
+        matches::agrees(7, 2147483648, 4294967295, 0),
+    );
+    line(b"remainder of 7 by 0 is 0", matches::agrees(7, 7, 0, 0));
+}
+
 fn main() {
     sizes();
     graph_blocks();
     rule_blocks();
+    matches_of_rr();
+    quotients();
+    remainders();
 }

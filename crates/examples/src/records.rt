@@ -15,6 +15,14 @@ pub fn put_u16(block: &mut [u8], at: usize, value: usize)
     put_byte(block, at + 1, (value / 256 % 256) as u8);
 }
 
+// The word of a signed number: in two's complement.
+pub fn put_word(block: &mut [u8], at: usize, word: usize)
+    requires { ⌜ at < 60000 ⌝ }
+{
+    put_u16(block, at, word % 65536);
+    put_u16(block, at + 2, word / 65536);
+}
+
 // Twelve bytes of 255: the six unused input places of a slot, or all places of a pattern.
 pub fn put_unused(block: &mut [u8], at: usize)
     requires { ⌜ at < 60000 ⌝ }

@@ -1,10 +1,19 @@
 //! Prints the reply to each run-only example, one line each, so that the
 //! proved library's own run of them can be compared with it.
 
-use leafgraph_reference::blocks::{add, chain, e1, relu, reversed_chain, rr, variable, GraphParts};
-use leafgraph_reference::{check_graph, check_rule};
+use leafgraph_reference::blocks::{
+    add, call_pattern, chain, constant, constant_node, e1, operation_node, pattern, relu,
+    reversed_chain, rr, target_place, variable, GraphParts, RuleParts,
+};
+use leafgraph_reference::{check_graph, check_rule, find_match};
 
 fn main() {
+    checks();
+    matches();
+    operations();
+}
+
+fn checks() {
     let graphs: [(&str, Vec<u8>); 11] = [
         ("N = 0", chain(0).block()),
         ("N = 1", chain(1).block()),
@@ -30,6 +39,44 @@ fn main() {
     for (name, block) in rules {
         println!("rule {name}: {}", check_rule(&block) & 255);
     }
+}
+
+/// RR on E1. Every byte of the map is 170 before, so that a refusal is seen
+/// to keep it.
+fn matches() {
+    for start in [0, 4, 5, 65535, 65536, usize::MAX] {
+        let mut map = [170; 32];
+        let reply = find_match(&e1().block(), &rr().block(), start, &mut map);
+        println!("match RR on E1 from {start}: {}", reply & 255);
+        let numbers: Vec<String> = map
+            .chunks(2)
+            .map(|pair| u16::from_le_bytes([pair[0], pair[1]]).to_string())
+            .collect();
+        println!("map: {}", numbers.join(" "));
+    }
+}
+
+/// P9: whether an operation gives a number, seen by matching a constant.
+fn operations() {
+    let quotients = [(-7, 2, -4), (-7, 2, -3), (7, -2, -4), (i32::MIN, -1, i32::MIN)];
+    for (left, right, result) in quotients {
+        println!("quotient of {left} by {right} is {result}: {}", agrees(6, left, right, result));
+    }
+    for (left, right, result) in [(-7, 2, 1), (7, -2, -1), (i32::MIN, -1, 0), (7, 0, 0)] {
+        println!("remainder of {left} by {right} is {result}: {}", agrees(7, left, right, result));
+    }
+}
+
+fn agrees(form: u8, left: i32, right: i32, result: i32) -> u64 {
+    let graph = GraphParts::new(vec![constant(result), relu(0)], &[1]);
+    let rule = RuleParts {
+        source: vec![pattern(1, 0, &[], &[2]), call_pattern(7, &[0], &[])],
+        target: vec![pattern(1, 0, &[], &[0])],
+        source_outputs: vec![1],
+        target_outputs: vec![target_place(0)],
+        nodes: vec![constant_node(left), constant_node(right), operation_node(form, 0, 1)],
+    };
+    find_match(&graph.block(), &rule.block(), 0, &mut [0; 32]) & 255
 }
 
 fn shorter(mut block: Vec<u8>) -> Vec<u8> {

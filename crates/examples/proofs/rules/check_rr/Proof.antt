@@ -7,35 +7,11 @@ use borrow.Author.Needs.{needs}
 use Rattle.examples.proofs.rules.check_rr.Statement.{statement}
 use Rattle.examples.proofs.rules.check_rr.Tie as tie
 
-slice-aggregate-put-header : tie.Need-slice-aggregate-put-header
-slice-aggregate-put-header c = search needs
+slice-aggregate-put-rr : tie.Need-slice-aggregate-put-rr
+slice-aggregate-put-rr c = search needs
 
-put-header-requires : tie.Need-put-header-requires
-put-header-requires c κs = search needs
-
-slice-aggregate-put-wildcard : tie.Need-slice-aggregate-put-wildcard
-slice-aggregate-put-wildcard c = search needs
-
-put-wildcard-requires : tie.Need-put-wildcard-requires
-put-wildcard-requires c κs = search needs
-
-slice-aggregate-put-relu : tie.Need-slice-aggregate-put-relu
-slice-aggregate-put-relu c = search needs
-
-put-relu-requires : tie.Need-put-relu-requires
-put-relu-requires c κs = search needs
-
-slice-aggregate-put-relu-2 : tie.Need-slice-aggregate-put-relu-2
-slice-aggregate-put-relu-2 c = search needs
-
-put-relu-requires-2 : tie.Need-put-relu-requires-2
-put-relu-requires-2 c κs = search needs
-
-slice-aggregate-put-relu-3 : tie.Need-slice-aggregate-put-relu-3
-slice-aggregate-put-relu-3 c = search needs
-
-put-relu-requires-3 : tie.Need-put-relu-requires-3
-put-relu-requires-3 c κs = search needs
+put-rr-requires : tie.Need-put-rr-requires
+put-rr-requires c κs = search needs
 
 array-share-prefix-block : tie.Need-array-share-prefix-block
 array-share-prefix-block c = search needs
@@ -53,16 +29,8 @@ pub check-rr-spec : {M : Type 1} → statement M
 check-rr-spec =
     tie.close
     (tie.spec
-    slice-aggregate-put-header
-    put-header-requires
-    slice-aggregate-put-wildcard
-    put-wildcard-requires
-    slice-aggregate-put-relu
-    put-relu-requires
-    slice-aggregate-put-relu-2
-    put-relu-requires-2
-    slice-aggregate-put-relu-3
-    put-relu-requires-3
+    slice-aggregate-put-rr
+    put-rr-requires
     array-share-prefix-block
     slice-aggregate-lg-check-rule
     lg-check-rule-requires
