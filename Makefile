@@ -23,14 +23,14 @@ CARGO_FLAGS ?=
 ARCHIVE := target/staticlib/libleafgraph.a
 RT_LOG := build/rt-ci.log
 
-# Given to cargo only, not to the toolchain. The comparison links the archive
-# made here, whatever the environment says.
+# Given to cargo only, not to the toolchain. The comparison and the benchmark
+# link the archive made here, whatever the environment says.
 IN_REFERENCE := cd reference && CARGO_TARGET_DIR=$(CURDIR)/build/reference \
 	LEAFGRAPH_LIB_DIR=$(CURDIR)/target/staticlib $(CARGO)
 LOCKED := --offline --locked $(CARGO_FLAGS)
 REFERENCE_BIN := build/reference/release
 
-.PHONY: demo test host-tests examples-test comparison clean
+.PHONY: demo test host-tests examples-test comparison benchmark clean
 
 demo: build/demo
 	build/demo
@@ -67,6 +67,13 @@ examples-test: | build
 comparison: $(ARCHIVE)
 	$(IN_REFERENCE) build $(LOCKED) --release -p compare
 	$(REFERENCE_BIN)/compare checks
+	$(REFERENCE_BIN)/compare matching
+
+# The proved library's speed beside the second program's, compiled alike. No
+# part of the gate: a figure is no fault.
+benchmark: $(ARCHIVE)
+	$(IN_REFERENCE) build $(LOCKED) --profile benchmark -p bench
+	build/reference/benchmark/benchmark
 
 build/demo: host/demo.c include/leafgraph.h $(ARCHIVE) | build
 	$(CC) -std=c99 $(WARNINGS) $(CFLAGS) -Iinclude -o $@ $< $(ARCHIVE)

@@ -1,5 +1,6 @@
-/* Builds a small graph and a rule byte by byte, asks the library about them
- * and about a damaged copy of each, and says in words what it replied. */
+/* Builds a small graph and a rule byte by byte, asks the library about them,
+ * where the rule matches, and about a damaged copy of each, and says in words
+ * what it replied. */
 
 #include <stdint.h>
 #include <stdio.h>
@@ -15,7 +16,10 @@ enum {
 enum {
     GRAPH_SLOTS = 6,
     GRAPH_LENGTH = 24 + 48 * GRAPH_SLOTS,
-    RULE_LENGTH = 16 + 16 * (3 + 1)
+    SOURCE_VERTICES = 3,
+    RULE_LENGTH = 16 + 16 * (SOURCE_VERTICES + 1),
+    MAP_LENGTH = 32,
+    NO_SLOT = 65535
 };
 
 /* One slot record of 48 bytes with up to two inputs (65535 for none). All
@@ -75,7 +79,7 @@ static void build_graph(uint8_t *graph) {
 /* A relu of a relu of anything becomes one relu of it. */
 static void build_rule(uint8_t *rule) {
     static const uint8_t header[16] = {
-        'L', 'G', 'R', 0, 1, 0, 3, 1, 1, 0, 2, 255, 16, 255
+        'L', 'G', 'R', 0, 1, 0, SOURCE_VERTICES, 1, 1, 0, 2, 255, 16, 255
     };
     memcpy(rule, header, sizeof header);
     put_pattern(rule + 16, KIND_WILDCARD, 0, 255);
@@ -103,6 +107,29 @@ static int show(const char *what, uint64_t reply, unsigned expected) {
     return lg_reply_number(reply) == expected ? 0 : 1;
 }
 
+/* Prints where the rule matches from this slot on; 0 if the last source vertex
+ * matches the expected slot, or if none is expected and none found, else 1. */
+static int show_match(const uint8_t *graph, const uint8_t *rule, size_t start,
+                      unsigned expected) {
+    uint8_t map[MAP_LENGTH] = {0};
+    unsigned vertex, slot = NO_SLOT;
+    uint64_t reply = lg_find_match(graph, GRAPH_LENGTH, rule, RULE_LENGTH, start,
+                                   map, sizeof map);
+    printf("The rule in the graph from slot %u on: reply %u, ", (unsigned)start,
+           lg_reply_number(reply));
+    if (lg_reply_number(reply) != LG_DONE) {
+        puts("no match");
+        return lg_reply_number(reply) == LG_NO_MATCH && expected == NO_SLOT ? 0 : 1;
+    }
+    printf("a match");
+    for (vertex = 0; vertex < SOURCE_VERTICES; vertex++) {
+        slot = map[2 * vertex] + 256u * map[2 * vertex + 1];
+        printf("%s %u is slot %u", vertex == 0 ? ": source vertex" : ",", vertex, slot);
+    }
+    puts("");
+    return slot == expected ? 0 : 1;
+}
+
 int main(void) {
     uint8_t graph[GRAPH_LENGTH], rule[RULE_LENGTH];
     int wrong = 0;
@@ -112,6 +139,8 @@ int main(void) {
                   lg_check_graph(graph, sizeof graph), LG_DONE);
     wrong += show("The rule that makes one relu of two",
                   lg_check_rule(rule, sizeof rule), LG_DONE);
+    wrong += show_match(graph, rule, 0, 4);
+    wrong += show_match(graph, rule, 5, NO_SLOT);
     graph[168 + 4] = 4; /* slot 3 reads slot 4, which reads slot 3 */
     wrong += show("The same graph with its relus reading each other",
                   lg_check_graph(graph, sizeof graph), LG_BAD_GRAPH);

@@ -24,6 +24,35 @@ static const uint8_t two_relus[80] = {
     3, 7, 1, 0, 0, 255, 255, 255, 255, 255, 255, 255, 255, 255, 255, 255
 };
 
+/* E1: slots 0, 1 Variable; 2 conv2d(0,1); 3 relu(2); 4 relu(3); 5 Empty;
+ * output 4. What a row leaves out is zero. */
+static const struct {
+    uint8_t header[24];
+    uint8_t slots[6][48];
+} e1 = {
+    {'L', 'G', 'T', 0, 1, 0, 6, 0, 1, 0, 4, 0, 255, 255, 255, 255, 255, 255},
+    {{2, 0, 0, 5, 255, 255, 255, 255, 255, 255, 255, 255, 255, 255, 255, 255,
+      1, 0, 0, 0, 3, 0, 0, 0, 8, 0, 0, 0, 8, 0, 0, 0, 1},
+     {2, 0, 0, 5, 255, 255, 255, 255, 255, 255, 255, 255, 255, 255, 255, 255,
+      1, 0, 0, 0, 3, 0, 0, 0, 8, 0, 0, 0, 8, 0, 0, 0, 1},
+     {3, 4, 2, 4, 0, 0, 1, 0, 255, 255, 255, 255, 255, 255, 255, 255,
+      1, 0, 0, 0, 1, 0, 0, 0, 1, 0, 0, 0, 1},
+     {3, 7, 1, 0, 2, 0, 255, 255, 255, 255, 255, 255, 255, 255, 255, 255},
+     {3, 7, 1, 0, 3, 0, 255, 255, 255, 255, 255, 255, 255, 255, 255, 255},
+     {0, 0, 0, 0, 255, 255, 255, 255, 255, 255, 255, 255, 255, 255, 255, 255}}
+};
+
+static const uint8_t *const e1_block = (const uint8_t *)&e1;
+
+/* The map of P1: 2, 3, 4 and 65535 from there on. */
+static const uint8_t p1_map[32] = {
+    2, 0, 3, 0, 4, 0, 255, 255, 255, 255, 255, 255, 255, 255, 255, 255,
+    255, 255, 255, 255, 255, 255, 255, 255, 255, 255, 255, 255, 255, 255,
+    255, 255
+};
+
+enum { MAP_LENGTH = 32, UNTOUCHED = 0xaa };
+
 /* 0 if the reply is exactly the number expected, place and rest zero. */
 static int differs(const char *what, uint64_t reply, unsigned expected) {
     if (reply == expected && lg_reply_number(reply) == expected
@@ -58,6 +87,47 @@ static int count_differences(void) {
     damaged[71] = 1;
     count += differs("damaged graph", lg_check_graph(damaged, sizeof damaged),
                      LG_BAD_GRAPH);
+    return count;
+}
+
+/* Looks for the two relus in a graph. The buffer is longer than a map: what is
+ * past a map must stay on done, and every byte on a refusal. */
+static int find_differs(const char *what, const uint8_t *graph, size_t graph_len,
+                        size_t rule_len, size_t start, size_t map_len,
+                        unsigned expected) {
+    uint8_t map[MAP_LENGTH + 2], after[MAP_LENGTH + 2];
+    int count;
+    memset(map, UNTOUCHED, sizeof map);
+    memcpy(after, map, sizeof after);
+    if (expected == LG_DONE) {
+        memcpy(after, p1_map, sizeof p1_map);
+    }
+    count = differs(what, lg_find_match(graph, graph_len, two_relus, rule_len,
+                                        start, map, map_len), expected);
+    if (memcmp(map, after, sizeof map) != 0) {
+        printf("%s: the map is not what it should be\n", what);
+        count++;
+    }
+    return count;
+}
+
+/* P1 and P2, the edges of start, and each refusal before those that follow. */
+static int count_find_differences(void) {
+    const uint8_t *graph = e1_block;
+    const size_t all = sizeof e1, rule = sizeof two_relus, map = MAP_LENGTH;
+    int count = 0;
+    count += find_differs("P1", graph, all, rule, 0, map, LG_DONE);
+    count += find_differs("P2 from 4", graph, all, rule, 4, map, LG_DONE);
+    count += find_differs("P2", graph, all, rule, 5, map, LG_NO_MATCH);
+    count += find_differs("start 65535", graph, all, rule, 65535, map, LG_NO_MATCH);
+    count += find_differs("start 65536", graph, all, rule, 65536, map, LG_NO_MATCH);
+    count += find_differs("last start", graph, all, rule, SIZE_MAX, map, LG_NO_MATCH);
+    count += find_differs("short rule", graph, all, rule - 1, 9, map, LG_BAD_RULE);
+    count += find_differs("short graph", graph, all - 1, rule - 1, 9, map, LG_BAD_GRAPH);
+    count += find_differs("short map", graph, all - 1, rule - 1, 9, map - 1,
+                          LG_BAD_MAP_LENGTH);
+    count += find_differs("long map", graph, all, rule, 0, map + 1, LG_BAD_MAP_LENGTH);
+    count += find_differs("no map", graph, all, rule, 0, 0, LG_BAD_MAP_LENGTH);
     return count;
 }
 

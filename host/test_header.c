@@ -5,7 +5,8 @@
 #include "test_blocks.h"
 
 int main(void) {
-    int count = count_differences() + count_helper_differences();
+    int count = count_differences() + count_find_differences()
+                + count_helper_differences();
     if (count == 0) {
         puts("header test in C: no difference");
     }

@@ -4,20 +4,37 @@
 #include "leafgraph.h" // the include guard
 #include "test_blocks.h"
 
+#include <algorithm>
 #include <vector>
 
-// The same block from memory of another kind and at an odd address.
+// A block in memory of another kind and at an odd address.
+static std::vector<uint8_t> shifted(const uint8_t *block, size_t length) {
+    std::vector<uint8_t> bytes(1 + length);
+    std::copy(block, block + length, bytes.begin() + 1);
+    return bytes;
+}
+
 static int count_shifted_differences() {
-    std::vector<uint8_t> shifted(1);
-    shifted.insert(shifted.end(), one_variable,
-                   one_variable + sizeof one_variable);
-    const uint64_t reply = lg_check_graph(shifted.data() + 1, shifted.size() - 1);
+    const std::vector<uint8_t> graph = shifted(one_variable, sizeof one_variable);
+    const uint64_t reply = lg_check_graph(graph.data() + 1, graph.size() - 1);
     return differs("shifted graph", reply, LG_DONE);
 }
 
+static int count_shifted_find_differences() {
+    const std::vector<uint8_t> graph = shifted(e1_block, sizeof e1);
+    const std::vector<uint8_t> rule = shifted(two_relus, sizeof two_relus);
+    std::vector<uint8_t> map(1 + MAP_LENGTH);
+    const uint64_t reply = lg_find_match(graph.data() + 1, graph.size() - 1,
+                                         rule.data() + 1, rule.size() - 1, 0,
+                                         map.data() + 1, map.size() - 1);
+    return differs("shifted match", reply, LG_DONE)
+           + (map == shifted(p1_map, sizeof p1_map) ? 0 : 1);
+}
+
 int main() {
-    const int count = count_differences() + count_helper_differences()
-                      + count_shifted_differences();
+    const int count = count_differences() + count_find_differences()
+                      + count_helper_differences() + count_shifted_differences()
+                      + count_shifted_find_differences();
     if (count == 0) {
         puts("header test in C++: no difference");
     }

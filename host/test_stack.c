@@ -1,4 +1,4 @@
-/* The header promises that a call uses at most 64 KiB of stack. Each check is
+/* The header promises that a call uses at most 64 KiB of stack. Each call is
  * made on a stack of its own whose bytes are all the same before; what differs
  * after shows how deep the call went. The blocks are the largest, with the
  * longest chains, so that every loop and every recursion is at its deepest. */
@@ -18,53 +18,81 @@ enum {
     FILL = 0xa5,
     SLOTS = 512,
     SIDE = 16,
-    NODES = 64
+    NODES = 64,
+    PLACES = 6
 };
 
 static uint8_t graph[24 + 48 * SLOTS];
 static uint8_t rule[16 + 16 * (SIDE + SIDE) + 8 * NODES];
+static uint8_t pair_rule[sizeof rule];
 
-/* Slot 511 a Variable, each other slot relu of the next: the search goes
- * through all slots before it can finish one. */
-static void build_graph(void) {
-    size_t slot;
-    memcpy(graph, "LGT\0\1\0\0\2\1\0\0\0\377\377\377\377\377\377", 18);
-    for (slot = 0; slot < SLOTS; slot++) {
-        uint8_t *record = graph + 24 + 48 * slot;
-        memset(record + 4, 255, 12);
-        if (slot + 1 == SLOTS) {
-            record[0] = 2;
-            record[3] = 5;
-        } else {
-            record[0] = 3;
-            record[1] = 7;
-            record[2] = 1;
-            record[4] = (uint8_t)((slot + 1) % 256);
-            record[5] = (uint8_t)((slot + 1) / 256);
-        }
+/* Kind, operator and counts, and these input numbers, the last one in the last
+ * place. */
+static void put_slot(size_t slot, const char head[4], unsigned input, unsigned last) {
+    uint8_t *record = graph + 24 + 48 * slot;
+    size_t place, count = (size_t)head[2];
+    memcpy(record, head, 4);
+    memset(record + 4, 255, 2 * PLACES);
+    for (place = 0; place < count; place++) {
+        unsigned number = place + 1 == count ? last : input;
+        record[4 + 2 * place] = (uint8_t)(number % 256);
+        record[5 + 2 * place] = (uint8_t)(number / 256);
     }
 }
 
-/* A chain of casts on both sides, each with the last node as its attribute;
- * each node but the first is the sum of the one before with itself. */
-static void build_rule(void) {
-    size_t vertex, node;
-    memcpy(rule, "LGR\0\1\0\20\20\1\100\17\377\37\377", 14);
-    for (vertex = 0; vertex < SIDE + SIDE; vertex++) {
-        uint8_t *record = rule + 16 + 16 * vertex;
-        memset(record, 255, 16);
-        memset(record, 0, 4);
-        if (vertex == 0) {
-            continue;
-        }
-        memcpy(record, "\3\16\1\1", 4);
-        record[4] = (uint8_t)(vertex < SIDE ? vertex - 1 : vertex == SIDE ? 0 : vertex - 1);
+/* Slot 511 a Variable, slot 510 a cast of it, slot 0 a relu of it, each other
+ * slot a Tuple of five times the Variable and then the next slot: the cycle
+ * test goes through all slots before it can finish one, and a search for a
+ * chain goes down through the last of six inputs each time. */
+static void build_graph(void) {
+    size_t slot;
+    memcpy(graph, "LGT\0\1\0\0\2\1\0\1\0\377\377\377\377\377\377", 18);
+    put_slot(0, "\3\7\1", SLOTS - 1, SLOTS - 1);
+    for (slot = 1; slot < SLOTS - 2; slot++) {
+        put_slot(slot, "\4\0\6", SLOTS - 1, (unsigned)slot + 1);
+    }
+    put_slot(SLOTS - 2, "\3\16\1\1", SLOTS - 1, SLOTS - 1);
+    put_slot(SLOTS - 1, "\2\0\0\5", 0, 0);
+}
+
+static void put_pattern(uint8_t *record, const char head[4], size_t input, size_t last) {
+    memset(record, 255, 16);
+    memcpy(record, head, 4);
+    memset(record + 4, (int)input, (size_t)head[2]);
+    if (head[2] != 0) {
+        record[3 + head[2]] = (uint8_t)last;
+    }
+    if (head[3] != 0) {
         record[10] = NODES - 1;
     }
-    for (node = 0; node < NODES; node++) {
-        uint8_t *bytes = rule + 16 + 16 * (SIDE + SIDE) + 8 * node;
-        bytes[0] = node == 0 ? 1 : 3;
-        bytes[1] = bytes[2] = (uint8_t)(node == 0 ? 0 : node - 1);
+}
+
+/* The source: a wildcard; with two outputs a relu of it, the first output; a
+ * cast of the wildcard; and Tuples of five times the wildcard and then the
+ * vertex before. The target: a chain of casts. Each cast has the last node as
+ * its attribute; each node but the first, which is zero, is the sum of the one
+ * before with itself. So one output's match is 15 vertices deep, and the
+ * attribute at its end 64 nodes; with two outputs, 14 within the search for
+ * the second. */
+static void build_rule(uint8_t *block, size_t outputs) {
+    uint8_t *records = block + 16, *nodes = records + 16 * (SIDE + SIDE);
+    size_t index;
+    memcpy(block, "LGR\0\1\0\20\20\1\100\17\377\37\377", 14);
+    put_pattern(records, "\0\0\0", 0, 0);
+    if (outputs == 2) {
+        memcpy(block + 8, "\2\100\1\17\37\37", 6);
+        put_pattern(records + 16, "\3\7\1", 0, 0);
+    }
+    put_pattern(records + 16 * outputs, "\3\16\1\1", 0, 0);
+    for (index = outputs + 1; index < SIDE; index++) {
+        put_pattern(records + 16 * index, "\4\0\6", 0, index - 1);
+    }
+    for (index = SIDE; index < SIDE + SIDE; index++) {
+        put_pattern(records + 16 * index, "\3\16\1\1", 0, index == SIDE ? 0 : index - 1);
+    }
+    for (index = 0; index < NODES; index++) {
+        nodes[8 * index] = index == 0 ? 1 : 3;
+        nodes[8 * index + 1] = nodes[8 * index + 2] = (uint8_t)(index == 0 ? 0 : index - 1);
     }
 }
 
@@ -75,6 +103,19 @@ static void *check_graph(void *reply) {
 
 static void *check_rule(void *reply) {
     *(uint64_t *)reply = lg_check_rule(rule, sizeof rule);
+    return NULL;
+}
+
+static void *find_match(void *reply) {
+    uint8_t map[32];
+    *(uint64_t *)reply = lg_find_match(graph, sizeof graph, rule, sizeof rule, 0, map, sizeof map);
+    return NULL;
+}
+
+static void *find_pair(void *reply) {
+    uint8_t map[32];
+    *(uint64_t *)reply = lg_find_match(graph, sizeof graph, pair_rule, sizeof pair_rule, 0,
+                                       map, sizeof map);
     return NULL;
 }
 
@@ -103,16 +144,24 @@ static size_t used_by(void *(*call)(void *)) {
     return reply == 0 ? STACK - untouched : 0;
 }
 
+/* Prints what a call used; 0 if its reply was done and it kept the promise. */
+static int show(const char *what, void *(*call)(void *)) {
+    size_t used = used_by(call);
+    printf("stack: %s %zu bytes of %d\n", what, used, PROMISED);
+    return used != 0 && used <= PROMISED ? 0 : 1;
+}
+
 int main(void) {
-    size_t for_graph, for_rule;
+    int wrong = 0;
     build_graph();
-    build_rule();
-    for_graph = used_by(check_graph);
-    for_rule = used_by(check_rule);
-    printf("stack: checking a graph %zu bytes, a rule %zu bytes, of %d\n", for_graph, for_rule, PROMISED);
-    if (for_graph == 0 || for_rule == 0 || for_graph > PROMISED || for_rule > PROMISED) {
-        puts("stack test: more than promised, or a sound block was refused");
-        return 1;
+    build_rule(rule, 1);
+    build_rule(pair_rule, 2);
+    wrong += show("checking a graph", check_graph);
+    wrong += show("checking a rule", check_rule);
+    wrong += show("finding a match", find_match);
+    wrong += show("finding a match with two outputs", find_pair);
+    if (wrong != 0) {
+        puts("stack test: more than promised, or sound blocks were refused");
     }
-    return 0;
+    return wrong == 0 ? 0 : 1;
 }

@@ -1,5 +1,5 @@
-/* leafgraph: checks the operator graphs of an image pipeline, and the rules
- * by which later deliveries will rewrite them.
+/* leafgraph: checks the operator graphs of an image pipeline and the rules by
+ * which a later delivery will rewrite them, and finds where a rule matches.
  *
  * What holds for every function here:
  *
@@ -65,14 +65,28 @@ uint64_t lg_check_graph(const uint8_t *graph, size_t graph_len);
  */
 uint64_t lg_check_rule(const uint8_t *rule, size_t rule_len);
 
-/* Finding a match and rewriting follow in later deliveries, with exactly
- * these prototypes. They are not declared before they exist, so that a call
- * to them is found by the compiler and not by the linker.
+/* Finds the least match of a rule in a graph: the one whose first output's
+ * image is at least start and least, then whose second output's image is
+ * least. Start is any number; at or above the number of slots it finds none.
+ * The three buffers must not overlap.
  *
- * uint64_t lg_find_match(const uint8_t *graph, size_t graph_len,
- *                        const uint8_t *rule, size_t rule_len,
- *                        size_t start,
- *                        uint8_t *map, size_t map_len);
+ * Reads:   graph_len bytes at graph, rule_len bytes at rule.
+ * Writes:  on LG_DONE, the 32 bytes at map: sixteen 16-bit numbers,
+ *          little-endian. Number j is the slot that source vertex j matches,
+ *          and 65535 from the rule's number of source vertices on. On a
+ *          refusal, nothing.
+ * Replies: LG_DONE if there is a match; else the first that applies of
+ *          LG_BAD_MAP_LENGTH (map_len is not 32), LG_BAD_GRAPH, LG_BAD_RULE
+ *          and LG_NO_MATCH.
+ */
+uint64_t lg_find_match(const uint8_t *graph, size_t graph_len,
+                       const uint8_t *rule, size_t rule_len,
+                       size_t start,
+                       uint8_t *map, size_t map_len);
+
+/* Rewriting follows in a later delivery, with exactly this prototype. It is
+ * not declared before it exists, so that a call to it is found by the compiler
+ * and not by the linker.
  *
  * uint64_t lg_rewrite(uint8_t *graph, size_t graph_len,
  *                     const uint8_t *rule, size_t rule_len,

@@ -7,12 +7,12 @@ use leafgraph_reference::generate::{
 use leafgraph_reference::random::Random;
 
 use crate::lent::Lent;
-use crate::library;
 use crate::tally::{Call, Tally};
 
 /// One of the checks in both programs, with the blocks to try it on.
 struct Check {
     name: &'static str,
+    replies: [u64; 2],
     proved: fn(&[u8]) -> u64,
     reference: fn(&[u8]) -> u64,
     with_header: fn(&mut Random) -> Vec<u8>,
@@ -22,7 +22,8 @@ struct Check {
 
 const GRAPH: Check = Check {
     name: "check graph",
-    proved: library::check_graph,
+    replies: [0, 2],
+    proved: leafgraph_proved::check_graph,
     reference: leafgraph_reference::check_graph,
     with_header: noise_with_graph_header,
     sound: |random| sound_graph(random).block(),
@@ -31,7 +32,8 @@ const GRAPH: Check = Check {
 
 const RULE: Check = Check {
     name: "check rule",
-    proved: library::check_rule,
+    replies: [0, 3],
+    proved: leafgraph_proved::check_rule,
     reference: leafgraph_reference::check_rule,
     with_header: noise_with_rule_header,
     sound: |random| sound_rule(random).block(),
@@ -40,7 +42,8 @@ const RULE: Check = Check {
 
 /// So many calls, half of them to each check.
 pub fn run(random: &mut Random, calls: u64) -> Vec<Tally> {
-    let mut tallies = [GRAPH, RULE].map(|check| (Tally::new(check.name), check));
+    let mut tallies =
+        [GRAPH, RULE].map(|check| (Tally::new(check.name, &check.replies, &[]), check));
     for call in 0..calls {
         let (tally, check) = &mut tallies[(call % 2) as usize];
         check.call(random, tally);
@@ -57,8 +60,9 @@ impl Check {
             origin,
             proved,
             reference: (self.reference)(&block),
-            changed: !lent.is_as_lent(&block),
-            lent: &[("block", &block)],
+            changed: !lent.holds(&block),
+            start: None,
+            bytes: &[("block", &block)],
         });
     }
 

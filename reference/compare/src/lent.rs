@@ -1,5 +1,5 @@
-//! A block lent to the proved library, with a few bytes around it, so that a
-//! write to the block or just outside it shows.
+//! Bytes lent to the proved library, with a few bytes around them, so that a
+//! write to them or just outside them shows.
 
 use leafgraph_reference::random::Random;
 
@@ -26,8 +26,12 @@ impl Lent {
         &self.bytes[self.from..self.to]
     }
 
-    /// Whether block and surroundings are as they were lent.
-    pub fn is_as_lent(&self, block: &[u8]) -> bool {
+    pub fn block_mut(&mut self) -> &mut [u8] {
+        &mut self.bytes[self.from..self.to]
+    }
+
+    /// Whether the block holds these bytes and its surroundings are untouched.
+    pub fn holds(&self, block: &[u8]) -> bool {
         let is_guard = |bytes: &[u8]| bytes.iter().all(|&byte| byte == GUARD);
         self.block() == block
             && is_guard(&self.bytes[..self.from])

@@ -1,28 +1,40 @@
 //! Runs the proved library and the second program on the same random blocks
 //! and reports any difference.
 //!
-//!     compare [--seed S] [--calls N] checks
+//!     compare [--seed S] [--calls N] checks|matching
 //!
-//! The same seed gives the same calls. Exit status 0: no difference, and
-//! enough calls were done; 1: otherwise; 2: wrong usage.
+//! The same seed gives the same calls. Exit status 0: no difference, enough
+//! calls were done, and everything that must be tried was; 1: otherwise; 2:
+//! wrong usage.
 
 mod checks;
+mod classes;
 mod lent;
-mod library;
+mod matching;
 mod tally;
 
 use std::env;
 use std::process::ExitCode;
+use std::time::Instant;
 
 use leafgraph_reference::random::Random;
 use tally::Tally;
 
 const DEFAULT_SEED: u64 = 1;
-const DEFAULT_CALLS: u64 = 1_000_000;
-const USAGE: &str = "usage: compare [--seed S] [--calls N] checks";
+const USAGE: &str = "usage: compare [--seed S] [--calls N] checks|matching";
 
-/// What is compared. Matching and rewriting will be further modes.
-type Mode = fn(&mut Random, u64) -> Vec<Tally>;
+/// What is compared. Rewriting will be a further mode.
+#[derive(Clone, Copy)]
+struct Mode {
+    name: &'static str,
+    run: fn(&mut Random, u64) -> Vec<Tally>,
+    default_calls: u64,
+}
+
+const MODES: [Mode; 2] = [
+    Mode { name: "checks", run: checks::run, default_calls: 1_000_000 },
+    Mode { name: "matching", run: matching::run, default_calls: 300_000 },
+];
 
 struct Options {
     seed: u64,
@@ -35,12 +47,15 @@ fn main() -> ExitCode {
         eprintln!("{USAGE}");
         return ExitCode::from(2);
     };
-    println!("seed {}, {} calls", options.seed, options.calls);
+    println!("{}: seed {}, {} calls", options.mode.name, options.seed, options.calls);
     let mut random = Random::new(options.seed);
-    let tallies = (options.mode)(&mut random, options.calls);
+    let begin = Instant::now();
+    let tallies = (options.mode.run)(&mut random, options.calls);
+    let seconds = begin.elapsed().as_secs_f64();
     for tally in &tallies {
         print!("{}", tally.report());
     }
+    println!("{seconds:.1} s, {:.0} calls/s", options.calls as f64 / seconds);
     if tallies.iter().all(Tally::passes) {
         println!("no difference");
         ExitCode::SUCCESS
@@ -51,14 +66,17 @@ fn main() -> ExitCode {
 }
 
 fn options(mut arguments: impl Iterator<Item = String>) -> Option<Options> {
-    let (mut seed, mut calls, mut mode) = (DEFAULT_SEED, DEFAULT_CALLS, None);
+    let (mut seed, mut calls, mut mode) = (DEFAULT_SEED, None, None);
     while let Some(argument) = arguments.next() {
         match argument.as_str() {
             "--seed" => seed = arguments.next()?.parse().ok()?,
-            "--calls" => calls = arguments.next()?.parse().ok()?,
-            "checks" if mode.is_none() => mode = Some(checks::run as Mode),
+            "--calls" => calls = Some(arguments.next()?.parse().ok()?),
+            name if mode.is_none() => {
+                mode = Some(MODES.into_iter().find(|mode| mode.name == name)?)
+            }
             _ => return None,
         }
     }
-    Some(Options { seed, calls, mode: mode? })
+    let mode = mode?;
+    Some(Options { seed, calls: calls.unwrap_or(mode.default_calls), mode })
 }

@@ -14,7 +14,8 @@ struct Difference {
     proved: u64,
     reference: u64,
     changed: bool,
-    lent: Vec<(&'static str, Vec<u8>)>,
+    start: Option<usize>,
+    bytes: Vec<(&'static str, Vec<u8>)>,
 }
 
 /// One call and what came of it.
@@ -24,7 +25,10 @@ pub struct Call<'a> {
     pub reference: u64,
     /// Whether lent bytes are not what they should be.
     pub changed: bool,
-    pub lent: &'a [(&'static str, &'a [u8])],
+    /// Where a search starts; the checks have none.
+    pub start: Option<usize>,
+    /// Bytes that tell a reader about a difference, by name.
+    pub bytes: &'a [(&'static str, &'a [u8])],
 }
 
 #[derive(Default)]
@@ -41,19 +45,29 @@ pub struct Tally {
     proved: BTreeMap<u64, u64>,
     reference: BTreeMap<u64, u64>,
     origins: BTreeMap<&'static str, Side>,
+    classes: Vec<(&'static str, u64)>,
 }
 
 impl Tally {
-    pub fn new(name: &'static str) -> Tally {
+    /// All of these replies must be given, and calls of each of these classes
+    /// must be seen, or else the comparison has missed something.
+    pub fn new(name: &'static str, replies: &[u64], classes: &[&'static str]) -> Tally {
         Tally {
             name,
             calls: 0,
             differences: 0,
             first: None,
             proved: BTreeMap::new(),
-            reference: BTreeMap::new(),
+            reference: replies.iter().map(|&reply| (reply, 0)).collect(),
             origins: BTreeMap::new(),
+            classes: classes.iter().map(|&class| (class, 0)).collect(),
         }
+    }
+
+    /// Counts a call of one of the classes named at the start.
+    pub fn count(&mut self, class: &'static str) {
+        let known = self.classes.iter_mut().find(|(name, _)| *name == class);
+        known.expect("a class named at the start").1 += 1;
     }
 
     pub fn record(&mut self, call: Call) {
@@ -68,14 +82,15 @@ impl Tally {
         }
         self.differences += 1;
         if self.first.is_none() {
-            let lent = call.lent.iter().map(|&(name, bytes)| (name, bytes.to_vec()));
+            let bytes = call.bytes.iter().map(|&(name, bytes)| (name, bytes.to_vec()));
             self.first = Some(Difference {
                 call: self.calls,
                 origin: call.origin,
                 proved: call.proved,
                 reference: call.reference,
                 changed: call.changed,
-                lent: lent.collect(),
+                start: call.start,
+                bytes: bytes.collect(),
             });
         }
     }
@@ -88,8 +103,16 @@ impl Tally {
         self.done() * 100 >= self.calls * LEAST_DONE
     }
 
+    /// Replies and classes that must occur and did not.
+    fn missing(&self) -> Vec<String> {
+        let replies = self.reference.iter().filter(|(_, &count)| count == 0);
+        let classes = self.classes.iter().filter(|(_, count)| *count == 0);
+        let replies = replies.map(|(reply, _)| format!("reply {reply}"));
+        replies.chain(classes.map(|(class, _)| class.to_string())).collect()
+    }
+
     pub fn passes(&self) -> bool {
-        self.differences == 0 && self.has_enough_done()
+        self.differences == 0 && self.has_enough_done() && self.missing().is_empty()
     }
 
     /// The summary, the first difference included.
@@ -104,15 +127,25 @@ impl Tally {
             let (calls, done) = (side.calls, side.done);
             writeln!(text, "  {origin}: {calls} calls, {done} done").expect("text");
         }
+        for (class, count) in &self.classes {
+            writeln!(text, "  {class}: {count}").expect("text");
+        }
+        self.report_faults(&mut text);
+        text
+    }
+
+    fn report_faults(&self, text: &mut String) {
         if !self.has_enough_done() {
             let done = self.done();
             writeln!(text, "  only {done} calls are done, under {LEAST_DONE} %").expect("text");
         }
+        for class in self.missing() {
+            writeln!(text, "  never seen: {class}").expect("text");
+        }
         writeln!(text, "  differences: {}", self.differences).expect("text");
         if let Some(first) = &self.first {
-            first.describe(&mut text);
+            first.describe(text);
         }
-        text
     }
 }
 
@@ -124,7 +157,10 @@ impl Difference {
         if self.changed {
             text.push_str("  lent bytes are not what they should be after the call\n");
         }
-        for (name, bytes) in &self.lent {
+        if let Some(start) = self.start {
+            writeln!(text, "  start {start}").expect("text");
+        }
+        for (name, bytes) in &self.bytes {
             writeln!(text, "  {name}, {} bytes:", bytes.len()).expect("text");
             for (line, row) in bytes.chunks(16).enumerate() {
                 let row: Vec<String> = row.iter().map(|byte| format!("{byte:02x}")).collect();

@@ -7,7 +7,7 @@ mod common;
 use common::{map_of, run_match, run_rewrite};
 use leafgraph_reference::attributes::{agrees, results};
 use leafgraph_reference::blocks::{empty, GraphParts, RuleParts, Vertex};
-use leafgraph_reference::generate::{matching_case, Case};
+use leafgraph_reference::generate::{matching_case, search_case, Case};
 use leafgraph_reference::graph::Graph;
 use leafgraph_reference::random::Random;
 use leafgraph_reference::rule::Rule;
@@ -100,8 +100,11 @@ fn least_by_definition(case: &Case) -> Option<Vec<u16>> {
 fn the_search_finds_the_least_match() {
     let mut random = Random::new(1);
     let mut found = [0; 2];
-    while found[0] + found[1] < 1500 {
-        let case = matching_case(&mut random);
+    while found[0] + found[1] < 3000 {
+        let case = match random.chance(50) {
+            true => matching_case(&mut random),
+            false => search_case(&mut random).1,
+        };
         let slots = case.graph.slots.len() as u64;
         let maps = slots.saturating_pow(case.rule.source.len() as u32);
         if maps > 20_000 {
@@ -120,7 +123,7 @@ fn the_search_finds_the_least_match() {
             }
         }
     }
-    assert!(found[0] > 600 && found[1] > 100, "{found:?}");
+    assert!(found[0] > 1000 && found[1] > 500, "{found:?}");
 }
 
 /// "What a rewriting leaves", on parts instead of bytes. Only the attributes
@@ -205,7 +208,7 @@ fn expected_rewriting(case: &Case, map: &[u16]) -> Result<GraphParts, u64> {
 fn the_rewriting_leaves_the_one_table() {
     let mut random = Random::new(2);
     let mut replies = [0; 8];
-    for _ in 0..6000 {
+    for _ in 0..9000 {
         let case = matching_case(&mut random);
         let found = run_match(&case.graph, &case.rule, case.start);
         let answer = run_rewrite(&case.graph, &case.rule, case.start);

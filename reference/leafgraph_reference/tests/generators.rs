@@ -1,9 +1,11 @@
 //! The generators: what they call sound is accepted, and what they damage is
 //! mostly refused.
 
+use std::collections::BTreeMap;
+
 use leafgraph_reference::generate::*;
 use leafgraph_reference::random::Random;
-use leafgraph_reference::{check_graph, check_rule};
+use leafgraph_reference::{check_graph, check_rule, find_match};
 
 #[test]
 fn sound_graphs_are_accepted() {
@@ -56,4 +58,58 @@ fn damage_is_mostly_refused() {
     }
     assert!((3000..5000).contains(&graphs), "{graphs}");
     assert!((3000..5000).contains(&rules), "{rules}");
+}
+
+/// Each change keeps both blocks sound, and leaves some matches and some
+/// cases without one.
+#[test]
+fn search_cases_are_sound_and_of_both_outcomes() {
+    let mut random = Random::new(10);
+    let mut outcomes: BTreeMap<&str, [u32; 2]> = BTreeMap::new();
+    for _ in 0..10_000 {
+        let (change, case) = search_case(&mut random);
+        let (graph, rule) = (case.graph.block(), case.rule.block());
+        let reply = find_match(&graph, &rule, case.start, &mut [0; 32]);
+        assert!(reply == 0 || reply == 4, "{change}: {reply}, {case:?}");
+        outcomes.entry(change).or_default()[usize::from(reply == 4)] += 1;
+    }
+    assert_eq!(outcomes.len(), 9, "{outcomes:?}");
+    assert!(outcomes.values().flatten().all(|&count| count > 100), "{outcomes:?}");
+}
+
+#[test]
+fn search_cases_have_starts_and_sizes_of_every_sort() {
+    let mut random = Random::new(11);
+    let mut seen = [0; 8];
+    for _ in 0..5000 {
+        let (_, case) = search_case(&mut random);
+        let (start, slots) = (case.start, case.graph.slots.len());
+        let sorts = [
+            start == 0,
+            (1..slots).contains(&start),
+            start == slots,
+            start == 65535,
+            // Low 16 bits, or low 32 bits, that name a slot.
+            start > 65535 && start % (1 << 16) < slots,
+            start > 1 << 32 && start % (1 << 32) < slots,
+            start == usize::MAX,
+            slots == 512,
+        ];
+        seen.iter_mut().zip(sorts).for_each(|(count, holds)| *count += u32::from(holds));
+    }
+    assert!(seen.iter().all(|&count| count > 5), "{seen:?}");
+}
+
+/// The blocks of a case, damaged: most are refused, and some stay sound.
+#[test]
+fn damaged_cases_are_mostly_refused() {
+    let mut random = Random::new(12);
+    let (mut graphs, mut rules) = (0, 0);
+    for _ in 0..2000 {
+        let (_, case) = search_case(&mut random);
+        graphs += usize::from(check_graph(&damaged_graph_of(&mut random, case.graph)) == 2);
+        rules += usize::from(check_rule(&damaged_rule_of(&mut random, case.rule)) == 3);
+    }
+    assert!((1000..2000).contains(&graphs), "{graphs}");
+    assert!((1000..2000).contains(&rules), "{rules}");
 }

@@ -2,12 +2,13 @@
 //! interior vertices, two outputs, look-alike stages, attributes that are
 //! computed from other attributes.
 
-use crate::blocks::{access_node, any_node, constant_node, operation_node, pattern};
+use crate::blocks::{access_node, any_node, constant_node, pattern};
 use crate::blocks::{wildcard, GraphParts, PatternParts, RuleParts, Vertex};
-use crate::operators::CALL;
+use crate::operators::{CALL, PLACES};
 use crate::random::Random;
-use crate::rule::{DIVIDE, MAX_NODES, MAX_VERTICES, PLUS, REMAINDER, TARGET_BASE, TIMES};
+use crate::rule::{MAX_NODES, MAX_VERTICES, TARGET_BASE};
 
+use super::agreeing::{at_the_limits, by_division, doubled, near_miss, plus, MOST_NODES};
 use super::expressions::Expressions;
 use super::graphs::{attribute, sound_graph_of};
 use super::rules::{is_input_kind, rule_with_random_target};
@@ -22,7 +23,7 @@ pub struct Case {
 
 /// A graph and a rule that mostly matches in it, with a random target.
 pub fn matching_case(random: &mut Random) -> Case {
-    let (graph, cut) = graph_and_cut(random);
+    let (graph, cut) = graph_and_cut(random, graph);
     let rule = rule_with_random_target(random, cut.source, cut.outputs, cut.expressions);
     let start = start(random, graph.slots.len());
     Case { graph, rule, start }
@@ -32,7 +33,7 @@ pub fn matching_case(random: &mut Random) -> Case {
 /// operators mean: copies of the source's vertices with the attributes of
 /// their images, some alike ones merged. None where the nodes do not suffice.
 pub fn same_meaning_case(random: &mut Random) -> Option<Case> {
-    let (graph, cut) = graph_and_cut(random);
+    let (graph, cut) = graph_and_cut(random, graph);
     let rule = rule_with_same_meaning(random, cut)?;
     let start = start(random, graph.slots.len());
     Some(Case { graph, rule, start })
@@ -47,13 +48,21 @@ fn start(random: &mut Random, slots: usize) -> usize {
     }
 }
 
-fn graph_and_cut(random: &mut Random) -> (GraphParts, Cut) {
+fn graph(random: &mut Random) -> GraphParts {
+    let slots = match random.chance(90) {
+        true => random.within(2, 24),
+        false => random.within(25, 200),
+    };
+    sound_graph_of(random, slots)
+}
+
+/// A graph that this function makes, and a cut from it.
+pub(super) fn graph_and_cut(
+    random: &mut Random,
+    graph: fn(&mut Random) -> GraphParts,
+) -> (GraphParts, Cut) {
     loop {
-        let slots = match random.chance(90) {
-            true => random.within(2, 24),
-            false => random.within(25, 200),
-        };
-        let graph = sound_graph_of(random, slots);
+        let graph = graph(random);
         if let Some(cut) = (0..10).find_map(|_| cut(random, &graph)) {
             return (graph, cut);
         }
@@ -61,20 +70,24 @@ fn graph_and_cut(random: &mut Random) -> (GraphParts, Cut) {
 }
 
 /// The source side of a rule as it was found in a graph.
-struct Cut {
-    source: Vec<PatternParts>,
-    outputs: Vec<u8>,
-    expressions: Expressions,
+pub(super) struct Cut {
+    pub source: Vec<PatternParts>,
+    pub outputs: Vec<u8>,
+    pub expressions: Expressions,
+    /// The slot that each source vertex was cut from.
+    pub images: Vec<u16>,
 }
 
 /// A walk from one or two roots that stops here and there with a wildcard.
 struct Cutter<'a> {
     graph: &'a GraphParts,
-    reads: Vec<usize>,
+    readers: Vec<usize>,
     roots: Vec<u16>,
     numbers: Vec<Option<u8>>,
     source: Vec<PatternParts>,
     images: Vec<u16>,
+    /// How many vertices are entered and not left yet.
+    open: usize,
     eagerness: usize,
 }
 
@@ -82,11 +95,12 @@ fn cut(random: &mut Random, graph: &GraphParts) -> Option<Cut> {
     let roots = roots(random, graph)?;
     let mut cutter = Cutter {
         graph,
-        reads: reads(graph),
+        readers: readers(graph),
         roots: roots.clone(),
         numbers: vec![None; graph.slots.len()],
         source: vec![],
         images: vec![],
+        open: 0,
         eagerness: random.pick(&[20, 50, 80, 95]),
     };
     let mut outputs = vec![];
@@ -98,7 +112,7 @@ fn cut(random: &mut Random, graph: &GraphParts) -> Option<Cut> {
     }
     let mut expressions = Expressions::new();
     cutter.fill_attributes(random, &mut expressions);
-    Some(Cut { source: cutter.source, outputs, expressions })
+    Some(Cut { source: cutter.source, outputs, expressions, images: cutter.images })
 }
 
 /// One or two vertices that can be source outputs.
@@ -139,7 +153,7 @@ fn partners(random: &mut Random, graph: &GraphParts, suiting: &[u16], first: u16
 }
 
 /// Whether the upper vertex has a path to the lower one.
-fn is_below(graph: &GraphParts, upper: u16, lower: u16) -> bool {
+pub(super) fn is_below(graph: &GraphParts, upper: u16, lower: u16) -> bool {
     let mut seen = vec![false; graph.slots.len()];
     let mut open = vec![lower];
     while let Some(slot) = open.pop() {
@@ -153,13 +167,18 @@ fn is_below(graph: &GraphParts, upper: u16, lower: u16) -> bool {
     false
 }
 
-fn reads(graph: &GraphParts) -> Vec<usize> {
-    let mut reads = vec![0; graph.slots.len()];
-    let inputs = graph.slots.iter().flat_map(|vertex| &vertex.inputs);
-    for &named in inputs.chain(&graph.outputs) {
-        reads[usize::from(named)] += 1;
+/// How many vertices and graph outputs name each slot. A vertex that names a
+/// slot in several places counts once: it is cut out with all of them.
+fn readers(graph: &GraphParts) -> Vec<usize> {
+    let mut readers = vec![0; graph.slots.len()];
+    for vertex in &graph.slots {
+        let mut named = vertex.inputs.clone();
+        named.sort_unstable();
+        named.dedup();
+        named.iter().for_each(|&slot| readers[usize::from(slot)] += 1);
     }
-    reads
+    graph.outputs.iter().for_each(|&slot| readers[usize::from(slot)] += 1);
+    readers
 }
 
 impl Cutter<'_> {
@@ -178,9 +197,11 @@ impl Cutter<'_> {
         if is_root || self.goes_on(random, slot) {
             let attributes = vec![0; vertex.attributes.len()];
             made = pattern(vertex.kind, vertex.operator, &[], &attributes);
+            self.open += 1;
             for &input in &vertex.inputs {
                 made.inputs.push(self.cut(random, input, false)?);
             }
+            self.open -= 1;
         }
         if self.source.len() == MAX_VERTICES {
             return None;
@@ -193,13 +214,16 @@ impl Cutter<'_> {
     }
 
     /// A vertex with several readers is seldom taken as interior, since all
-    /// of them would have to be cut out too; one that reads a root never.
+    /// of them would have to be cut out too; one that reads a root never, and
+    /// none when there is no place for the vertex and an input of its own.
     fn goes_on(&self, random: &mut Random, slot: u16) -> bool {
         let inputs = &self.graph.slots[usize::from(slot)].inputs;
-        if inputs.iter().any(|input| self.roots.contains(input)) {
+        if inputs.iter().any(|input| self.roots.contains(input))
+            || self.source.len() + self.open + 2 > MAX_VERTICES
+        {
             return false;
         }
-        let alone = self.reads[usize::from(slot)] == 1;
+        let alone = self.readers[usize::from(slot)] == 1;
         let input = is_input_kind(self.graph.slots[usize::from(slot)].kind);
         let share = if alone || input { self.eagerness } else { self.eagerness / 4 };
         random.chance(share)
@@ -233,14 +257,18 @@ impl Cutter<'_> {
         vertex: usize,
         number: i32,
     ) -> u8 {
-        if !expressions.has_room() || expressions.nodes.len() + 6 > MAX_NODES {
+        if expressions.nodes.len() + MOST_NODES + 2 > MAX_NODES {
             return expressions.for_source(random, vertex);
         }
-        match random.below(20) {
-            0..=6 => expressions.push(any_node()),
-            7..=10 => expressions.push(constant_node(number)),
-            11..=15 => self.node_by_access(random, expressions, vertex, number),
-            16..=18 => node_by_division(random, expressions, number),
+        match random.below(80) {
+            _ if random.below(500) == 0 => doubled(random, expressions, number),
+            0..=27 => expressions.push(any_node()),
+            28..=43 => expressions.push(constant_node(number)),
+            44..=61 => self.node_by_access(random, expressions, vertex, number),
+            62..=72 => by_division(random, expressions, number),
+            73..=76 => at_the_limits(random, expressions, number),
+            77 => near_miss(random, expressions, number),
+            78 => self.access_past_attributes(random, expressions, vertex, number),
             _ => expressions.push(constant_node(attribute(random))),
         }
     }
@@ -269,43 +297,32 @@ impl Cutter<'_> {
             Some(&access) if random.chance(70) => access,
             _ => random.pick(&accesses),
         };
-        let access = expressions.push(access_node(lower, place));
         match number.checked_sub(value) {
-            Some(0) => access,
             Some(difference) => {
-                let difference = expressions.push(constant_node(difference));
-                expressions.push(operation_node(PLUS, access, difference))
+                let access = expressions.push(access_node(lower, place));
+                plus(expressions, access, difference)
             }
             None => expressions.push(any_node()),
         }
     }
-}
 
-/// A quotient or a remainder that is this number, both signs of divisors.
-fn node_by_division(random: &mut Random, expressions: &mut Expressions, number: i32) -> u8 {
-    let divisor = random.pick(&[2, 3, 7, -2, -3, -7, 1, -1]);
-    let rest = if divisor > 0 {
-        random.below(divisor as usize) as i32
-    } else {
-        -(random.below(-divisor as usize) as i32)
-    };
-    let dividend = number.checked_mul(divisor).and_then(|product| product.checked_add(rest));
-    match dividend {
-        Some(dividend) if random.chance(60) => {
-            let dividend = expressions.push(constant_node(dividend));
-            let divisor = expressions.push(constant_node(divisor));
-            expressions.push(operation_node(DIVIDE, dividend, divisor))
+    /// An access past the attributes of a lower vertex, plus the number: no
+    /// result, but the number where such an access reads the unused place.
+    fn access_past_attributes(
+        &self,
+        random: &mut Random,
+        expressions: &mut Expressions,
+        vertex: usize,
+        number: i32,
+    ) -> u8 {
+        if vertex == 0 {
+            return expressions.push(any_node());
         }
-        _ if (0..1000).contains(&number) => {
-            let dividend = expressions.push(constant_node(number - 1001));
-            let divisor = expressions.push(constant_node(1001));
-            expressions.push(operation_node(REMAINDER, dividend, divisor))
-        }
-        _ => {
-            let factor = expressions.push(constant_node(number));
-            let one = expressions.push(constant_node(1));
-            expressions.push(operation_node(TIMES, factor, one))
-        }
+        let lower = random.below(vertex);
+        let count = self.graph.slots[usize::from(self.images[lower])].attributes.len();
+        let place = random.within((count + 1).min(PLACES), PLACES);
+        let access = expressions.push(access_node(lower as u8, place as u8));
+        plus(expressions, access, number)
     }
 }
 

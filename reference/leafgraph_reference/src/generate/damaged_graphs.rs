@@ -13,7 +13,12 @@ pub fn damaged_graph(random: &mut Random) -> Vec<u8> {
     if random.below(200) == 0 {
         return sound_graph_of(random, MAX_SLOTS + 1).block();
     }
-    let mut parts = sound_graph(random);
+    let parts = sound_graph(random);
+    damaged_graph_of(random, parts)
+}
+
+/// This graph's block after one to three damages.
+pub fn damaged_graph_of(random: &mut Random, mut parts: GraphParts) -> Vec<u8> {
     let mut block = if random.chance(50) {
         damage_parts(random, &mut parts);
         parts.block()

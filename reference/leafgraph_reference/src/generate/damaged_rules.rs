@@ -12,7 +12,12 @@ use super::rules::{rule_inputs, rule_with_random_target, sound_rule};
 
 /// A sound rule's block after one to three damages.
 pub fn damaged_rule(random: &mut Random) -> Vec<u8> {
-    let mut parts = sound_rule(random);
+    let parts = sound_rule(random);
+    damaged_rule_of(random, parts)
+}
+
+/// This rule's block after one to three damages.
+pub fn damaged_rule_of(random: &mut Random, mut parts: RuleParts) -> Vec<u8> {
     let mut block = if random.chance(65) {
         damage_parts(random, &mut parts);
         parts.block()

@@ -3,7 +3,7 @@
 use crate::blocks::{call, GraphParts, Vertex};
 use crate::blocks::{constant, empty, projection, tuple, variable_of};
 use crate::graph::MAX_SLOTS;
-use crate::operators::{operator_of, ADD, RELU};
+use crate::operators::{operator_of, ADD, OPERATORS, PLACES, RELU};
 use crate::random::Random;
 
 /// A sound graph, mostly small, sometimes as large as they come.
@@ -66,6 +66,35 @@ fn long_chain(random: &mut Random) -> GraphParts {
     }
     let output = random.pick(&numbers);
     GraphParts::new(table, &[output])
+}
+
+/// A graph that is one long path, of vertices with one input each or with
+/// the same one in several places: large sources can be cut out of it.
+pub(super) fn deep_graph(random: &mut Random) -> GraphParts {
+    let slots = random.within(17, 60);
+    let mut numbers = used_slots(random, slots);
+    let last = numbers.pop().expect("a slot in use");
+    let mut table = vec![empty(); slots];
+    let mut input = last;
+    table[usize::from(last)] = leaf(random);
+    for number in numbers {
+        table[usize::from(number)] = vertex_over_one(random, input);
+        input = number;
+    }
+    GraphParts::new(table, &[input])
+}
+
+fn vertex_over_one(random: &mut Random, input: u16) -> Vertex {
+    match random.below(10) {
+        0 => tuple(&vec![input; random.within(1, PLACES)]),
+        1 => projection(input, attribute(random).max(1)),
+        _ => {
+            let operator = random.within(RELU.into(), OPERATORS.len()) as u8;
+            let entry = operator_of(operator).expect("a number from 1 to 14");
+            let attributes = (0..entry.attributes).map(|_| attribute(random));
+            call(operator, &[input], &attributes.collect::<Vec<i32>>())
+        }
+    }
 }
 
 /// The slots that are not Empty, in the order of the edges.

@@ -1,6 +1,7 @@
 //! Random blocks for the comparison and for tests: sound ones of all shapes,
 //! and damaged ones that are only just unsound.
 
+mod agreeing;
 mod cuts;
 mod damaged_graphs;
 mod damaged_rules;
@@ -8,10 +9,12 @@ mod expressions;
 mod graphs;
 mod noise;
 mod rules;
+mod searches;
 
 pub use cuts::{matching_case, same_meaning_case, Case};
-pub use damaged_graphs::damaged_graph;
-pub use damaged_rules::damaged_rule;
+pub use damaged_graphs::{damaged_graph, damaged_graph_of};
+pub use damaged_rules::{damaged_rule, damaged_rule_of};
 pub use graphs::{sound_graph, sound_graph_of};
 pub use noise::{noise, noise_with_graph_header, noise_with_rule_header};
 pub use rules::sound_rule;
+pub use searches::search_case;

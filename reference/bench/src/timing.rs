@@ -1,0 +1,67 @@
+//! Two calls timed in turn, so that what slows the machine down for a while
+//! slows both down.
+
+use std::hint::black_box;
+
+/// Many short batches: on a busy machine some of them run undisturbed.
+const ROUNDS: usize = 60;
+/// A batch takes at least this many nanoseconds, far more than reading the
+/// clock.
+const BATCH: i64 = 300_000;
+
+/// Nanoseconds for each of the two calls, the best of all rounds.
+pub fn best_of_each<A>(one: &impl Fn() -> A, other: &impl Fn() -> A) -> (f64, f64) {
+    let repeats = (repeats(one), repeats(other));
+    let mut best = (f64::INFINITY, f64::INFINITY);
+    for _ in 0..ROUNDS {
+        best.0 = best.0.min(nanoseconds(one, repeats.0));
+        best.1 = best.1.min(nanoseconds(other, repeats.1));
+    }
+    best
+}
+
+/// How many calls make a batch.
+fn repeats<A>(call: &impl Fn() -> A) -> u32 {
+    let mut repeats = 1;
+    while batch(call, repeats) < BATCH {
+        repeats *= 2;
+    }
+    repeats
+}
+
+fn nanoseconds<A>(call: &impl Fn() -> A, repeats: u32) -> f64 {
+    batch(call, repeats) as f64 / f64::from(repeats)
+}
+
+fn batch<A>(call: &impl Fn() -> A, repeats: u32) -> i64 {
+    let begin = processor_time();
+    for _ in 0..repeats {
+        black_box(call());
+    }
+    processor_time() - begin
+}
+
+/// C's `timespec`, and the number of the clock that counts only while this
+/// thread is on a processor; both as on Linux for x86-64, the only machine
+/// that the archive is for.
+#[repr(C)]
+struct Timespec {
+    seconds: i64,
+    nanoseconds: i64,
+}
+
+const CLOCK_THREAD_CPUTIME_ID: i32 = 3;
+
+extern "C" {
+    fn clock_gettime(clock: i32, time: *mut Timespec) -> i32;
+}
+
+/// Nanoseconds that this thread has been on a processor. The wall clock would
+/// count other programs' time too.
+fn processor_time() -> i64 {
+    let mut time = Timespec { seconds: 0, nanoseconds: 0 };
+    // SAFETY: the pointer is valid for a write of the struct.
+    let status = unsafe { clock_gettime(CLOCK_THREAD_CPUTIME_ID, &mut time) };
+    assert_eq!(status, 0, "no clock for the time of a thread");
+    1_000_000_000 * time.seconds + time.nanoseconds
+}

@@ -1,0 +1,193 @@
+//! What a search met, so that the comparison can show that it was not empty.
+//! All of it is taken from the second program's answer.
+
+use leafgraph_reference::graph::Graph;
+use leafgraph_reference::rule::{
+    Rule, ACCESS, ANY, CONSTANT, DIVIDE, MAX_NODES, MINUS, PLUS, REMAINDER, TIMES,
+};
+
+use crate::tally::Tally;
+
+/// Every class must occur. A candidate is a slot from the start on that has
+/// the kind, operator and counts of the first output.
+pub const CLASSES: [&str; 23] = [
+    "one output, found",
+    "one output, none",
+    "two outputs, found",
+    "two outputs, none",
+    "found at the first candidate",
+    "found at a later candidate",
+    "none though there were candidates",
+    "second image below the start, found",
+    "inner vertex read twice, found",
+    "largest graph, found",
+    "largest graph, none",
+    "largest source, found",
+    "start past 16 bits",
+    "start past 32 bits",
+    "any attribute, found",
+    "constant, found",
+    "access, found",
+    "sum, difference or product, found",
+    "quotient, found",
+    "remainder, found",
+    "negative attribute, found",
+    "deep expression, found",
+    "computed attribute, none",
+];
+
+/// Deeper than any expression that is not made to be deep.
+const DEEP: u8 = 20;
+
+const LARGEST_GRAPH: usize = 512;
+const LARGEST_SOURCE: usize = 16;
+
+/// A search in sound blocks, and what came of it.
+struct Search<'a> {
+    graph: Graph<'a>,
+    rule: Rule<'a>,
+    start: usize,
+    /// The slot of each source vertex, where there is a match.
+    images: Option<Vec<usize>>,
+}
+
+pub fn count_classes(
+    tally: &mut Tally,
+    graph: &[u8],
+    rule: &[u8],
+    start: usize,
+    reply: u64,
+    map: &[u8],
+) {
+    if reply != 0 && reply != 4 {
+        return;
+    }
+    let (Ok(graph), Ok(rule)) = (Graph::parse(graph), Rule::parse(rule)) else {
+        return;
+    };
+    let numbers = map.chunks_exact(2).map(|pair| u16::from_le_bytes([pair[0], pair[1]]).into());
+    let images = (reply == 0).then(|| numbers.take(rule.source_count()).collect());
+    let search = Search { graph, rule, start, images };
+    let classes = search.shapes().into_iter().chain(search.course()).chain(search.expressions());
+    for (class, holds) in classes {
+        if holds {
+            tally.count(class);
+        }
+    }
+}
+
+type Class = (&'static str, bool);
+
+impl Search<'_> {
+    fn found(&self) -> bool {
+        self.images.is_some()
+    }
+
+    /// Outputs, sizes and starts.
+    fn shapes(&self) -> Vec<Class> {
+        let (found, two) = (self.found(), self.rule.output_count() == 2);
+        let largest = self.graph.slot_count() == LARGEST_GRAPH;
+        vec![
+            ("one output, found", found && !two),
+            ("one output, none", !found && !two),
+            ("two outputs, found", found && two),
+            ("two outputs, none", !found && two),
+            ("largest graph, found", found && largest),
+            ("largest graph, none", !found && largest),
+            ("largest source, found", found && self.rule.source_count() == LARGEST_SOURCE),
+            ("inner vertex read twice, found", found && self.has_shared_interior()),
+            ("start past 16 bits", self.start >> 16 != 0),
+            ("start past 32 bits", self.start >> 32 != 0),
+        ]
+    }
+
+    /// How the search went.
+    fn course(&self) -> Vec<Class> {
+        let Some(first) = self.output_image(0) else {
+            let some = self.has_candidate(self.graph.slot_count());
+            return vec![("none though there were candidates", some)];
+        };
+        let later = self.has_candidate(first);
+        let second = self.rule.output_count() == 2 && self.output_image(1) < Some(self.start);
+        vec![
+            ("found at the first candidate", !later),
+            ("found at a later candidate", later),
+            ("second image below the start, found", second),
+        ]
+    }
+
+    fn output_image(&self, place: usize) -> Option<usize> {
+        let output = usize::from(self.rule.source_output(place));
+        self.images.as_ref().map(|images| images[output])
+    }
+
+    /// Whether there is a candidate below this slot.
+    fn has_candidate(&self, below: usize) -> bool {
+        let head = self.rule.source(self.rule.source_output(0).into()).head();
+        (self.start..below).any(|slot| self.graph.slot(slot).head() == head)
+    }
+
+    fn has_shared_interior(&self) -> bool {
+        let rule = self.rule;
+        let reads = |vertex| {
+            rule.sources().flat_map(|reader| reader.inputs()).filter(move |&i| i == vertex)
+        };
+        (0..rule.source_count() as u8)
+            .any(|vertex| !rule.is_rule_input(vertex) && reads(vertex).count() > 1)
+    }
+
+    /// What the source's attributes are made of.
+    fn expressions(&self) -> Vec<Class> {
+        let forms = self.forms();
+        let uses = |form: u8| forms >> form & 1 == 1;
+        let computed = [ACCESS, PLUS, MINUS, TIMES, DIVIDE, REMAINDER].into_iter().any(uses);
+        if !self.found() {
+            return vec![("computed attribute, none", computed)];
+        }
+        vec![
+            ("any attribute, found", uses(ANY)),
+            ("constant, found", uses(CONSTANT)),
+            ("access, found", uses(ACCESS)),
+            ("sum, difference or product, found", uses(PLUS) || uses(MINUS) || uses(TIMES)),
+            ("quotient, found", uses(DIVIDE)),
+            ("remainder, found", uses(REMAINDER)),
+            ("negative attribute, found", self.has_negative_attribute()),
+            ("deep expression, found", self.depth() >= DEEP),
+        ]
+    }
+
+    /// A bit for each form that source attributes use, themselves or through
+    /// other nodes.
+    fn forms(&self) -> u8 {
+        self.over_nodes(|form, operands| 1 << form | operands, |one, other| one | other)
+    }
+
+    /// The most steps from a source attribute's node down to a leaf.
+    fn depth(&self) -> u8 {
+        self.over_nodes(|form, operands| operands + u8::from(form >= PLUS), u8::max)
+    }
+
+    /// A number for each node, made from its form and from what joins its
+    /// operands' numbers, joined over all attributes of the source.
+    fn over_nodes(&self, make: impl Fn(u8, u8) -> u8, join: impl Fn(u8, u8) -> u8) -> u8 {
+        let mut numbers = [0; MAX_NODES];
+        for index in 0..self.rule.node_count() {
+            let node = self.rule.node(index);
+            let of = |operand: u8| numbers[usize::from(operand)];
+            let operands = if node.form >= PLUS { join(of(node.a), of(node.b)) } else { 0 };
+            numbers[index] = make(node.form, operands);
+        }
+        let used = self.rule.sources().flat_map(|source| source.attributes());
+        used.fold(0, |all, node| join(all, numbers[usize::from(node)]))
+    }
+
+    /// Whether a negative attribute agreed with something else than any.
+    fn has_negative_attribute(&self) -> bool {
+        let images = self.images.iter().flatten();
+        self.rule.sources().zip(images).any(|(source, &image)| {
+            let numbers = self.graph.slot(image).attributes();
+            let mut pairs = source.attributes().zip(numbers);
+            pairs.any(|(node, number)| number < 0 && self.rule.node(node.into()).form != ANY)
+        })
+    }
+}

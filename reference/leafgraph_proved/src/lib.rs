@@ -1,0 +1,44 @@
+//! The proved library, through its C entry points. These declarations must be
+//! those of include/leafgraph.h.
+
+extern "C" {
+    fn lg_check_graph(graph: *const u8, graph_len: usize) -> u64;
+    fn lg_check_rule(rule: *const u8, rule_len: usize) -> u64;
+    fn lg_find_match(
+        graph: *const u8,
+        graph_len: usize,
+        rule: *const u8,
+        rule_len: usize,
+        start: usize,
+        map: *mut u8,
+        map_len: usize,
+    ) -> u64;
+}
+
+pub fn check_graph(graph: &[u8]) -> u64 {
+    // SAFETY: the pointer is valid for the length, and not null even when the
+    // length is 0, which is all that the header asks.
+    unsafe { lg_check_graph(graph.as_ptr(), graph.len()) }
+}
+
+pub fn check_rule(rule: &[u8]) -> u64 {
+    // SAFETY: as above.
+    unsafe { lg_check_rule(rule.as_ptr(), rule.len()) }
+}
+
+pub fn find_match(graph: &[u8], rule: &[u8], start: usize, map: &mut [u8]) -> u64 {
+    let (graph_len, rule_len, map_len) = (graph.len(), rule.len(), map.len());
+    // SAFETY: as above; and the map, which may be written, overlaps neither
+    // block, since it is borrowed for this call alone.
+    unsafe {
+        lg_find_match(
+            graph.as_ptr(),
+            graph_len,
+            rule.as_ptr(),
+            rule_len,
+            start,
+            map.as_mut_ptr(),
+            map_len,
+        )
+    }
+}
