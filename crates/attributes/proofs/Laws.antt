@@ -19,9 +19,10 @@ use Rattle.definitions.specs.Graph.{Slot, Graph, emptySlot, slotCount, graphOf,
 use Rattle.definitions.specs.Rule.{sourceCount, nodeCount, nodeAt, Expression, anything, constant, access, apply, nodeForm, nodeLeft, nodeRight, nodeFrom, expressions, expressionOf, nodeFits, accessesBelow}
 use Rattle.definitions.specs.Attributes.{combine, result, gives, agrees}
 use Rattle.definitions.specs.Match.{imageOf, attributeOf, readAttribute}
-use Rattle.laws.proofs.Lists.{getD-any, decided, and-left, and-right, needed, allBelow-step, allBelow-fails}
+use Rattle.laws.proofs.Lists.{decided, and-left, and-right, needed, allBelow-step, allBelow-fails}
 use Rattle.laws.proofs.Builds.{build-at, getD-none}
 use Rattle.laws.proofs.Graph.{length-slots, slot-past}
+use Rattle.laws.proofs.Match.{image-at}
 use Rattle.rule_expressions.proofs.Laws.{left-earlier, right-earlier}
 use Rattle.numbers.specs.declared.Value.{Value}
 use Rattle.numbers.specs.declared.Value.the-variants.{Nothing, Plus, Minus}
@@ -99,10 +100,6 @@ agree-first-below read other j ps ws h same =
     (λ i l. agrees-below read other j (getD ps i anything) (signed (getD ws i 0)) (h i l) same)
 
 -- ---- attributes of images
-
-pub image-at : (images : List ℕ) (v : ℕ) → v < length images → imageOf images v ≡ getD images v 0
-unfolding imageOf
-image-at images v l = getD-any images v 65535 0 l
 
 module _ (s : Slot) (b : ℕ) where
   pub place-zero : b < 1 → none ≡ attributeOf s b

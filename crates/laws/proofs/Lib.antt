@@ -8,3 +8,4 @@ pub mod Padded
 pub mod Ranges
 pub mod Reply
 pub mod Members
+pub mod Match

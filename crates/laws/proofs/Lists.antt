@@ -1,8 +1,8 @@
 -- Laws about the words of `Lists`: what a loop over an index, or a reader of a decoded list, needs to know.
 -- Assumes nothing.
-use mathlib.Core.Path.{_≡_, refl, sym, ap, _∙_}
+use mathlib.Core.Path.{_≡_, refl, sym, ap, ap₂, _∙_}
 use mathlib.Core.Bool.{Bool, true, false, _&&_, _||_, and-false, or-true, or-false, false≢true}
-use mathlib.Core.List.{List, [], _∷_, List·Memᴰ, List·Memᴰ·head, List·Memᴰ·tail}
+use mathlib.Core.List.{List, [], _∷_, map, List·Memᴰ, List·Memᴰ·head, List·Memᴰ·tail}
 use mathlib.Core.Logic.{_⊎_, inl, inr, ⊎-elim}
 use Prim.Native.Nat.{ℕ, zero, suc, _+_, _<_, _≤_}
 use native.Mathlib.Nat.{not-suc-le-zero, le-of-suc-le-suc}
@@ -203,3 +203,13 @@ getD-any (x ∷ xs) (suc i) d e l = getD-any xs i d e (le-of-suc-le-suc l)
 pub length-none : {A : Type 0} (xs : List A) → length xs ≡ 0 → xs ≡ []
 length-none [] e = refl
 length-none (x ∷ xs) e = absurd (omega arith)
+
+pub map-at : (f : ℕ → ℕ) (xs : List ℕ) (i d e : ℕ) → i < length xs → getD (map f xs) i d ≡ f (getD xs i e)
+map-at f [] i d e l = absurd (not-suc-le-zero l)
+map-at f (x ∷ xs) zero d e l = refl
+map-at f (x ∷ xs) (suc i) d e l = map-at f xs i d e (le-of-suc-le-suc l)
+
+-- functions that agree on the elements
+pub map-same : (f h : ℕ → ℕ) (xs : List ℕ) → ((x : ℕ) → List·Memᴰ x xs → f x ≡ h x) → map f xs ≡ map h xs
+map-same f h [] e = refl
+map-same f h (x ∷ xs) e = ap₂ _∷_ (e x (List·Memᴰ·head refl)) (map-same f h xs (λ y m. e y (List·Memᴰ·tail m)))

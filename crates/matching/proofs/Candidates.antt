@@ -16,7 +16,7 @@ use Rattle.definitions.specs.Rule.{Rule, anything, sourceOf, ruleOf, sourceCoun
 use Rattle.definitions.specs.Match.{imageOf, isInterior, Match}
 use Rattle.laws.proofs.Lists.{decided, true-not-false, and-left, and-right, needed}
 use Rattle.laws.proofs.Members.{holds, true-holds, mem-place}
-use Rattle.laws.proofs.Graph.{vertex-inside}
+use Rattle.laws.proofs.Match.{image-inside}
 use Rattle.laws.proofs.Rule.{source-reader, length-source}
 use Rattle.uses.specs.Uses.{usesOf, placesOf, demandOf}
 use Rattle.uses.proofs.Inside.{private-uses}
@@ -197,9 +197,6 @@ module _ (g : Graph) (r : Rule) (f : Formed r) (j v : ℕ) (l : j < length (r .s
 -- ---- an image under a match passes the look
 
 module _ (g : Graph) (r : Rule) (f : Formed r) (whole : List ℕ) (m : Match g r whole) where
-  image-inside : (j : ℕ) → j < length (r .source) → imageOf whole j < length (g .slots)
-  image-inside j l = vertex-inside g (imageOf whole j) (holds (isVertex g (imageOf whole j)) (m .vertices j l))
-
   input-inside : (j u : ℕ) → Reads (sourceInputs r) j u → u < length (r .source)
   input-inside j u reads = omega (arith, f .lower j u reads, source-reader r j u reads)
 
@@ -226,7 +223,7 @@ module _ (g : Graph) (r : Rule) (f : Formed r) (whole : List ℕ) (m : Match g r
     match-uses = ⊎-elim
         (λ (t : isInterior r j ≡ true).
         rw t (demand-met (placesOf r j) (usesOf g (imageOf whole j))
-        (private-uses g r whole (f .plain) input-inside image-inside (m .injective) image-inputs j l
+        (private-uses g r whole (f .plain) input-inside (λ i k. image-inside g r whole i m k) (m .injective) image-inputs j l
         (m .interior j l (true-holds (isInterior r j) t)))))
         (λ (t : isInterior r j ≡ false). rw t (no-demand (usesOf g (imageOf whole j))))
         (decided (isInterior r j))

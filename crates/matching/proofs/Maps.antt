@@ -1,12 +1,11 @@
 -- A map of the first source vertices that gains one more image, and what a match gives to the map that it extends.
 -- Assumes nothing.
-use mathlib.Core.Path.{_≡_, refl, sym, ap, ap₂, _∙_, subst}
+use mathlib.Core.Path.{_≡_, refl, sym, ap, _∙_, subst}
 use mathlib.Core.Bool.{Bool, true, false}
-use mathlib.Core.List.{List, [], _∷_, map, List·Memᴰ, List·Memᴰ·head, List·Memᴰ·tail}
+use mathlib.Core.List.{List, map}
 use mathlib.Core.Logic.{⊎-elim}
-use Prim.Native.Nat.{ℕ, zero, suc, _+_, _<_}
-use native.Mathlib.Nat.{not-suc-le-zero, le-of-suc-le-suc}
-use native.Mathlib.Numerals.{add-one}
+use Prim.Native.Nat.{ℕ, suc, _<_}
+use native.Mathlib.Nat.{not-suc-le-zero}
 use native.Mathlib.Omega.{arith}
 use borrow.Author.Tests.{eqb-true, eqb-false, eq-eqb, ltb-true, ltb-false}
 use lib.Dec.{eqb, ltb, T}
@@ -19,7 +18,7 @@ use Rattle.definitions.specs.Graph.{unusedPlace, Slot, Graph, slotOf, inputsOf,
 use Rattle.definitions.specs.Rule.{sideLimit, Rule, sourceOf, sourceInputs}
 use Rattle.definitions.specs.Attributes.{agrees}
 use Rattle.definitions.specs.Match.{imageOf, attributeOf, readAttribute, isInterior, Takes, Match}
-use Rattle.laws.proofs.Lists.{decided, true-not-false, anyBelow-found, anyBelow-some}
+use Rattle.laws.proofs.Lists.{decided, true-not-false, anyBelow-found, anyBelow-some, map-at, map-same}
 use Rattle.laws.proofs.Members.{holds, true-holds}
 use Rattle.attributes.specs.Evaluable.{agreeFirst}
 use Rattle.attributes.proofs.Laws.{agree-pairs, agree-first-below}
@@ -27,27 +26,6 @@ use Rattle.uses.specs.Uses.{usesOf, placesOf}
 use Rattle.matching.specs.Candidate.{slotHead, patternHead, isCandidate}
 use Rattle.matching.specs.Partial.{Partial, Extends, Sends, SendsInputs, Step}
 use Rattle.matching.proofs.Candidates.{Formed, wild-input, candidate-same, candidate-vertex, candidate-uses}
-
--- ---- lists
-
--- what stands past the end does not matter within
-getD-any : (xs : List ℕ) (i d e : ℕ) → i < length xs → getD xs i d ≡ getD xs i e
-getD-any [] i d e l = absurd (not-suc-le-zero l)
-getD-any (x ∷ xs) zero d e l = refl
-getD-any (x ∷ xs) (suc i) d e l = getD-any xs i d e (le-of-suc-le-suc l)
-
-pub image-read : (images : List ℕ) (i : ℕ) → i < length images → imageOf images i ≡ getD images i 0
-unfolding imageOf
-image-read images i l = getD-any images i unusedPlace 0 l
-
-getD-image : (f : ℕ → ℕ) (xs : List ℕ) (i d e : ℕ) → i < length xs → getD (map f xs) i d ≡ f (getD xs i e)
-getD-image f [] i d e l = absurd (not-suc-le-zero l)
-getD-image f (x ∷ xs) zero d e l = refl
-getD-image f (x ∷ xs) (suc i) d e l = getD-image f xs i d e (le-of-suc-le-suc l)
-
-map-same : (f h : ℕ → ℕ) (xs : List ℕ) → ((x : ℕ) → List·Memᴰ x xs → f x ≡ h x) → map f xs ≡ map h xs
-map-same f h [] e = refl
-map-same f h (x ∷ xs) e = ap₂ _∷_ (e x (List·Memᴰ·head refl)) (map-same f h xs (λ y m. e y (List·Memᴰ·tail m)))
 
 -- ---- what a vertex asks of a map, it asks of the images of lower vertices
 
@@ -91,6 +69,19 @@ takes-same g a b r i s f inside same k = record {
   attributes = agree-holds g b r i s (k .attributeCount)
       (sym (agree-same g a b i same r f inside (s .attributes)) ∙ takes-agree g a r i s k);
   inputs = k .inputs ∙ inputs-same g a b i same r f inside;
+}
+
+-- a map of the first vertices says nothing of the other places
+pub partial-same : (g : Graph) (r : Rule) (next : ℕ) (images made : List ℕ) → Formed r → Partial g r next images
+    → Extends next images made → length made ≡ sideLimit → Partial g r next made
+partial-same g r next images made f p e size = record {
+  size = size;
+  small = p .small;
+  vertices = λ i l. rw (e i l) (p .vertices i l);
+  injective = λ i k l m h. p .injective i k l m (sym (e i l) ∙ h ∙ e k m);
+  takes = λ i l h. rw (e i l) (takes-same g images made r i (slotOf g (imageOf images i)) f (omega (arith, p .small))
+      (λ u k. sym (e u (omega arith))) (p .takes i l h));
+  demands = λ i l t. rw (e i l) (p .demands i l t);
 }
 
 -- ---- one more image
@@ -138,7 +129,7 @@ module _ (g : Graph) (r : Rule) (f : Formed r) (j v : ℕ) (images : List ℕ) (
       let n : length (inputsOf g v) ≡ length (sourceInputs r j) = candidate-same g r j v fits h .inputs in
       ext-getD unusedPlace (inputsOf g v) (map (imageOf images) (sourceInputs r j)) (n ∙ sym (length-map (sourceInputs r j) (imageOf images)))
       (λ k l. sym (sends k (omega arith) (omega arith))
-      ∙ sym (getD-image (imageOf images) (sourceInputs r j) k unusedPlace 255 (omega arith)))
+      ∙ sym (map-at (imageOf images) (sourceInputs r j) k unusedPlace 255 (omega arith)))
 
   new-takes : SendsInputs g r j v 0 images → Agree → (sourceOf r j .kind ≡ kindEmpty → ⊥) → Takes g images (sourceOf r j) (slotOf g v)
   unfolding slotHead patternHead
@@ -188,21 +179,20 @@ module _ (g : Graph) (r : Rule) (f : Formed r) (j v : ℕ) (images : List ℕ) (
         (λ h. rw here (takes-same g images made r j (slotOf g v) f inside (λ u k. sym (low u k)) (new-takes sends agree h)));
     demands = below-next (λ i. isInterior r i ≡ true → usesOf g (imageOf made i) ≡ placesOf r i) j
         (λ i l. rw (low i l) (p .demands i l)) (rw here (candidate-uses g r j v fits));
-    rest = λ i l. set-other images j v (p .size) place i (λ e. omega arith) ∙ p .rest i (omega arith);
   }
 
   -- ---- the step that gives j its image
 
-  pub settled : Free → SendsInputs g r j v 0 images → Agree → Step g r j images (Sends j v) (suc j) true (j + 1) made
+  pub settled : Free → SendsInputs g r j v 0 images → Agree → Step g r j images (Sends j v) (suc j) true made
   settled free sends agree = record {
-    reached = λ t. add-one j;
-    partial = λ t. rw add-one (extend free sends agree);
-    kept = λ t. low;
+    size = length-set images j v ∙ p .size;
+    kept = low;
+    rest = λ i l. set-other images j v (p .size) place i (λ e. omega arith);
+    partial = λ t. extend free sends agree;
     meets = λ t. here;
     forced = λ whole m e asked. (
       refl,
-      rw add-one
-          (below-next (λ i. imageOf whole i ≡ imageOf made i) j (λ i l. e i l ∙ sym (low i l)) (asked ∙ sym here)),
+      below-next (λ i. imageOf whole i ≡ imageOf made i) j (λ i l. e i l ∙ sym (low i l)) (asked ∙ sym here),
     );
   }
 
@@ -219,7 +209,7 @@ module _ (g : Graph) (r : Rule) (f : Formed r) (whole : List ℕ) (m : Match g r
       let none = f .plain j (wild-input r j inside (eqb-true (sourceOf r j .kind) kindEmpty t)) in
       absurd (not-suc-le-zero (rw none at l)))
       (λ (t : eqb (sourceOf r j .kind) kindEmpty ≡ false).
-      sym (getD-image (imageOf whole) (sourceInputs r j) k unusedPlace 255 l)
+      sym (map-at (imageOf whole) (sourceInputs r j) k unusedPlace 255 l)
       ∙ ap (λ (xs : List ℕ). getD xs k unusedPlace) (sym (takes-here (eqb-false (sourceOf r j .kind) kindEmpty t) .inputs)))
       (decided (eqb (sourceOf r j .kind) kindEmpty))
 

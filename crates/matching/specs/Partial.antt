@@ -11,8 +11,8 @@ use Rattle.definitions.specs.Rule.{sideLimit, Rule, sourceOf, sourceInputs}
 use Rattle.definitions.specs.Match.{imageOf, isInterior, Takes, Match}
 use Rattle.uses.specs.Uses.{usesOf, placesOf}
 
--- The images of the first `next` source vertices meet every condition of a match; that an interior image is read from inside alone is
--- said by its uses, which do not speak of the images to come.
+-- The images of the first `next` source vertices meet every condition of a match; the other places may hold anything. That an
+-- interior image is read from inside alone is said by its uses, which do not speak of the images to come.
 pub record Partial (g : Graph) (r : Rule) (next : ℕ) (images : List ℕ) : Type 0 where
   pub size : length images ≡ sideLimit
   pub small : next ≤ length (r .source)
@@ -21,7 +21,6 @@ pub record Partial (g : Graph) (r : Rule) (next : ℕ) (images : List ℕ) : Typ
   pub takes : (i : ℕ) → i < next → (sourceOf r i .kind ≡ kindEmpty → ⊥)
       → Takes g images (sourceOf r i) (slotOf g (imageOf images i))
   pub demands : (i : ℕ) → i < next → isInterior r i ≡ true → usesOf g (imageOf images i) ≡ placesOf r i
-  pub rest : (i : ℕ) → next ≤ i → imageOf images i ≡ unusedPlace
 
 -- `whole` has the first `next` images
 abbrev pub Extends : ℕ → List ℕ → List ℕ → Type 0
@@ -36,12 +35,14 @@ abbrev pub SendsInputs : Graph → Rule → ℕ → ℕ → ℕ → List ℕ →
 SendsInputs g r j v i images =
     (k : ℕ) → i ≤ k → k < length (sourceInputs r j) → imageOf images (getD (sourceInputs r j) k 255) ≡ getD (inputsOf g v) k unusedPlace
 
--- A step from the first `next` images, of which `Asked` is asked: where it succeeds, it keeps them, adds what is asked up to vertex `end`,
--- and adds nothing that a match could have otherwise; a match that meets what is asked lets it succeed.
-pub record Step (g : Graph) (r : Rule) (next : ℕ) (images : List ℕ) (Asked : List ℕ → Type 0) (end : ℕ) (ok : Bool) (after : ℕ)
-    (made : List ℕ) : Type 0 where
-  pub reached : ok ≡ true → after ≡ end
-  pub partial : ok ≡ true → Partial g r after made
-  pub kept : ok ≡ true → Extends next images made
+-- A step from the first `next` images, of which `Asked` is asked. Whether it succeeds or not, the first images and the places that no
+-- source vertex has are as they were. Where it succeeds, it adds what is asked up to vertex `end`, and nothing that a match could have
+-- otherwise; a match that meets what is asked lets it succeed.
+pub record Step (g : Graph) (r : Rule) (next : ℕ) (images : List ℕ) (Asked : List ℕ → Type 0) (end : ℕ) (ok : Bool) (made : List ℕ)
+    : Type 0 where
+  pub size : length made ≡ sideLimit
+  pub kept : Extends next images made
+  pub rest : (i : ℕ) → length (r .source) ≤ i → imageOf made i ≡ imageOf images i
+  pub partial : ok ≡ true → Partial g r end made
   pub meets : ok ≡ true → Asked made
-  pub forced : (whole : List ℕ) → Match g r whole → Extends next images whole → Asked whole → (ok ≡ true) × Extends after made whole
+  pub forced : (whole : List ℕ) → Match g r whole → Extends next images whole → Asked whole → (ok ≡ true) × Extends end made whole

@@ -3,6 +3,7 @@
 use attributes::attributes_agree;
 use definitions::SIDE_LIMIT;
 use definitions::SLOT_LIMIT;
+use fields::widened;
 use graph_fields::attribute_count;
 use graph_fields::input_at;
 use graph_fields::input_count;
@@ -16,11 +17,11 @@ use rule_fields::source_operator;
 ghost use mathlib.Core.Path.{_≡_};
 ghost use mathlib.Core.Bool.{true};
 ghost use mathlib.Core.List.{[], _∷_};
-ghost use Prim.Native.Nat.{ℕ, suc, _<_, _≤_, max};
+ghost use Prim.Native.Nat.{suc, _<_, _≤_, max};
 ghost use lib.Dec.{eqb};
 ghost use lib.ListN.{length, drop};
 ghost use Rattle.definitions.specs.Lists.{anyBelow};
-ghost use Rattle.definitions.specs.Graph.{unusedPlace, slotCount, graphOf, slotOf, inputsOf};
+ghost use Rattle.definitions.specs.Graph.{slotCount, graphOf, slotOf, inputsOf};
 ghost use Rattle.definitions.specs.Rule.{sideLimit, sourceCount, ruleOf, sourceOf, sourceInputs};
 ghost use Rattle.definitions.specs.Match.{imageOf};
 ghost use Rattle.graph_fields.specs.Readable as table;
@@ -36,13 +37,6 @@ pub struct Head {
     pub operator: usize,
     pub inputs: usize,
     pub attributes: usize,
-}
-
-// The images of the first `next` source vertices, where `ok`; from there on stands 65535.
-pub struct Found {
-    pub ok: bool,
-    pub next: usize,
-    pub images: [u16; SIDE_LIMIT],
 }
 
 // ---- the look
@@ -124,13 +118,6 @@ fn is_candidate(
 
 // ---- one vertex
 
-// An image as a slot's number.
-fn widened(image: u16) -> usize
-    ensures { λ r. ⌜ r ≡ image ⌝ }
-{
-    image as usize
-}
-
 // Whether v is the image of one of the first `next` source vertices.
 fn is_taken(images: &[u16; SIDE_LIMIT], next: usize, v: usize) -> bool
     requires { ⌜ next ≤ sideLimit ⌝ }
@@ -149,40 +136,38 @@ fn is_taken(images: &[u16; SIDE_LIMIT], next: usize, v: usize) -> bool
 
 // Gives source vertex j, a candidate whose inputs have their images, the image v: where v is no lower vertex's image, and the
 // attributes agree.
-fn settle(graph: &[u8], rule: &[u8], j: usize, v: usize, images: [u16; SIDE_LIMIT]) -> Found
+fn settle(graph: &[u8], rule: &[u8], j: usize, v: usize, images: &mut [u16; SIDE_LIMIT]) -> bool
     requires { ⌜ table.Readable (now graph) ⌝ }
     requires { ⌜ Matchable (now rule) ⌝ }
     requires { ⌜ j < sourceCount (now rule) ⌝ }
     requires { ⌜ v < slotCount (now graph) ⌝ }
     requires { ⌜ isCandidate (graphOf (now graph)) (ruleOf (now rule)) j v ≡ true ⌝ }
-    requires { ⌜ Partial (graphOf (now graph)) (ruleOf (now rule)) j images ⌝ }
-    requires { ⌜ SendsInputs (graphOf (now graph)) (ruleOf (now rule)) j v 0 images ⌝ }
-    ensures { λ r. ⌜ Step (graphOf (now (graph .entry))) (ruleOf (now (rule .entry))) j images (Sends j v) (suc j) (r .ok) (r .next) (r .images) ⌝ }
+    requires { ⌜ Partial (graphOf (now graph)) (ruleOf (now rule)) j (now images) ⌝ }
+    requires { ⌜ SendsInputs (graphOf (now graph)) (ruleOf (now rule)) j v 0 (now images) ⌝ }
+    ensures { λ r. ⌜ Step (graphOf (now (graph .entry))) (ruleOf (now (rule .entry))) j (now (images .entry)) (Sends j v) (suc j) r
+        (now (images .exit)) ⌝ }
 {
-    if is_taken(&images, j, v) {
-        return Found {
-            ok: false,
-            next: j,
-            images,
-        };
+    if is_taken(images, j, v) {
+        return false;
     }
-    if !attributes_agree(graph, rule, &images, j, v) {
-        return Found {
-            ok: false,
-            next: j,
-            images,
-        };
+    if !attributes_agree(graph, rule, images, j, v) {
+        return false;
     }
-    let mut made = images;
-    made[j] = v as u16;
-    Found {
-        ok: true,
-        next: j + 1,
-        images: made,
-    }
+    images[j] = v as u16;
+    true
 }
 
-// Matches source vertex j with slot v, its inputs first. A vertex that has its image is compared, not entered again.
+fn greater(a: usize, b: usize) -> usize
+    ensures { λ r. ⌜ r ≡ max a b ⌝ }
+{
+    if a < b {
+        return b;
+    }
+    a
+}
+
+// Matches source vertex j with slot v, its inputs first. A vertex that has its image is compared, not entered again. Where it
+// succeeds, the images are those of the first `next` vertices and of all up to j.
 pub fn match_vertex(
     graph: &[u8],
     rule: &[u8],
@@ -190,37 +175,27 @@ pub fn match_vertex(
     demands: &[u16; SIDE_LIMIT],
     j: usize,
     v: usize,
-    found: Found,
-) -> Found
+    next: usize,
+    images: &mut [u16; SIDE_LIMIT],
+) -> bool
     requires { ⌜ Setting (now graph) (now rule) (now uses) (now demands) ⌝ }
     requires { ⌜ j < sourceCount (now rule) ⌝ }
     requires { ⌜ v < slotCount (now graph) ⌝ }
-    requires { ⌜ Partial (graphOf (now graph)) (ruleOf (now rule)) (found .next) (found .images) ⌝ }
-    requires { ⌜ InOrder (ruleOf (now rule)) (found .next) (j ∷ []) ⌝ }
-    ensures { λ r. ⌜ Step (graphOf (now (graph .entry))) (ruleOf (now (rule .entry))) (found .next) (found .images) (Sends j v) (max (found .next) (suc j)) (r .ok) (r .next) (r .images) ⌝ }
+    requires { ⌜ Partial (graphOf (now graph)) (ruleOf (now rule)) next (now images) ⌝ }
+    requires { ⌜ InOrder (ruleOf (now rule)) next (j ∷ []) ⌝ }
+    ensures { λ r. ⌜ Step (graphOf (now (graph .entry))) (ruleOf (now (rule .entry))) next (now (images .entry)) (Sends j v)
+        (max next (suc j)) r (now (images .exit)) ⌝ }
 {
-    let next = found.next;
-    let images = found.images;
     if j < next {
-        return Found {
-            ok: widened(images[j]) == v,
-            next,
-            images,
-        };
+        return widened(images[j]) == v;
     }
     if !is_candidate(graph, rule, uses, demands, j, v) {
-        return Found {
-            ok: false,
-            next,
-            images,
-        };
+        return false;
     }
-    let inputs = match_inputs(graph, rule, uses, demands, j, v, 0, found);
-    if !inputs.ok {
-        return inputs;
+    if !match_inputs(graph, rule, uses, demands, j, v, 0, next, images) {
+        return false;
     }
-    let below = inputs.images;
-    settle(graph, rule, j, v, below)
+    settle(graph, rule, j, v, images)
 }
 
 // Matches the inputs of source vertex j, from place i on, with those of slot v.
@@ -232,44 +207,28 @@ fn match_inputs(
     j: usize,
     v: usize,
     i: usize,
-    found: Found,
-) -> Found
+    next: usize,
+    images: &mut [u16; SIDE_LIMIT],
+) -> bool
     requires { ⌜ Setting (now graph) (now rule) (now uses) (now demands) ⌝ }
     requires { ⌜ j < sourceCount (now rule) ⌝ }
     requires { ⌜ v < slotCount (now graph) ⌝ }
     requires { ⌜ i ≤ length (sourceInputs (ruleOf (now rule)) j) ⌝ }
     requires { ⌜ length (sourceInputs (ruleOf (now rule)) j) ≤ length (inputsOf (graphOf (now graph)) v) ⌝ }
-    requires { ⌜ Partial (graphOf (now graph)) (ruleOf (now rule)) (found .next) (found .images) ⌝ }
-    requires { ⌜ InOrder (ruleOf (now rule)) (found .next) (drop i (sourceInputs (ruleOf (now rule)) j)) ⌝ }
-    ensures { λ r. ⌜ Step (graphOf (now (graph .entry))) (ruleOf (now (rule .entry))) (found .next) (found .images)
+    requires { ⌜ Partial (graphOf (now graph)) (ruleOf (now rule)) next (now images) ⌝ }
+    requires { ⌜ InOrder (ruleOf (now rule)) next (drop i (sourceInputs (ruleOf (now rule)) j)) ⌝ }
+    ensures { λ r. ⌜ Step (graphOf (now (graph .entry))) (ruleOf (now (rule .entry))) next (now (images .entry))
         (SendsInputs (graphOf (now (graph .entry))) (ruleOf (now (rule .entry))) j v i)
-        (visitedAfter (found .next) (drop i (sourceInputs (ruleOf (now (rule .entry))) j))) (r .ok) (r .next) (r .images) ⌝ }
+        (visitedAfter next (drop i (sourceInputs (ruleOf (now (rule .entry))) j))) r (now (images .exit)) ⌝ }
 {
     if i == source_input_count(rule, j) {
-        let next = found.next;
-        let images = found.images;
-        return Found {
-            ok: true,
-            next,
-            images,
-        };
+        return true;
     }
     let u = source_input(rule, j, i);
     let w = input_at(graph, v, i);
-    let first = match_vertex(graph, rule, uses, demands, u, w, found);
-    if !first.ok {
-        return first;
+    if !match_vertex(graph, rule, uses, demands, u, w, next, images) {
+        return false;
     }
-    match_inputs(graph, rule, uses, demands, j, v, i + 1, first)
-}
-
-// Nothing mapped yet.
-pub fn no_images() -> Found
-    ensures { λ r. ⌜ (r .next ≡ 0) × (length (r .images) ≡ sideLimit) × ((i : ℕ) → imageOf (r .images) i ≡ unusedPlace) ⌝ }
-{
-    Found {
-        ok: true,
-        next: 0,
-        images: [65535u16; SIDE_LIMIT],
-    }
+    let reached = greater(next, u + 1);
+    match_inputs(graph, rule, uses, demands, j, v, i + 1, reached, images)
 }

@@ -1,9 +1,9 @@
 -- What sound blocks give to the functions that match: the layout, what inputs and outputs name, and what the tables say of rule
 -- inputs.
 -- Assumes nothing.
-use mathlib.Core.Path.{_≡_, refl, sym, ap, _∙_}
+use mathlib.Core.Path.{_≡_, sym, ap, _∙_}
 use mathlib.Core.Bool.{true, false, and-false}
-use mathlib.Core.List.{List, [], _∷_}
+use mathlib.Core.List.{List, []}
 use mathlib.Core.Logic.{⊎-elim}
 use Prim.Native.Nat.{ℕ, _+_, _<_, _≤_}
 use native.Mathlib.Omega.{arith}
@@ -14,7 +14,7 @@ use Rattle.definitions.specs.Fields.{byteAt}
 use Rattle.definitions.specs.Operators.{kindEmpty, kindVariable, kinds, rowOf, shapeFits}
 use Rattle.definitions.specs.Graph.{unusedPlace, slotCount, graphOf, inputsOf, isVertex, badRecord, badInputs, SoundGraph}
 use Rattle.definitions.specs.Rule.{sourceCount, ruleOutputCount, nodeCount, vertexAt, anything, Pattern, ruleOf, expressionOf, wildcard, sourceOf, sourceInputs, inputKind, isRuleInput, ruleSizesFit, ruleHeaderFits, patternFits, accessesBelow, useFits, SoundRule}
-use Rattle.laws.proofs.Lists.{decided, needed, lowest-whole, all-members}
+use Rattle.laws.proofs.Lists.{decided, needed, lowest-whole, all-members, length-none}
 use Rattle.laws.proofs.Members.{mem-at}
 use Rattle.laws.proofs.Graph.{vertex-inside, length-slots, length-outputs}
 use Rattle.laws.proofs.Rule.{length-source, length-source-outputs, source-kind-at, source-count-at, source-attributes-at, source-attribute-at, outputs-below, inputs-lower}
@@ -64,10 +64,6 @@ variable-inputs operator n m h =
 empty-attributes : (operator n m : ℕ) → shapeFits kindEmpty operator n m ≡ true → m ≡ 0
 unfolding shapeFits rowOf kinds
 empty-attributes operator n m h = eqb-true m 0 (needed (eqb m 0) h (λ f. simp (f, and-false)))
-
-length-none : {A : Type 0} (xs : List A) → length xs ≡ 0 → xs ≡ []
-length-none [] e = refl
-length-none (x ∷ xs) e = absurd (omega arith)
 
 -- ---- a sound rule
 

@@ -9,13 +9,14 @@ use Prim.Native.Nat.{ℕ, suc, _+_, _-_, _<_, _≤_, max}
 use native.Mathlib.Omega.{arith}
 use borrow.Author.Tests.{eqb-true, eqb-false, ltb-true, ltb-false}
 use lib.Dec.{eqb, ltb}
-use lib.ListN.{length, getD, take}
-use Rattle.definitions.specs.Graph.{unusedPlace, slotCount, Graph, graphOf, isVertex}
+use lib.ListN.{length, getD, take, replicate, length-replicate}
+use Rattle.definitions.specs.Graph.{unusedPlace, slotCount, Graph, graphOf}
 use Rattle.definitions.specs.Rule.{sideLimit, sourceCount, ruleOutputCount, Rule, ruleOf, SoundRule}
 use Rattle.definitions.specs.Match.{imageOf, Match, MatchFrom, leastMatch}
 use Rattle.laws.proofs.Lists.{decided, true-not-false}
-use Rattle.laws.proofs.Members.{holds}
-use Rattle.laws.proofs.Graph.{vertex-inside, length-slots}
+use Rattle.laws.proofs.Builds.{getD-none}
+use Rattle.laws.proofs.Graph.{length-slots}
+use Rattle.laws.proofs.Match.{image-inside}
 use Rattle.laws.proofs.Rule.{length-source, length-source-outputs, inputs-lower}
 use Rattle.theory.proofs.Choices.{NotAfter}
 use Rattle.theory.proofs.Fixing.{sound-fixing}
@@ -23,6 +24,8 @@ use Rattle.theory.proofs.Least.{outputImages}
 use Rattle.rule_order.specs.InOrder.{InOrder, visitedAfter}
 use Rattle.rule_order.proofs.InOrder.{in-order-first, in-order-rest, in-order-start, in-order-whole}
 use Rattle.matching.specs.Partial.{Partial, Extends, Sends, Step}
+use Rattle.matching.proofs.Candidates.{Formed}
+use Rattle.matching.proofs.Maps.{partial-same}
 use Rattle.search.specs.Finds.{Finds}
 use Rattle.search.proofs.Least.{least-is, least-none}
 use Rattle.search.proofs.Sound.{rule-readable, rule-plain, output-counts}
@@ -85,49 +88,83 @@ pass-first g r o start first passed never = record {
       omega (arith, passed .left whole m h);
 }
 
--- a match's images are slots
-image-inside : (g : Graph) (r : Rule) (whole : List ℕ) (j : ℕ) → Match g r whole → j < length (r .source)
-    → imageOf whole j < length (g .slots)
-image-inside g r whole j m l = vertex-inside g (imageOf whole j) (holds (isVertex g (imageOf whole j)) (m .vertices j l))
+-- ---- the lent array
 
-module _ (g : Graph) (r : Rule) (o start first : ℕ) (passed : Passed g r o start first)
-    {next end after : ℕ} {images made : List ℕ} {ok : Bool} (none : next ≡ 0)
-    (root : Step g r next images (Sends o first) end ok after made) where
-  -- nothing is mapped before the first step, so every match extends that
-  nothing-kept : (whole : List ℕ) → Extends next images whole
-  nothing-kept whole i l = absurd (omega arith)
+-- sixteen places, with 65535 in those that no source vertex has
+pub record Blank (r : Rule) (images : List ℕ) : Type 0 where
+  pub size : length images ≡ sideLimit
+  pub rest : (i : ℕ) → length (r .source) ≤ i → imageOf images i ≡ unusedPlace
 
-  pub root-fails : ok ≡ false → Passed g r o start (first + 1)
-  root-fails f = pass-first g r o start first passed
-      (λ whole m e. true-not-false (root .forced whole m (nothing-kept whole) e .0) f)
+pub blank-start : (r : Rule) → Blank r (replicate 16 unusedPlace)
+unfolding imageOf
+blank-start r = record { size = length-replicate 16 unusedPlace; rest = λ i l. getD-none 16 i unusedPlace }
 
-  module _ (p second : ℕ) (before : PassedSecond g r o p first second) where
-    pub second-fails : {end' after' : ℕ} {made' : List ℕ} {ok' : Bool}
-        → Step g r after made (Sends p second) end' ok' after' made' → ok' ≡ false → PassedSecond g r o p first (second + 1)
-    second-fails pair f = record {
-      left = λ whole m e.
-          let other : imageOf whole p ≡ second → ⊥ =
-          λ h. true-not-false (pair .forced whole m (root .forced whole m (nothing-kept whole) e .1) h .0) f in
-          omega (arith, before .left whole m e);
-    }
+-- it has the images of all vertices up to the first output, which is sent to `first`, and no match that sends it there has others
+pub record Rooted (g : Graph) (r : Rule) (o first : ℕ) (images : List ℕ) : Type 0 where
+  pub partial : Partial g r (o + 1) images
+  pub image : imageOf images o ≡ first
+  pub forced : (whole : List ℕ) → Match g r whole → imageOf whole o ≡ first → Extends (o + 1) images whole
 
-    pub seconds-passed : p < length (r .source) → length (g .slots) ≤ second → Passed g r o start (first + 1)
-    seconds-passed l h = pass-first g r o start first passed
-        (λ whole m e. omega (arith, before .left whole m e, image-inside g r whole p m l))
+module _ {g : Graph} {r : Rule} {next end : ℕ} {images made : List ℕ} {Asked : List ℕ → Type 0} {ok : Bool}
+    (step : Step g r next images Asked end ok made) where
+  pub blank-after : Blank r images → Blank r made
+  blank-after b = record { size = step .size; rest = λ i l. step .rest i l ∙ b .rest i l }
 
--- ---- what is asked for the two steps
+  -- a step that leaves the first images as they were
+  pub rooted-after : Formed r → (o first : ℕ) → next ≡ o + 1 → Rooted g r o first images → Rooted g r o first made
+  rooted-after f o first e root =
+      let kept : Extends (o + 1) images made = rw e at (step .kept) in
+      record {
+        partial = partial-same g r (o + 1) images made f (root .partial) kept (step .size);
+        image = kept o (omega arith) ∙ root .image;
+        forced = λ whole m h i l. root .forced whole m h i l ∙ sym (kept i l);
+      }
 
-pub nothing-mapped : (g : Graph) (r : Rule) (next : ℕ) (images : List ℕ) → next ≡ 0 → length images ≡ sideLimit
-    → ((i : ℕ) → imageOf images i ≡ unusedPlace) → Partial g r next images
-nothing-mapped g r next images e size unused = record {
-  size = size;
+-- ---- the first output's step: nothing is mapped before it
+
+pub nothing-mapped : (g : Graph) (r : Rule) (images : List ℕ) → Blank r images → Partial g r 0 images
+nothing-mapped g r images b = record {
+  size = b .size;
   small = omega arith;
   vertices = λ i l. absurd (omega arith);
   injective = λ i k l m h. absurd (omega arith);
   takes = λ i l h. absurd (omega arith);
   demands = λ i l h. absurd (omega arith);
-  rest = λ i l. unused i;
 }
+
+module _ (g : Graph) (r : Rule) (o first : ℕ) {images made : List ℕ} {ok : Bool}
+    (root : Step g r 0 images (Sends o first) (max 0 (suc o)) ok made) where
+  -- so every match extends that
+  forced-root : (whole : List ℕ) → Match g r whole → imageOf whole o ≡ first → (ok ≡ true) × Extends (max 0 (suc o)) made whole
+  forced-root whole m e = root .forced whole m (λ i l. absurd (omega arith)) e
+
+  pub root-fails : (start : ℕ) → Passed g r o start first → ok ≡ false → Passed g r o start (first + 1)
+  root-fails start passed f = pass-first g r o start first passed (λ whole m e. true-not-false (forced-root whole m e .0) f)
+
+  pub root-made : ok ≡ true → Rooted g r o first made
+  root-made t =
+      let same : max 0 (suc o) ≡ o + 1 = omega arith in
+      record {
+        partial = subst (λ (n : ℕ). Partial g r n made) same (root .partial t);
+        image = root .meets t;
+        forced = λ whole m e i l. forced-root whole m e .1 i (omega arith);
+      }
+
+-- ---- the second output's step
+
+module _ (g : Graph) (r : Rule) (o p first second : ℕ) (before : PassedSecond g r o p first second) where
+  pub second-fails : {end : ℕ} {images made : List ℕ} {ok : Bool} → Rooted g r o first images
+      → Step g r (o + 1) images (Sends p second) end ok made → ok ≡ false → PassedSecond g r o p first (second + 1)
+  second-fails root pair f = record {
+    left = λ whole m e.
+        let other : imageOf whole p ≡ second → ⊥ = λ h. true-not-false (pair .forced whole m (root .forced whole m e) h .0) f in
+        omega (arith, before .left whole m e);
+  }
+
+  pub seconds-passed : (start : ℕ) → Passed g r o start first → p < length (r .source) → length (g .slots) ≤ second
+      → Passed g r o start (first + 1)
+  seconds-passed start passed l h = pass-first g r o start first passed
+      (λ whole m e. omega (arith, before .left whole m e, image-inside g r whole p m l))
 
 -- ---- what is found
 
@@ -145,24 +182,24 @@ module _ (graph rule : List ℕ) (sound : SoundRule rule) where
   r = ruleOf rule
 
   -- a map of all source vertices is the least match where no match from the start has output images before its own
-  least-map : (start : ℕ) (made : List ℕ) (after : ℕ) {ok : Bool} → ok ≡ true → Partial g r after made
-      → after ≡ length (r .source) → start ≤ imageOf made (getD (r .sourceOutputs) 0 0)
+  least-map : (start : ℕ) (made : List ℕ) (end : ℕ) → Partial g r end made → end ≡ length (r .source) → Blank r made
+      → start ≤ imageOf made (getD (r .sourceOutputs) 0 0)
       → ((whole : List ℕ) → MatchFrom g r start whole → NotAfter (outputImages r made) (outputImages r whole))
-      → Finds (leastMatch g r start) (sourceCount rule) ok made
-  least-map start made after t p e from least =
+      → Finds (leastMatch g r start) (sourceCount rule) true made
+  least-map start made end p e blank from least =
       let whole : Partial g r (length (r .source)) made = rw e at p in
       let fits : length (r .source) ≤ sideLimit = rw (length-source rule) (rule-readable rule sound .whole .source) in
       let plain = rule-plain rule sound in
       let lower = inputs-lower rule (sound .lowerInputs) in
-      let same = short-images g r plain lower made whole fits in
-      let isMatch = partial-match g r plain lower made whole fits in
+      let same = short-images g r plain lower made whole (blank .rest) fits in
+      let isMatch = partial-match g r plain lower made whole (blank .rest) fits in
       record {
         found = λ b. rw (← length-source rule) (least-is g r (sound-fixing rule sound) start (take (length (r .source)) made)
             (record { isMatch = isMatch; first = rw same from }) (rw same least));
-        none = λ f. absurd (true-not-false t f);
-        size = λ b. p .size;
+        none = λ f. absurd (true-not-false refl f);
+        size = λ b. blank .size;
         small = λ b. rule-readable rule sound .whole .source;
-        rest = λ b i l. p .rest i (rw (e, length-source rule) l);
+        rest = λ b i l. blank .rest i (rw (length-source rule) l);
       }
 
   module _ (count o q : ℕ) (outputs : Outputs r count o q) where
@@ -172,16 +209,18 @@ module _ (graph rule : List ℕ) (sound : SoundRule rule) where
         (λ (t : eqb count 1 ≡ false). rw (outputs .two (eqb-false count 1 t)))
         (decided (eqb count 1))
 
-    pub first-in-order : (next : ℕ) → next ≡ 0 → InOrder r next (o ∷ [])
-    first-in-order next z = rw z (⊎-elim
+    pub first-in-order : InOrder r 0 (o ∷ [])
+    first-in-order = ⊎-elim
         (λ (t : eqb count 1 ≡ true). subst (InOrder r 0) (outputs .one (eqb-true count 1 t)) (in-order-start rule sound))
         (λ (t : eqb count 1 ≡ false).
         in-order-first r 0 o (q ∷ []) (subst (InOrder r 0) (outputs .two (eqb-false count 1 t)) (in-order-start rule sound)))
-        (decided (eqb count 1)))
+        (decided (eqb count 1))
 
-    pub second-in-order : (next after : ℕ) → (count ≡ 1 → ⊥) → next ≡ 0 → after ≡ max next (suc o) → InOrder r after (q ∷ [])
-    second-in-order next after h z e =
-        rw (e, z) (in-order-rest r 0 o (q ∷ []) (subst (InOrder r 0) (outputs .two h) (in-order-start rule sound)))
+    pub second-in-order : (count ≡ 1 → ⊥) → InOrder r (o + 1) (q ∷ [])
+    second-in-order h =
+        let same : max 0 (suc o) ≡ o + 1 = omega arith in
+        subst (λ (n : ℕ). InOrder r n (q ∷ [])) same
+        (in-order-rest r 0 o (q ∷ []) (subst (InOrder r 0) (outputs .two h) (in-order-start rule sound)))
 
     module _ (start first : ℕ) (passed : Passed g r o start first) where
       first-from : (whole : List ℕ) → MatchFrom g r start whole → first ≤ imageOf whole o
@@ -203,26 +242,22 @@ module _ (graph rule : List ℕ) (sound : SoundRule rule) where
         rest = λ t. absurd (true-not-false t f);
       }
 
-      module _ {next after : ℕ} {images made : List ℕ} {ok : Bool} (none : next ≡ 0)
-          (root : Step g r next images (Sends o first) (max next (suc o)) ok after made) (t : ok ≡ true) where
-        pub one-found : count ≡ 1 → Finds (leastMatch g r start) (sourceCount rule) ok made
-        unfolding visitedAfter
-        one-found c =
-            let whole : max 0 (suc o) ≡ length (r .source) = rw (outputs .one c) at (in-order-whole rule sound) in
-            let image : imageOf made o ≡ first = root .meets t in
-            least-map start made after t (root .partial t) (omega (arith, root .reached t))
-            (rw (first-output, image) (passed .from))
-            (λ other from. rw (outputs .one c, image) (le-cases first (imageOf other o) (first-from other from) (λ e. tt)))
+      pub one-found : {made : List ℕ} → count ≡ 1 → Rooted g r o first made → Blank r made
+          → Finds (leastMatch g r start) (sourceCount rule) true made
+      unfolding visitedAfter
+      one-found {made} c root blank =
+          let whole : max 0 (suc o) ≡ length (r .source) = rw (outputs .one c) at (in-order-whole rule sound) in
+          least-map start made (o + 1) (root .partial) (omega arith) blank (rw (first-output, root .image) (passed .from))
+          (λ other from. rw (outputs .one c, root .image) (le-cases first (imageOf other o) (first-from other from) (λ e. tt)))
 
-        pub two-found : {after' : ℕ} {made' : List ℕ} {ok' : Bool} (second : ℕ) → (count ≡ 1 → ⊥)
-            → PassedSecond g r o q first second → Step g r after made (Sends q second) (max after (suc q)) ok' after' made' → ok' ≡ true
-            → Finds (leastMatch g r start) (sourceCount rule) ok' made'
-        unfolding visitedAfter
-        two-found {after'} {made'} second c before pair s =
-            let whole : max (max 0 (suc o)) (suc q) ≡ length (r .source) = rw (outputs .two c) at (in-order-whole rule sound) in
-            let image : imageOf made' o ≡ first = pair .kept s o (omega (arith, root .reached t)) ∙ root .meets t in
-            let other-image : imageOf made' q ≡ second = pair .meets s in
-            least-map start made' after' s (pair .partial s) (omega (arith, root .reached t, pair .reached s))
-            (rw (first-output, image) (passed .from))
-            (λ other from. rw (outputs .two c, image, other-image) (le-cases first (imageOf other o) (first-from other from)
-            (λ e. le-cases second (imageOf other q) (before .left other (from .isMatch) (sym e)) (λ d. tt))))
+      pub two-found : {images made : List ℕ} {ok : Bool} (second : ℕ) → (count ≡ 1 → ⊥) → PassedSecond g r o q first second
+          → Rooted g r o first images → Step g r (o + 1) images (Sends q second) (max (o + 1) (suc q)) ok made → ok ≡ true
+          → Blank r made → Finds (leastMatch g r start) (sourceCount rule) true made
+      unfolding visitedAfter
+      two-found {made = made} second c before root pair t blank =
+          let whole : max (max 0 (suc o)) (suc q) ≡ length (r .source) = rw (outputs .two c) at (in-order-whole rule sound) in
+          let image : imageOf made o ≡ first = pair .kept o (omega arith) ∙ root .image in
+          let other-image : imageOf made q ≡ second = pair .meets t in
+          least-map start made (max (o + 1) (suc q)) (pair .partial t) (omega arith) blank (rw (first-output, image) (passed .from))
+          (λ other from. rw (outputs .two c, image, other-image) (le-cases first (imageOf other o) (first-from other from)
+          (λ e. le-cases second (imageOf other q) (before .left other (from .isMatch) (sym e)) (λ d. tt))))

@@ -40,7 +40,7 @@ same-takes g before after p s same t =
 
 module _ (g : Graph) (r : Rule) (plain : (j : ℕ) → isRuleInput r j ≡ true → sourceInputs r j ≡ [])
     (lower : (j u : ℕ) → Reads (sourceInputs r) j u → u < j) (images : List ℕ) (p : Partial g r (length (r .source)) images)
-    (fits : length (r .source) ≤ sideLimit) where
+    (rest : (i : ℕ) → length (r .source) ≤ i → imageOf images i ≡ unusedPlace) (fits : length (r .source) ≤ sideLimit) where
   abbrev short : List ℕ
   short = take (length (r .source)) images
 
@@ -53,7 +53,7 @@ module _ (g : Graph) (r : Rule) (plain : (j : ℕ) → isRuleInput r j ≡ true 
       getD-take (length (r .source)) images i unusedPlace (ltb-true i (length (r .source)) t))
       (λ (t : ltb i (length (r .source)) ≡ false).
       let past : length (r .source) ≤ i = ltb-false i (length (r .source)) t in
-      List·getD-eq-default short unusedPlace {n = i} (omega arith) ∙ sym (p .rest i past))
+      List·getD-eq-default short unusedPlace {n = i} (omega arith) ∙ sym (rest i past))
       (decided (ltb i (length (r .source))))
 
   pub short-images : imageOf short ≡ imageOf images

@@ -3,33 +3,25 @@
 use definitions::SIDE_LIMIT;
 use definitions::SLOT_LIMIT;
 use graph_fields::slot_count;
-use matching::Found;
 use matching::match_vertex;
-use matching::no_images;
 use rule_fields::output_count;
 use rule_fields::source_output;
 use uses::count_demands;
 use uses::count_uses;
-ghost use mathlib.Core.Path.{_≡_};
-ghost use mathlib.Core.Bool.{false};
 ghost use Rattle.definitions.specs.Graph.{graphOf, SoundGraph};
 ghost use Rattle.definitions.specs.Rule.{sourceCount, ruleOf, SoundRule};
 ghost use Rattle.definitions.specs.Match.{leastMatch};
 ghost use Rattle.matching.specs.Setting.{Setting};
 ghost use Rattle.search.specs.Finds.{Finds};
 
-// What a search has that found nothing.
-fn no_match() -> Found
-    ensures { λ r. ⌜ r .ok ≡ false ⌝ }
-{
-    Found {
-        ok: false,
-        next: 0,
-        images: [65535u16; SIDE_LIMIT],
-    }
+// The images of all source vertices, where `ok`; in the places after them stands 65535.
+pub struct Found {
+    pub ok: bool,
+    pub images: [u16; SIDE_LIMIT],
 }
 
-// The nested search. A rule has one output or two: with one, the first output's image decides alone.
+// The nested search. A rule has one output or two: with one, the first output's image decides alone. The array is lent to every
+// step: a step that fails leaves the images that it was given.
 fn search(
     graph: &[u8],
     rule: &[u8],
@@ -45,22 +37,22 @@ fn search(
 {
     let slots = slot_count(graph);
     let outputs = output_count(rule);
-    let first_output = source_output(rule, 0);
-    let last_output = source_output(rule, outputs - 1);
-    let mut found = no_match();
+    let root = source_output(rule, 0);
+    let last = source_output(rule, outputs - 1);
+    let next = root + 1;
+    let mut images = [65535u16; SIDE_LIMIT];
+    let mut found = false;
     let mut first = start;
     'search: while first < slots {
-        let root = match_vertex(graph, rule, uses, demands, first_output, first, no_images());
-        if root.ok {
+        if match_vertex(graph, rule, uses, demands, root, first, 0, &mut images) {
             if outputs == 1 {
-                found = root;
+                found = true;
                 break 'search;
             }
             let mut second = 0;
             while second < slots {
-                let pair = match_vertex(graph, rule, uses, demands, last_output, second, root);
-                if pair.ok {
-                    found = pair;
+                if match_vertex(graph, rule, uses, demands, last, second, next, &mut images) {
+                    found = true;
                     break 'search;
                 }
                 second += 1;
@@ -68,7 +60,7 @@ fn search(
         }
         first += 1;
     }
-    found
+    Found { ok: found, images }
 }
 
 // The least match whose first output's image is at least `start`.

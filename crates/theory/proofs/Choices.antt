@@ -15,7 +15,7 @@ use lib.Seq.{length-take-le, getD-take, getD-drop, getD-append-add, drop-cons}
 use Rattle.definitions.specs.Lists.{tabulate, concatMap, firstSome, member, position, range}
 use Rattle.definitions.specs.Graph.{unusedPlace}
 use Rattle.definitions.specs.Match.{choicesOf, choices}
-use Rattle.laws.proofs.Lists.{decided}
+use Rattle.laws.proofs.Lists.{decided, map-at}
 use Rattle.laws.proofs.Members.{mem-member, mem-at, position-image, position-at, position-least, mem-range, range-mem, tabulate-mem, mem-concat, concat-mem}
 
 -- x is before y, or equal: the first place that differs decides
@@ -248,11 +248,6 @@ pub first-mixed : (s : ℕ) (a b : List ℕ) (j : ℕ) → j ≤ length a → s 
     → s ≤ getD (take j a ++ drop j b) 0 unusedPlace
 first-mixed s a b zero fits h k = k
 first-mixed s a b (suc j) fits h k = rw (mixed-left a b (suc j) unusedPlace fits 0 (omega arith)) h
-
-pub map-at : (f : ℕ → ℕ) (xs : List ℕ) (i d e : ℕ) → i < length xs → getD (map f xs) i d ≡ f (getD xs i e)
-map-at f [] i d e l = absurd (not-suc-le-zero l)
-map-at f (x ∷ xs) zero d e l = refl
-map-at f (x ∷ xs) (suc i) d e l = map-at f xs i d e (le-of-suc-le-suc l)
 
 -- Choice c holds f of each of os at the first place of that one; what it holds at other places does not matter. If it is not after
 -- those mixes of itself and g's values that hold g in that way, then f's values are not after g's.

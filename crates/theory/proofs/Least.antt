@@ -14,12 +14,12 @@ use Rattle.definitions.specs.Lists.{member, position}
 use Rattle.definitions.specs.Graph.{unusedPlace, Graph, isVertex}
 use Rattle.definitions.specs.Rule.{Pattern, Rule}
 use Rattle.definitions.specs.Match.{imageOf, Match, MatchFrom, isMatch, imagesFrom, imagesFor, choices, attempt, leastMatch}
-use Rattle.laws.proofs.Lists.{decided}
+use Rattle.laws.proofs.Lists.{decided, map-at}
 use Rattle.laws.proofs.Graph.{vertex-inside}
 use Rattle.laws.proofs.Members.{holds, member-mem, mem-member, mem-at, position-least}
 use Rattle.theory.proofs.Match.{test-sound, test-complete}
 use Rattle.theory.proofs.Fixing.{Fixing, Chosen, images-chosen, images-fixed}
-use Rattle.theory.proofs.Choices.{NotAfter, not-after-self, first-found, first-least, sorted-choices, Numbers, mem-choices, choices-mem, numbers-mixed, first-mixed, map-at, least-values}
+use Rattle.theory.proofs.Choices.{NotAfter, not-after-self, first-found, first-least, sorted-choices, Numbers, mem-choices, choices-mem, numbers-mixed, first-mixed, least-values}
 
 -- what is made from a choice gives an output its chosen image
 from-choice : (g : Graph) (outputs chosen : List ℕ) (ps : List (Pattern ℕ)) (v i : ℕ) → i < length ps → member (v + i) outputs ≡ true

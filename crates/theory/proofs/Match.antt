@@ -4,7 +4,7 @@ use mathlib.Core.Path.{_≡_}
 use mathlib.Core.Bool.{Bool, true, false, not, _||_, or-true, and-false}
 use mathlib.Core.List.{List, map}
 use mathlib.Core.Logic.{⊎-elim}
-use Prim.Native.Nat.{ℕ, _<_}
+use Prim.Native.Nat.{ℕ}
 use native.Mathlib.Omega.{arith}
 use borrow.Author.Tests.{eqb-true, eqb-false, eq-eqb, ne-eqb, not-true}
 use lib.Dec.{eqb}
@@ -17,7 +17,7 @@ use Rattle.definitions.specs.Rule.{Pattern, Rule, sourceOf}
 use Rattle.definitions.specs.Attributes.{agrees}
 use Rattle.definitions.specs.Match.{imageOf, readAttribute, isInterior, innerImages, Takes, Private, Match, takes, isPrivate, isMatch}
 use Rattle.laws.proofs.Lists.{decided, true-not-false, needed, and-left, and-right, allBelow-at, allBelow-every, all-at, all-every}
-use Rattle.laws.proofs.Graph.{reader-inside, vertex-inside}
+use Rattle.laws.proofs.Graph.{reader-inside}
 use Rattle.laws.proofs.Ranges.{same-lists, same-self}
 use Rattle.laws.proofs.Members.{holds, true-holds, member-mem, mem-member, no-member, distinct-places, places-distinct}
 
@@ -134,8 +134,3 @@ module _ (g : Graph) (r : Rule) (images : List ℕ) where
       (λ (t : isInterior r j ≡ false). simp t)
       (decided (isInterior r j))) in
       simp (eq-eqb (length images) n (m .size), vertices, apart, takings, keepings)
-
--- the image of a source vertex is a slot
-pub image-inside : (g : Graph) (r : Rule) (images : List ℕ) (j : ℕ) → Match g r images → j < length (r .source)
-    → imageOf images j < length (g .slots)
-image-inside g r images j m l = vertex-inside g (imageOf images j) (holds (isVertex g (imageOf images j)) (m .vertices j l))

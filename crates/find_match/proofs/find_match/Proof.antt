@@ -72,7 +72,7 @@ write-map-requires c κs =
     let e = c .before .before .before in
     let l = e .before .before in
     let b = l .before in
-    (blocks-done (graph b) (rule b) (start b .args .start) (map b) (good b) .0, l .least-match .ensures .size (not-false _ (e .if1 .left)))
+    (blocks-done (graph b) (rule b) (start b .args .start) (map b) (good b) .0, search (needs, l .least-match .ensures .size (not-false _ (e .if1 .left))))
 
 same-length-3 : tie.Need-same-length-3
 same-length-3 c = search needs

@@ -2,7 +2,7 @@
 -- Assumes nothing.
 use mathlib.Core.Path.{_≡_, sym, _∙_}
 use mathlib.Core.Bool.{true}
-use Prim.Native.Nat.{ℕ, _+_, _-_, _*_, _<_}
+use Prim.Native.Nat.{ℕ, suc, _+_, _-_, _*_, _<_, max}
 use native.Mathlib.Omega.{arith}
 use borrow.Author.Needs.{needs}
 use borrow.Author.Tests.{not-true, not-false}
@@ -12,10 +12,11 @@ use lib.ListN.{length}
 use Rattle.definitions.specs.Graph.{slotCount, graphOf, inputsOf}
 use Rattle.definitions.specs.Rule.{ruleOf, sourceInputs}
 use Rattle.laws.proofs.Rule.{length-source}
+use Rattle.rule_order.specs.InOrder.{visitedAfter}
 use Rattle.rule_order.proofs.InOrder.{in-order-inputs, in-order-here}
 use Rattle.matching.specs.Candidate.{isCandidate}
 use Rattle.matching.proofs.Candidates.{Formed, formed, candidate-inputs}
-use Rattle.matching.proofs.Maps.{image-read}
+use Rattle.laws.proofs.Match.{image-at}
 use Rattle.matching.proofs.Steps.{mapped, no-candidate, inputs-fail, inputs-pass, inputs-done, input-in-order, others-in-order, input-fails, input-passes}
 use Rattle.matching.proofs.match_inputs.Reads as match-inputs
 use Rattle.matching.proofs.match_inputs.Kinds as match-inputs-kinds
@@ -24,43 +25,44 @@ use Rattle.matching.proofs.match_vertex.Reads as match-vertex
 use Rattle.matching.proofs.match_vertex.Kinds as match-vertex-kinds
 use Rattle.matching.proofs.+match_inputs+match_vertex.Lts-match_vertex as match-vertex-lts
 use Rattle.graph_fields.proofs.input_at.Reads as input-at-reads
+use Rattle.matching.proofs.greater.Reads as greater-reads
 use Rattle.matching.proofs.is_candidate.Reads as is-candidate-reads
 use Rattle.matching.proofs.settle.Reads as settle-reads
-use Rattle.matching.proofs.widened.Reads as widened-reads
+use Rattle.fields.proofs.widened.Reads as widened-reads
 use Rattle.rule_fields.proofs.source_input.Reads as source-input-reads
 use Rattle.rule_fields.proofs.source_input_count.Reads as source-input-count-reads
 use Rattle.matching.proofs.+match_inputs+match_vertex.{statement}
 use Rattle.matching.proofs.+match_inputs+match_vertex.Tie.{close}
 
-abbrev μ-match-inputs : Measures 4 match-inputs-kinds.ps ℕ
+abbrev μ-match-inputs : Measures 5 match-inputs-kinds.ps ℕ
 μ-match-inputs κs a = a .1 .1 .1 .1 .0 * 8 + (6 - a .1 .1 .1 .1 .1 .1 .0)
 
-abbrev μ-match-vertex : Measures 4 match-vertex-kinds.ps ℕ
+abbrev μ-match-vertex : Measures 5 match-vertex-kinds.ps ℕ
 μ-match-vertex κs a = a .1 .1 .1 .1 .0 * 8 + 7
 
 -- what each is given at the measure t, and what a call of it asks below t
-abbrev match-inputs-at : ℕ → In 4 match-inputs-kinds.ps
+abbrev match-inputs-at : ℕ → In 5 match-inputs-kinds.ps
 match-inputs-at t =
-    and 4 match-inputs-kinds.ps (is 4 match-inputs-kinds.ps μ-match-inputs t) match-inputs.Pre
+    and 5 match-inputs-kinds.ps (is 5 match-inputs-kinds.ps μ-match-inputs t) match-inputs.Pre
 
-abbrev match-inputs-below : ℕ → In 4 match-inputs-kinds.ps
+abbrev match-inputs-below : ℕ → In 5 match-inputs-kinds.ps
 match-inputs-below t =
     and
-    4
+    5
     match-inputs-kinds.ps
-    (falls 4 match-inputs-kinds.ps _<_ μ-match-inputs t)
+    (falls 5 match-inputs-kinds.ps _<_ μ-match-inputs t)
     match-inputs.Pre
 
-abbrev match-vertex-at : ℕ → In 4 match-vertex-kinds.ps
+abbrev match-vertex-at : ℕ → In 5 match-vertex-kinds.ps
 match-vertex-at t =
-    and 4 match-vertex-kinds.ps (is 4 match-vertex-kinds.ps μ-match-vertex t) match-vertex.Pre
+    and 5 match-vertex-kinds.ps (is 5 match-vertex-kinds.ps μ-match-vertex t) match-vertex.Pre
 
-abbrev match-vertex-below : ℕ → In 4 match-vertex-kinds.ps
+abbrev match-vertex-below : ℕ → In 5 match-vertex-kinds.ps
 match-vertex-below t =
     and
-    4
+    5
     match-vertex-kinds.ps
-    (falls 4 match-vertex-kinds.ps _<_ μ-match-vertex t)
+    (falls 5 match-vertex-kinds.ps _<_ μ-match-vertex t)
     match-vertex.Pre
 
 -- the contracts of what each calls
@@ -74,6 +76,8 @@ match-inputs-calls t = (
   input-at-reads.Learnt,
   match-vertex-below t,
   match-vertex.Post,
+  greater-reads.Asked,
+  greater-reads.Learnt,
   match-inputs-below t,
   match-inputs.Post,
 )
@@ -129,10 +133,10 @@ match-inputs-source-input-count-requires t c κs =
 
 match-inputs-returns : (t : ℕ) → match-inputs-lts.Need-returns (match-inputs-calls t) (match-inputs-at t) match-inputs.Post
 match-inputs-returns t c =
-    let d = c .before .before in
+    let d = c .before in
     let s = d .before .before .before in
     inputs-done (graphOf (s .args .graph .now)) (ruleOf (s .args .rule .now)) (s .args .j) (s .args .v) (s .args .i)
-    (omega (arith, d .source-input-count .ensures .0, c .before .if1 .taken)) (s .pre .1 .1 .1 .1 .1 .1 .0)
+    (omega (arith, d .source-input-count .ensures .0, c .if1 .taken)) (s .pre .1 .1 .1 .1 .1 .1 .0)
 
 match-inputs-source-input-requires : (t : ℕ)
     → match-inputs-lts.Need-source-input-requires (match-inputs-calls t) (match-inputs-at t) match-inputs.Post
@@ -149,54 +153,73 @@ match-inputs-input-at-requires t c κs =
 match-inputs-match-vertex-requires : (t : ℕ)
     → match-inputs-lts.Need-match-vertex-requires (match-inputs-calls t) (match-inputs-at t) match-inputs.Post
 match-inputs-match-vertex-requires t c κs =
-    let e = c .before in
+    let n = c .before in
+    let e = n .before in
     let s = e .before .before .before .before .before in
     let down = lower t e in
     let order = input-in-order (graphOf (s .args .graph .now)) (ruleOf (s .args .rule .now)) (s .args .j) (s .args .v) (s .args .i)
-    (e .source-input .result) (c .input-at .result) (left t (e .before)) (e .source-input .ensures .0) (c .input-at .ensures .0)
-    (s .args .found .next) (s .pre .1 .1 .1 .1 .1 .1 .1) in
+    (e .source-input .result) (n .input-at .result) (left t (e .before)) (e .source-input .ensures .0) (n .input-at .ensures .0)
+    (s .args .next) (s .pre .1 .1 .1 .1 .1 .1 .1) in
     let falls = few t (e .before) in
-    (omega arith, (s .pre .1 .0, (omega arith, (named t c, (s .pre .1 .1 .1 .1 .1 .1 .0, order)))))
+    (omega arith, (s .pre .1 .0, (omega arith, (named t n, (s .pre .1 .1 .1 .1 .1 .1 .0, order)))))
 
 match-inputs-returns-2 : (t : ℕ) → match-inputs-lts.Need-returns-2 (match-inputs-calls t) (match-inputs-at t) match-inputs.Post
 match-inputs-returns-2 t c =
-    let d = c .before .before in
-    let n = d .before in
+    let d = c .before in
+    let n = d .before .before in
     let e = n .before in
     let s = e .before .before .before .before .before in
     input-fails (graphOf (s .args .graph .now)) (ruleOf (s .args .rule .now)) (s .args .j) (s .args .v) (s .args .i)
     (e .source-input .result) (n .input-at .result) (left t (e .before)) (e .source-input .ensures .0) (n .input-at .ensures .0)
     (d .match-vertex .ensures) (not-true _ (c .if2 .taken))
 
+match-inputs-add-greater : (t : ℕ)
+    → match-inputs-lts.Need-add-greater (match-inputs-calls t) (match-inputs-at t) match-inputs.Post
+match-inputs-add-greater t c =
+    let e = c .before .before .before .before in
+    let s = e .before .before .before .before .before in
+    omega (arith, lower t e, s .pre .1 .1 .0, s .pre .1 .0 .matchable .readable .whole .source)
+
+match-inputs-greater-requires : (t : ℕ)
+    → match-inputs-lts.Need-greater-requires (match-inputs-calls t) (match-inputs-at t) match-inputs.Post
+match-inputs-greater-requires t c κs = tt
+
+-- how many images there are once the input is matched
+reached : (t : ℕ) (c : match-inputs-lts.After-greater (match-inputs-calls t) (match-inputs-at t) match-inputs.Post)
+    → let e = c .before .before .before .before .before in
+    c .greater .result ≡ max (e .before .before .before .before .before .args .next) (suc (e .source-input .result))
+reached t c = omega (arith, c .greater .ensures)
+
 match-inputs-add-match-inputs : (t : ℕ)
     → match-inputs-lts.Need-add-match-inputs (match-inputs-calls t) (match-inputs-at t) match-inputs.Post
-match-inputs-add-match-inputs t c = omega (arith, few t (c .before .before .before .before .before))
+match-inputs-add-match-inputs t c = omega (arith, few t (c .before .before .before .before .before .before))
 
 match-inputs-match-inputs-requires : (t : ℕ)
     → match-inputs-lts.Need-match-inputs-requires (match-inputs-calls t) (match-inputs-at t) match-inputs.Post
 match-inputs-match-inputs-requires t c κs =
-    let d = c .before .before in
-    let n = d .before in
+    let x = c .before in
+    let d = x .before .before in
+    let n = d .before .before in
     let e = n .before in
     let s = e .before .before .before .before .before in
-    let first = d .match-vertex .ensures in
-    let passed = not-false _ (c .if2 .left) in
     let order = others-in-order (graphOf (s .args .graph .now)) (ruleOf (s .args .rule .now)) (s .args .j) (s .args .v) (s .args .i)
     (e .source-input .result) (n .input-at .result) (left t (e .before)) (e .source-input .ensures .0) (n .input-at .ensures .0)
-    (s .args .found .next) (d .match-vertex .result .next) (s .pre .1 .1 .1 .1 .1 .1 .1) (first .reached passed) in
+    (s .args .next) (x .greater .result) (s .pre .1 .1 .1 .1 .1 .1 .1) (reached t x) in
+    let made = d .match-vertex .ensures .partial (not-false _ (x .before .if2 .left)) in
     let falls = few t (e .before) in
     let more = left t (e .before) in
-    (omega arith, (s .pre .1 .0, (s .pre .1 .1 .0, (s .pre .1 .1 .1 .0, (omega arith, (s .pre .1 .1 .1 .1 .1 .0, (first .partial passed, order)))))))
+    (omega arith, (s .pre .1 .0, (s .pre .1 .1 .0, (s .pre .1 .1 .1 .0, (omega arith, (s .pre .1 .1 .1 .1 .1 .0, (rw (reached t x) made, order)))))))
 
 match-inputs-returns-3 : (t : ℕ) → match-inputs-lts.Need-returns-3 (match-inputs-calls t) (match-inputs-at t) match-inputs.Post
 match-inputs-returns-3 t c =
-    let d = c .before .before .before in
-    let n = d .before in
+    let x = c .before .before in
+    let d = x .before .before in
+    let n = d .before .before in
     let e = n .before in
     let s = e .before .before .before .before .before in
     input-passes (graphOf (s .args .graph .now)) (ruleOf (s .args .rule .now)) (s .args .j) (s .args .v) (s .args .i)
     (e .source-input .result) (n .input-at .result) (left t (e .before)) (e .source-input .ensures .0) (n .input-at .ensures .0)
-    (d .match-vertex .ensures) (not-false _ (c .before .if2 .left)) (c .match-inputs .ensures)
+    (reached t x) (d .match-vertex .ensures) (not-false _ (x .before .if2 .left)) (c .match-inputs .ensures)
 
 -- ---- match_vertex
 
@@ -213,27 +236,24 @@ place : (t : ℕ) (s : VertexStart t) → s .args .j < 16
 place t s = omega (arith, s .pre .1 .1 .0, s .pre .1 .0 .matchable .readable .whole .source)
 
 candidate : (t : ℕ) (c : match-vertex-lts.Else2 (match-vertex-calls t) (match-vertex-at t) match-vertex.Post)
-    → let a = c .before .before .before .before .before .before .args in
+    → let a = c .before .before .before .before .before .args in
     isCandidate (graphOf (a .graph .now)) (ruleOf (a .rule .now)) (a .j) (a .v) ≡ true
 candidate t c = sym (c .before .is-candidate .ensures) ∙ not-false _ (c .if2 .left)
 
 -- once the inputs are matched, the vertex itself is the next
-next-is : (t : ℕ) (c : match-vertex-lts.Else3 (match-vertex-calls t) (match-vertex-at t) match-vertex.Post)
-    → c .before .before .match-inputs .result .next ≡ c .before .before .before .before .before .before .before .before .before .args .j
-next-is t c =
-    let d = c .before .before in
-    let e = d .before .before .before in
-    let s = e .before .before .before .before in
-    d .match-inputs .ensures .reached (not-false _ (c .if3 .left))
-    ∙ in-order-here (ruleOf (s .args .rule .now)) (s .args .found .next) (s .args .j) (well t s .lower (s .args .j))
-    (s .pre .1 .1 .1 .1 .1) (e .if1 .left)
+next-is : (t : ℕ) (e : match-vertex-lts.Else1 (match-vertex-calls t) (match-vertex-at t) match-vertex.Post)
+    → let a = e .before .before .before .args in visitedAfter (a .next) (sourceInputs (ruleOf (a .rule .now)) (a .j)) ≡ a .j
+next-is t e =
+    let s = e .before .before .before in
+    in-order-here (ruleOf (s .args .rule .now)) (s .args .next) (s .args .j) (well t s .lower (s .args .j)) (s .pre .1 .1 .1 .1 .1)
+    (e .if1 .left)
 
 match-vertex-mul-widened : (t : ℕ) → match-vertex-lts.Need-mul-widened (match-vertex-calls t) (match-vertex-at t) match-vertex.Post
-match-vertex-mul-widened t c = omega (arith, place t (c .before .before .before .before))
+match-vertex-mul-widened t c = omega (arith, place t (c .before .before .before))
 
-match-vertex-array-read-widened : (t : ℕ)
-    → match-vertex-lts.Need-array-read-widened (match-vertex-calls t) (match-vertex-at t) match-vertex.Post
-match-vertex-array-read-widened t c = place t (c .before .before .before .before)
+match-vertex-element-copy-out-widened : (t : ℕ)
+    → match-vertex-lts.Need-element-copy-out-widened (match-vertex-calls t) (match-vertex-at t) match-vertex.Post
+match-vertex-element-copy-out-widened t c = place t (c .before .before .before)
 
 match-vertex-widened-requires : (t : ℕ)
     → match-vertex-lts.Need-widened-requires (match-vertex-calls t) (match-vertex-at t) match-vertex.Post
@@ -241,39 +261,40 @@ match-vertex-widened-requires t c κs = search needs
 
 match-vertex-returns : (t : ℕ) → match-vertex-lts.Need-returns (match-vertex-calls t) (match-vertex-at t) match-vertex.Post
 match-vertex-returns t c =
-    let s = c .before .before .before .before .before in
+    let d = c .before .before in
+    let s = d .before .before .before in
     let p = s .pre .1 .1 .1 .1 .0 in
-    mapped (graphOf (s .args .graph .now)) (ruleOf (s .args .rule .now)) (s .args .found .next) (s .args .found .images) p
+    mapped (graphOf (s .args .graph .now)) (ruleOf (s .args .rule .now)) (s .args .next) (s .args .images .now) p
     (s .args .j) (s .args .v) (c .widened .result)
-    (image-read (s .args .found .images) (s .args .j) (omega (arith, p .size, place t s)) ∙ sym (c .widened .ensures)) (c .before .if1 .taken)
+    (image-at (s .args .images .now) (s .args .j) (omega (arith, p .size, place t s)) ∙ sym (c .widened .ensures)) (d .if1 .taken)
 
 match-vertex-is-candidate-requires : (t : ℕ)
     → match-vertex-lts.Need-is-candidate-requires (match-vertex-calls t) (match-vertex-at t) match-vertex.Post
 match-vertex-is-candidate-requires t c κs =
-    let s = c .before .before .before .before in
+    let s = c .before .before .before in
     (s .pre .1 .0, (s .pre .1 .1 .0, s .pre .1 .1 .1 .0))
 
 match-vertex-returns-2 : (t : ℕ) → match-vertex-lts.Need-returns-2 (match-vertex-calls t) (match-vertex-at t) match-vertex.Post
 match-vertex-returns-2 t c =
     let d = c .before in
-    let s = d .before .before .before .before .before in
+    let s = d .before .before .before .before in
     no-candidate (graphOf (s .args .graph .now)) (ruleOf (s .args .rule .now)) (well t s) (s .args .j) (s .args .v) (inside t s)
-    (sym (d .is-candidate .ensures) ∙ not-true _ (c .if2 .taken))
+    (s .pre .1 .1 .1 .1 .0 .size) (sym (d .is-candidate .ensures) ∙ not-true _ (c .if2 .taken))
 
 match-vertex-match-inputs-requires : (t : ℕ)
     → match-vertex-lts.Need-match-inputs-requires (match-vertex-calls t) (match-vertex-at t) match-vertex.Post
 match-vertex-match-inputs-requires t c κs =
-    let e = c .before .before in
-    let s = e .before .before .before .before in
+    let e = c .before .before .before in
+    let s = e .before .before .before in
     let counts = candidate-inputs (graphOf (s .args .graph .now)) (ruleOf (s .args .rule .now)) (well t s) (s .args .j) (s .args .v)
-    (inside t s) (candidate t c) in
-    let order = in-order-inputs (ruleOf (s .args .rule .now)) (s .args .found .next) (s .args .j) (well t s .lower (s .args .j))
+    (inside t s) (candidate t (c .before)) in
+    let order = in-order-inputs (ruleOf (s .args .rule .now)) (s .args .next) (s .args .j) (well t s .lower (s .args .j))
     (s .pre .1 .1 .1 .1 .1) (e .if1 .left) in
     (omega arith, (s .pre .1 .0, (s .pre .1 .1 .0, (s .pre .1 .1 .1 .0, (omega arith, (counts, (s .pre .1 .1 .1 .1 .0, order)))))))
 
 match-vertex-returns-3 : (t : ℕ) → match-vertex-lts.Need-returns-3 (match-vertex-calls t) (match-vertex-at t) match-vertex.Post
 match-vertex-returns-3 t c =
-    let d = c .before .before in
+    let d = c .before in
     let s = d .before .before .before .before .before .before .before in
     inputs-fail (graphOf (s .args .graph .now)) (ruleOf (s .args .rule .now)) (well t s) (s .args .j) (s .args .v) (inside t s)
     (d .match-inputs .ensures) (not-true _ (c .if3 .taken))
@@ -282,22 +303,24 @@ match-vertex-settle-requires : (t : ℕ)
     → match-vertex-lts.Need-settle-requires (match-vertex-calls t) (match-vertex-at t) match-vertex.Post
 match-vertex-settle-requires t c κs =
     let b = c .before in
-    let d = b .before .before in
-    let s = d .before .before .before .before .before .before .before in
+    let d = b .before in
+    let look = d .before .before in
+    let e = look .before .before in
+    let s = e .before .before .before in
     let inputs = d .match-inputs .ensures in
     let passed = not-false _ (b .if3 .left) in
-    let below = rw (next-is t b) at (inputs .partial passed) in
+    let below = rw (next-is t e) at (inputs .partial passed) in
     let set = s .pre .1 .0 in
-    (set .readable, (set .matchable, (s .pre .1 .1 .0, (s .pre .1 .1 .1 .0, (candidate t (d .before), (below, inputs .meets passed))))))
+    (set .readable, (set .matchable, (s .pre .1 .1 .0, (s .pre .1 .1 .1 .0, (candidate t look, (below, inputs .meets passed))))))
 
 match-vertex-returns-4 : (t : ℕ) → match-vertex-lts.Need-returns-4 (match-vertex-calls t) (match-vertex-at t) match-vertex.Post
 match-vertex-returns-4 t c =
     let b = c .before .before in
-    let d = b .before .before in
-    let e = d .before .before .before in
-    let s = e .before .before .before .before in
+    let d = b .before in
+    let e = d .before .before .before .before in
+    let s = e .before .before .before in
     inputs-pass (graphOf (s .args .graph .now)) (ruleOf (s .args .rule .now)) (well t s) (s .args .j) (s .args .v) (inside t s)
-    (d .match-inputs .ensures) (not-false _ (b .if3 .left)) (next-is t b) (e .if1 .left) (c .settle .ensures)
+    (d .match-inputs .ensures) (not-false _ (b .if3 .left)) (next-is t e) (e .if1 .left) (c .settle .ensures)
 
 pub +match-inputs+match-vertex-spec : {M : Type 1} → statement M
 +match-inputs+match-vertex-spec =
@@ -314,6 +337,8 @@ pub +match-inputs+match-vertex-spec : {M : Type 1} → statement M
     (match-inputs-input-at-requires t)
     (match-inputs-match-vertex-requires t)
     (match-inputs-returns-2 t)
+    (match-inputs-add-greater t)
+    (match-inputs-greater-requires t)
     (match-inputs-add-match-inputs t)
     (match-inputs-match-inputs-requires t)
     (match-inputs-returns-3 t))
@@ -322,7 +347,7 @@ pub +match-inputs+match-vertex-spec : {M : Type 1} → statement M
     (match-vertex-at t)
     match-vertex.Post
     (match-vertex-mul-widened t)
-    (match-vertex-array-read-widened t)
+    (match-vertex-element-copy-out-widened t)
     (match-vertex-widened-requires t)
     (match-vertex-returns t)
     (match-vertex-is-candidate-requires t)

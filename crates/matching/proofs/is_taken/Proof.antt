@@ -10,7 +10,7 @@ use lib.Dec.{eqb}
 use Rattle.definitions.specs.Lists.{anyBelow}
 use Rattle.definitions.specs.Match.{imageOf}
 use Rattle.laws.proofs.Lists.{anyBelow-step, anyBelow-found}
-use Rattle.matching.proofs.Maps.{image-read}
+use Rattle.laws.proofs.Match.{image-at}
 use Rattle.matching.proofs.is_taken.Statement.{statement}
 use Rattle.matching.proofs.is_taken.Tie as tie
 
@@ -41,7 +41,7 @@ returns c =
     let l = c .before .before .before in
     let s = l .before .before in
     let i = l .before .loop .i in
-    let read = image-read (s .args .images .now) i (omega arith) ∙ sym (c .before .widened .ensures) in
+    let read = image-at (s .args .images .now) i (omega arith) ∙ sym (c .before .widened .ensures) in
     sym (anyBelow-found (test s) (s .args .next) i (omega arith)
     (eq-eqb (imageOf (s .args .images .now) i) (s .args .v) (read ∙ c .if1 .taken)))
 
@@ -56,7 +56,7 @@ loop-again c =
     let l = c .before .before .before in
     let s = l .before .before in
     let i = l .before .loop .i in
-    let read = image-read (s .args .images .now) i (omega arith) ∙ sym (c .before .widened .ensures) in (
+    let read = image-at (s .args .images .now) i (omega arith) ∙ sym (c .before .widened .ensures) in (
       omega arith,
       anyBelow-step (test s) i (l .before .loop .inv .1)
           (ne-eqb (imageOf (s .args .images .now) i) (s .args .v) (λ e. c .if1 .left (sym read ∙ e))),

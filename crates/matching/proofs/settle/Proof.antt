@@ -28,7 +28,7 @@ returns : tie.Need-returns
 returns c =
     let s = c .before .before .before .before .before in
     is-taken (graphOf (s .args .graph .now)) (ruleOf (s .args .rule .now)) (well s) (s .args .j) (s .args .v) (inside s)
-    (sym (c .before .is-taken .ensures) ∙ c .if1 .taken)
+    (s .pre .1 .1 .1 .1 .1 .0 .size) (sym (c .before .is-taken .ensures) ∙ c .if1 .taken)
 
 attributes-agree-requires : tie.Need-attributes-agree-requires
 attributes-agree-requires c κs =
@@ -42,25 +42,22 @@ returns-2 : tie.Need-returns-2
 returns-2 c =
     let s = c .before .before .before .before .before .before .before .before in
     disagree (graphOf (s .args .graph .now)) (ruleOf (s .args .rule .now)) (well s) (s .args .j) (s .args .v) (inside s)
-    (sym (c .before .attributes-agree .ensures) ∙ not-true _ (c .if2 .taken))
+    (s .pre .1 .1 .1 .1 .1 .0 .size) (sym (c .before .attributes-agree .ensures) ∙ not-true _ (c .if2 .taken))
 
-cast-made : tie.Need-cast-made
-cast-made c = search needs
+cast-images : tie.Need-cast-images
+cast-images c = search needs
 
-mul-made : tie.Need-mul-made
-mul-made c = search needs
+mul-images : tie.Need-mul-images
+mul-images c = search needs
 
-array-write-made : tie.Need-array-write-made
-array-write-made c = search needs
-
-add-t17 : tie.Need-add-t17
-add-t17 c = search needs
+element-write-images : tie.Need-element-write-images
+element-write-images c = search needs
 
 returns-3 : tie.Need-returns-3
 returns-3 c =
     let t = c .before .before .before in
     let s = t .before .before .before .before .before in
-    settled (graphOf (s .args .graph .now)) (ruleOf (s .args .rule .now)) (well s) (s .args .j) (s .args .v) (s .args .t5) (inside s)
+    settled (graphOf (s .args .graph .now)) (ruleOf (s .args .rule .now)) (well s) (s .args .j) (s .args .v) (s .args .images .now) (inside s)
     (omega (arith, s .pre .1 .1 .0, s .pre .1 .0 .readable .whole .source)) (s .pre .1 .1 .1 .1 .1 .0) (s .pre .1 .1 .1 .1 .0)
     (sym (t .before .is-taken .ensures) ∙ t .if1 .left) (s .pre .1 .1 .1 .1 .1 .1)
     (sym (c .before .attributes-agree .ensures) ∙ not-false _ (c .if2 .left))
@@ -73,8 +70,7 @@ settle-spec =
     returns
     attributes-agree-requires
     returns-2
-    cast-made
-    mul-made
-    array-write-made
-    add-t17
+    cast-images
+    mul-images
+    element-write-images
     returns-3)

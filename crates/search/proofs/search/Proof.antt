@@ -1,6 +1,6 @@
 -- The nested search: every step passes one more choice of output images, or has the least match.
 -- Assumes nothing.
-use mathlib.Core.Path.{_≡_}
+use mathlib.Core.Path.{_≡_, refl}
 use mathlib.Core.Bool.{false}
 use mathlib.Core.Logic.{⊎-elim}
 use mathlib.Core.List.{List}
@@ -10,25 +10,28 @@ use Rattle.definitions.specs.Graph.{slotCount, Graph, graphOf}
 use Rattle.definitions.specs.Rule.{sourceCount, ruleOutputCount, Rule, ruleOf}
 use Rattle.laws.proofs.Graph.{length-slots}
 use Rattle.laws.proofs.Rule.{length-source}
+use Rattle.matching.proofs.Candidates.{Formed, formed}
 use Rattle.search.proofs.search.Statement.{statement}
 use Rattle.search.proofs.search.Tie as tie
 use Rattle.search.proofs.Sound.{graph-readable, rule-readable, rule-layered, output-counts}
-use Rattle.search.proofs.Steps.{Outputs, outputs-read, Passed, PassedSecond, passed-start, second-start, root-fails, second-fails, seconds-passed, nothing-mapped, first-in-order, second-in-order, nothing-found, one-found, two-found}
+use Rattle.search.proofs.Steps.{Outputs, outputs-read, Passed, PassedSecond, passed-start, second-start, Blank, blank-start, blank-after, Rooted, rooted-after, root-fails, root-made, second-fails, seconds-passed, nothing-mapped, first-in-order, second-in-order, nothing-found, one-found, two-found}
 
 abbrev Inv-loop : tie.InvT-loop
-Inv-loop graph rule uses demands start slots outputs first-output last-output found₀ first root second₀ found second =
-    PassedSecond (graphOf graph) (ruleOf rule) first-output last-output first second × (found .ok ≡ false)
+Inv-loop graph rule uses demands start slots outputs root last next images₀ found₀ first second₀ images found second =
+    PassedSecond (graphOf graph) (ruleOf rule) root last first second
+    × Rooted (graphOf graph) (ruleOf rule) root first images × Blank (ruleOf rule) images × (found ≡ false)
 
 abbrev μ-loop : tie.MeasureT-loop
-μ-loop graph rule uses demands start slots outputs first-output last-output found₀ first root second₀ found second =
+μ-loop graph rule uses demands start slots outputs root last next images₀ found₀ first second₀ images found second =
     slots - second
 
 abbrev Inv-search : tie.InvT-search
-Inv-search graph rule uses demands start slots outputs first-output last-output found₀ first₀ found first =
-    Passed (graphOf graph) (ruleOf rule) first-output start first × (found .ok ≡ false)
+Inv-search graph rule uses demands start slots outputs root last next images₀ found₀ first₀ images found first =
+    Passed (graphOf graph) (ruleOf rule) root start first × Blank (ruleOf rule) images × (found ≡ false)
 
 abbrev μ-search : tie.MeasureT-search
-μ-search graph rule uses demands start slots outputs first-output last-output found₀ first₀ found first = slots - first
+μ-search graph rule uses demands start slots outputs root last next images₀ found₀ first₀ images found first =
+    slots - first
 
 -- ---- before the loops
 
@@ -59,16 +62,13 @@ source-output-requires-2 c κs =
       omega (arith, output-counts (s .args .rule .now) (s .pre .1 .0) .0, c .before .output-count .ensures .0),
     )
 
-no-match-requires : tie.Need-no-match-requires Inv-loop μ-loop Inv-search μ-search
-no-match-requires c κs = tt
-
 -- ---- what is known once the counts and the outputs are read
 
 abbrev Ready : Type 0
-Ready = tie.After-no-match Inv-loop μ-loop Inv-search μ-search
+Ready = tie.After-source-output2 Inv-loop μ-loop Inv-search μ-search
 
 abbrev start : Ready → tie.Start Inv-loop μ-loop Inv-search μ-search
-start c = c .before .before .before .before .before .before .before
+start c = c .before .before .before .before .before .before
 
 abbrev graphBlock : Ready → List ℕ
 graphBlock c = start c .args .graph .now
@@ -83,34 +83,34 @@ abbrev r : Ready → Rule
 r c = ruleOf (ruleBlock c)
 
 abbrev slots : Ready → ℕ
-slots c = c .before .before .before .before .slot-count .result
+slots c = c .before .before .before .slot-count .result
 
 abbrev outputs : Ready → ℕ
-outputs c = c .before .before .before .output-count .result
+outputs c = c .before .before .output-count .result
 
 -- the first output, and the last
 abbrev o : Ready → ℕ
-o c = c .before .before .source-output .result
+o c = c .before .source-output .result
 
 abbrev q : Ready → ℕ
-q c = c .before .source-output2 .result
+q c = c .source-output2 .result
 
 all-slots : (c : Ready) → slots c ≡ slotCount (graphBlock c)
-all-slots c = c .before .before .before .before .slot-count .ensures .0
+all-slots c = c .before .before .before .slot-count .ensures .0
 
 all-outputs : (c : Ready) → outputs c ≡ ruleOutputCount (ruleBlock c)
-all-outputs c = c .before .before .before .output-count .ensures .0
+all-outputs c = c .before .before .output-count .ensures .0
 
 known : (c : Ready) → Outputs (r c) (outputs c) (o c) (q c)
 known c =
     outputs-read (ruleBlock c) (start c .pre .1 .0) (outputs c) (o c) (q c) (all-outputs c)
-    (c .before .before .source-output .ensures .0) (c .before .source-output2 .ensures .0)
+    (c .before .source-output .ensures .0) (c .source-output2 .ensures .0)
 
 first-inside : (c : Ready) → o c < sourceCount (ruleBlock c)
 first-inside c =
     omega (
       arith,
-      c .before .before .source-output .ensures .0,
+      c .before .source-output .ensures .0,
       rule-layered (ruleBlock c) (start c .pre .1 .0) .outputs 0 (output-counts (ruleBlock c) (start c .pre .1 .0) .0),
     )
 
@@ -120,31 +120,34 @@ last-inside c =
     omega (arith, output-counts (ruleBlock c) (start c .pre .1 .0) .0, all-outputs c) in
     omega (
       arith,
-      c .before .source-output2 .ensures .0,
+      c .source-output2 .ensures .0,
       rule-layered (ruleBlock c) (start c .pre .1 .0) .outputs (outputs c - 1) some,
     )
 
+-- the rule can be matched
+well : (c : Ready) → Formed (r c)
+well c = formed (ruleBlock c) (start c .pre .1 .1 .matchable)
+
+add-next : tie.Need-add-next Inv-loop μ-loop Inv-search μ-search
+add-next c = omega (arith, first-inside c, rule-readable (ruleBlock c) (start c .pre .1 .0) .whole .source)
+
 search-holds : tie.Need-search-holds Inv-loop μ-loop Inv-search μ-search
-search-holds c = (passed-start (g c) (r c) (o c) (start c .args .start), c .no-match .ensures)
+search-holds c = (passed-start (g c) (r c) (o c) (start c .args .start), blank-start (r c), refl)
 
 -- ---- the first output's image
 
-no-images-requires : tie.Need-no-images-requires Inv-loop μ-loop Inv-search μ-search
-no-images-requires c κs = tt
-
 match-vertex-requires : tie.Need-match-vertex-requires Inv-loop μ-loop Inv-search μ-search
 match-vertex-requires c κs =
-    let b = c .before .before .before in
-    let none = c .no-images .ensures in
-    let next = c .no-images .result .next in (
+    let a = c .before .before in
+    let b = a .before in (
       start b .pre .1 .1,
       (
         first-inside b,
         (
           omega (arith, c .before .search-test .taken, all-slots b),
           (
-            nothing-mapped (g b) (r b) next (c .no-images .result .images) (none .0) (none .1) (none .2),
-            first-in-order (graphBlock b) (ruleBlock b) (start b .pre .1 .0) (outputs b) (o b) (q b) (known b) next (none .0),
+            nothing-mapped (g b) (r b) (a .search .images) (a .search .inv .1),
+            first-in-order (graphBlock b) (ruleBlock b) (start b .pre .1 .0) (outputs b) (o b) (q b) (known b),
           ),
         ),
       ),
@@ -153,35 +156,36 @@ match-vertex-requires c κs =
 -- ---- the second output's image
 
 -- the step for the first output succeeded, and there is a second output
-abbrev Rooted : Type 0
-Rooted = tie.Else2 Inv-loop μ-loop Inv-search μ-search
+abbrev Second : Type 0
+Second = tie.Else2 Inv-loop μ-loop Inv-search μ-search
 
-abbrev ready : Rooted → Ready
+abbrev ready : Second → Ready
 ready c = c .before .before .before .before .before .before
 
 loop-holds : tie.Need-loop-holds Inv-loop μ-loop Inv-search μ-search
 loop-holds c =
     let b = ready c in
-    let a = c .before .before .before .before .before in
-    (second-start (g b) (r b) (o b) (q b) (a .search .first), a .search .inv .1)
+    let v = c .before .before in
+    let a = v .before .before .before in (
+      second-start (g b) (r b) (o b) (q b) (a .search .first),
+      root-made (g b) (r b) (o b) (a .search .first) (v .match-vertex .ensures) (c .before .if1 .taken),
+      blank-after (v .match-vertex .ensures) (a .search .inv .1),
+      a .search .inv .2,
+    )
 
 match-vertex-requires-2 : tie.Need-match-vertex-requires-2 Inv-loop μ-loop Inv-search μ-search
 match-vertex-requires-2 c κs =
-    let e = c .before .before in
-    let b = ready e in
-    let v = e .before .before in
-    let t = e .before .if1 .taken in
-    let root = v .match-vertex .ensures in (
+    let l = c .before .before in
+    let e = l .before in
+    let b = ready e in (
       start b .pre .1 .1,
       (
         last-inside b,
         (
-          omega (arith, c .loop-test .taken, all-slots b),
+          omega (arith, c .before .loop-test .taken, all-slots b),
           (
-            root .partial t,
-            second-in-order (graphBlock b) (ruleBlock b) (start b .pre .1 .0) (outputs b) (o b) (q b) (known b)
-                (v .before .no-images .result .next) (v .match-vertex .result .next) (e .if2 .left) (v .before .no-images .ensures .0)
-                (root .reached t),
+            l .loop .inv .1 .partial,
+            second-in-order (graphBlock b) (ruleBlock b) (start b .pre .1 .0) (outputs b) (o b) (q b) (known b) (e .if2 .left),
           ),
         ),
       ),
@@ -189,22 +193,24 @@ match-vertex-requires-2 c κs =
 
 add-second : tie.Need-add-second Inv-loop μ-loop Inv-search μ-search
 add-second c =
-    let i = c .before .before in
-    omega (arith, i .loop-test .taken, ready (i .before .before) .before .before .before .before .slot-count .ensures .1)
+    let i = c .before .before .before in
+    omega (arith, i .loop-test .taken, ready (i .before .before) .before .before .before .slot-count .ensures .1)
 
 loop-less : tie.Need-loop-less Inv-loop μ-loop Inv-search μ-search
-loop-less c = omega (arith, c .before .before .loop-test .taken)
+loop-less c = omega (arith, c .before .before .before .loop-test .taken)
 
 loop-again : tie.Need-loop-again Inv-loop μ-loop Inv-search μ-search
 loop-again c =
-    let l = c .before .before .before in
+    let pair = c .before .match-vertex2 .ensures in
+    let l = c .before .before .before .before in
     let e = l .before in
     let b = ready e in
-    let v = e .before .before in
-    let a = v .before .before .before in (
-      second-fails (g b) (r b) (o b) (start b .args .start) (a .search .first) (a .search .inv .0)
-          (v .before .no-images .ensures .0) (v .match-vertex .ensures) (q b) (l .loop .second) (l .loop .inv .0) (c .before .match-vertex2 .ensures) (c .if3 .left),
-      l .loop .inv .1,
+    let a = e .before .before .before .before .before in
+    let first = a .search .first in (
+      second-fails (g b) (r b) (o b) (q b) first (l .loop .second) (l .loop .inv .0) (l .loop .inv .1) pair (c .if3 .left),
+      rooted-after pair (well b) (o b) first refl (l .loop .inv .1),
+      blank-after pair (l .loop .inv .2),
+      l .loop .inv .3,
     )
 
 -- ---- the next first image
@@ -212,7 +218,7 @@ loop-again c =
 add-first : tie.Need-add-first Inv-loop μ-loop Inv-search μ-search
 add-first c =
     let i = c .before .before .before in
-    omega (arith, i .search-test .taken, i .before .before .before .before .before .before .slot-count .ensures .1)
+    omega (arith, i .search-test .taken, i .before .before .before .before .before .slot-count .ensures .1)
 
 search-less : tie.Need-search-less Inv-loop μ-loop Inv-search μ-search
 search-less c = omega (arith, c .before .before .before .search-test .taken)
@@ -222,20 +228,20 @@ search-again c =
     let v = c .before in
     let a = v .before .before .before in
     let b = a .before in
-    let none = v .before .no-images .ensures .0 in
     let s = start b .args .start in
     let first = a .search .first in
     ⊎-elim
     (λ w.
     let l = w .2 in (
-      seconds-passed (g b) (r b) (o b) s first (a .search .inv .0) none (v .match-vertex .ensures) (q b) (l .second) (l .inv .0)
-          (rw (length-source (ruleBlock b)) (last-inside b))
-          (omega (arith, w .3 .left, all-slots b, length-slots (graphBlock b))),
-      rw (w .4) (l .inv .1),
+      seconds-passed (g b) (r b) (o b) (q b) first (l .second) (l .inv .0) s (a .search .inv .0)
+          (rw (length-source (ruleBlock b)) (last-inside b)) (omega (arith, w .3 .left, all-slots b, length-slots (graphBlock b))),
+      rw (w .4) (l .inv .2),
+      rw (w .5) (l .inv .3),
     ))
     (λ w. (
-      root-fails (g b) (r b) (o b) s first (a .search .inv .0) none (v .match-vertex .ensures) (w .0 .left),
-      rw (w .1) (a .search .inv .1),
+      root-fails (g b) (r b) (o b) first (v .match-vertex .ensures) s (a .search .inv .0) (w .0 .left),
+      rw (w .1) (blank-after (v .match-vertex .ensures) (a .search .inv .1)),
+      rw (w .2) (a .search .inv .2),
     ))
     (c .if1 .came)
 
@@ -246,26 +252,28 @@ returns c =
     let a = c .before in
     let b = a .before in
     nothing-found (graphBlock b) (ruleBlock b) (start b .pre .1 .0) (outputs b) (o b) (q b) (known b)
-    (start b .args .start) (a .search .first) (a .search .inv .0) (first-inside b) (omega (arith, c .search-test .left, all-slots b)) (a .search .inv .1)
+    (start b .args .start) (a .search .first) (a .search .inv .0) (first-inside b) (omega (arith, c .search-test .left, all-slots b)) (a .search .inv .2)
 
 returns-2 : tie.Need-returns-2 Inv-loop μ-loop Inv-search μ-search
 returns-2 c =
     let v = c .before .before in
     let a = v .before .before .before in
     let b = a .before in
+    let root = v .match-vertex .ensures in
     one-found (graphBlock b) (ruleBlock b) (start b .pre .1 .0) (outputs b) (o b) (q b) (known b)
-    (start b .args .start) (a .search .first) (a .search .inv .0) (v .before .no-images .ensures .0) (v .match-vertex .ensures) (c .before .if1 .taken) (c .if2 .taken)
+    (start b .args .start) (a .search .first) (a .search .inv .0) (c .if2 .taken)
+    (root-made (g b) (r b) (o b) (a .search .first) root (c .before .if1 .taken)) (blank-after root (a .search .inv .1))
 
 returns-3 : tie.Need-returns-3 Inv-loop μ-loop Inv-search μ-search
 returns-3 c =
-    let l = c .before .before .before in
+    let pair = c .before .match-vertex2 .ensures in
+    let l = c .before .before .before .before in
     let e = l .before in
-    let v = e .before .before in
-    let a = v .before .before .before in
+    let a = e .before .before .before .before .before in
     let b = a .before in
     two-found (graphBlock b) (ruleBlock b) (start b .pre .1 .0) (outputs b) (o b) (q b) (known b)
-    (start b .args .start) (a .search .first) (a .search .inv .0) (v .before .no-images .ensures .0) (v .match-vertex .ensures)
-    (e .before .if1 .taken) (l .loop .second) (e .if2 .left) (l .loop .inv .0) (c .before .match-vertex2 .ensures) (c .if3 .taken)
+    (start b .args .start) (a .search .first) (a .search .inv .0) (l .loop .second) (e .if2 .left) (l .loop .inv .0) (l .loop .inv .1)
+    pair (c .if3 .taken) (blank-after pair (l .loop .inv .2))
 
 pub search-spec : {M : Type 1} → statement M
 search-spec =
@@ -280,9 +288,8 @@ search-spec =
     source-output-requires
     sub-source-output
     source-output-requires-2
-    no-match-requires
+    add-next
     search-holds
-    no-images-requires
     match-vertex-requires
     loop-holds
     match-vertex-requires-2
