@@ -48,10 +48,8 @@ fn matches() {
         let mut map = [170; 32];
         let reply = find_match(&e1().block(), &rr().block(), start, &mut map);
         println!("match RR on E1 from {start}: {}", reply & 255);
-        let numbers: Vec<String> = map
-            .chunks(2)
-            .map(|pair| u16::from_le_bytes([pair[0], pair[1]]).to_string())
-            .collect();
+        let numbers: Vec<String> =
+            map.chunks(2).map(|pair| u16::from_le_bytes([pair[0], pair[1]]).to_string()).collect();
         println!("map: {}", numbers.join(" "));
     }
 }

@@ -37,17 +37,26 @@ const CHANGES: [Change; 9] = [
 pub fn search_case(random: &mut Random) -> (&'static str, Case) {
     let (graph, cut) = graph_and_cut(random, graph);
     let mut scene = Scene { graph, cut };
-    let (name, change) = random.pick(&CHANGES);
-    change(random, &mut scene);
-    while random.chance(25) {
-        let (_, change) = random.pick(&CHANGES);
-        change(random, &mut scene);
-    }
+    let name = change_scene(random, &mut scene);
     let Scene { graph, cut } = scene;
     let first_image = cut.images[usize::from(cut.outputs[0])];
     let start = start(random, graph.slots.len(), first_image.into());
     let rule = rule_with_random_target(random, cut.source, cut.outputs, cut.expressions);
     (name, Case { graph, rule, start })
+}
+
+/// Often none, so that most searches find what was cut.
+fn change_scene(random: &mut Random, scene: &mut Scene) -> &'static str {
+    if random.chance(50) {
+        return CHANGES[0].0;
+    }
+    let (name, change) = random.pick(&CHANGES);
+    change(random, scene);
+    while random.chance(25) {
+        let (_, change) = random.pick(&CHANGES);
+        change(random, scene);
+    }
+    name
 }
 
 fn graph(random: &mut Random) -> GraphParts {
@@ -64,17 +73,17 @@ fn graph(random: &mut Random) -> GraphParts {
 /// Starts around the first output's image and around N, and numbers that
 /// would be small again if some of their bits were dropped.
 fn start(random: &mut Random, slots: usize, image: usize) -> usize {
-    match random.below(40) {
-        0..=17 => 0,
-        18..=23 => image,
-        24 | 25 => image + 1,
-        26..=29 => random.below(image + 1),
-        30 | 31 => random.within(1, 4),
-        32 | 33 => random.below(slots),
-        34 => slots + random.below(3) - 1,
-        35 => random.pick(&[65535, 65536, 65536 + image, 65536 + slots]),
-        36 | 37 => random.pick(&[1 << 16, 1 << 31, 1 << 32, 1 << 63]) + random.pick(&[0, image]),
-        38 => random.pick(&[usize::MAX, usize::MAX - image, 1 << 63]),
+    match random.below(80) {
+        0..=47 => 0,
+        48..=57 => image,
+        58 | 59 => image + 1,
+        60..=67 => random.below(image + 1),
+        68 | 69 => random.within(1, 4),
+        70..=72 => random.below(slots),
+        73 => slots + random.below(3) - 1,
+        74 => random.pick(&[65535, 65536, 65536 + image, 65536 + slots]),
+        75..=77 => random.pick(&[1 << 16, 1 << 31, 1 << 32, 1 << 63]) + random.pick(&[0, image]),
+        78 => random.pick(&[usize::MAX, usize::MAX - image, 1 << 63]),
         _ => random.number() as usize,
     }
 }
