@@ -7,10 +7,10 @@ use mathlib.Core.Logic.{⊎-elim}
 use mathlib.Core.Option.{none, some}
 use Prim.Native.Nat.{ℕ, _≤_}
 use native.Mathlib.Omega.{arith}
-use borrow.Author.Tests.{eqb-true, ltb-true, ltb-false}
-use lib.Dec.{eqb, ltb}
-use lib.ListN.{length, take, length-take, List·getD-eq-default}
-use lib.Seq.{ext-getD, getD-take}
+use borrow.Author.Tests.{eqb-true}
+use lib.Dec.{eqb}
+use lib.ListN.{length, take, length-take}
+use lib.Seq.{ext-getD}
 use Rattle.definitions.specs.declared.Refusal.{Refusal}
 use Rattle.definitions.specs.declared.Reply.the-variants.{Done, Refused}
 use Rattle.definitions.specs.Lists.{padded, concatMap}
@@ -21,7 +21,7 @@ use Rattle.definitions.specs.Rule.{sideLimit, ruleOf, ruleReply, SoundRule}
 use Rattle.definitions.specs.Match.{imageOf, leastMatch}
 use Rattle.definitions.specs.Operations.{outcome, mapBytes, mapBlock, mapReply, blocksReply, matched, findMatch}
 use Rattle.laws.proofs.Lists.{decided}
-use Rattle.laws.proofs.Padded.{length-padded, padded-at}
+use Rattle.laws.proofs.Padded.{length-padded, padded-at, taken-at}
 use Rattle.laws.proofs.Reply.{first-all}
 use Rattle.graph_check.proofs.Sound as GraphSound
 use Rattle.rule_check.proofs.Sound as RuleSound
@@ -35,11 +35,7 @@ unfolding imageOf
 filled-up n images size small rest =
     ext-getD unusedPlace (padded sideLimit unusedPlace (take n images)) images
     (length-padded unusedPlace sideLimit (take n images) (omega (arith, length-take n images)) ∙ sym size)
-    (λ i l. padded-at unusedPlace sideLimit (take n images) i ∙ ⊎-elim
-    (λ (t : ltb i n ≡ true). getD-take n images i unusedPlace (ltb-true i n t))
-    (λ (t : ltb i n ≡ false). List·getD-eq-default (take n images) unusedPlace (omega (arith, length-take n images, ltb-false i n t))
-    ∙ sym (rest i (ltb-false i n t)))
-    (decided (ltb i n)))
+    (λ i l. padded-at unusedPlace sideLimit (take n images) i ∙ taken-at unusedPlace n images (omega arith) rest i)
 
 pub map-bytes : (n : ℕ) (images : List ℕ) → length images ≡ sideLimit → n ≤ sideLimit
     → ((i : ℕ) → n ≤ i → imageOf images i ≡ unusedPlace) → concatMap u16Bytes images ≡ mapBlock (take n images)

@@ -38,6 +38,17 @@ unfolding rowOf kinds all
 kind-attributes kind = bounded (λ (x : Row). x .attributes) 6 _ kinds kind (omega arith) refl
 
 module _ (kind operator n m : ℕ) (fits : shapeFits kind operator n m ≡ true) where
+  -- a kind other than Call counts as its row says
+  pub row-inputs : eqb kind kindCall ≡ false → n ≤ rowOf kind .greatest
+  unfolding shapeFits
+  row-inputs other =
+      leb-true n (rowOf kind .greatest) (needed (leb n (rowOf kind .greatest)) fits (λ f. simp (other, f, and-false)))
+
+  pub row-attributes : eqb kind kindCall ≡ false → m ≡ rowOf kind .attributes
+  unfolding shapeFits
+  row-attributes other =
+      eqb-true m (rowOf kind .attributes) (needed (eqb m (rowOf kind .attributes)) fits (λ f. simp (other, f, and-false)))
+
   pub few-inputs : n ≤ 6
   unfolding shapeFits
   few-inputs =
@@ -46,9 +57,7 @@ module _ (kind operator n m : ℕ) (fits : shapeFits kind operator n m ≡ true)
       (needed (eqb n (countsOf operator .inputs)) fits (λ f. simp (call, f, and-false))) in
       omega (arith, operator-inputs operator))
       (λ (other : eqb kind kindCall ≡ false).
-      let most = leb-true n (rowOf kind .greatest)
-      (needed (leb n (rowOf kind .greatest)) fits (λ f. simp (other, f, and-false))) in
-      omega (arith, kind-inputs kind))
+      omega (arith, row-inputs other, kind-inputs kind))
       (decided (eqb kind kindCall))
 
   pub few-attributes : m ≤ 6
@@ -59,7 +68,5 @@ module _ (kind operator n m : ℕ) (fits : shapeFits kind operator n m ≡ true)
       (needed (eqb m (countsOf operator .attributes)) fits (λ f. simp (call, f, and-false))) in
       omega (arith, operator-attributes operator))
       (λ (other : eqb kind kindCall ≡ false).
-      let same = eqb-true m (rowOf kind .attributes)
-      (needed (eqb m (rowOf kind .attributes)) fits (λ f. simp (other, f, and-false))) in
-      omega (arith, kind-attributes kind))
+      omega (arith, row-attributes other, kind-attributes kind))
       (decided (eqb kind kindCall))

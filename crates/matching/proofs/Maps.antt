@@ -59,7 +59,8 @@ module _ (g : Graph) (images : List ℕ) (r : Rule) (j : ℕ) (s : Slot) where
   agree-holds n t = true-holds pairs
       (sym (agree-pairs (readAttribute g images) (sourceOf r j .attributes) (s .attributes) (sym n)) ∙ t)
 
-takes-same : (g : Graph) (a b : List ℕ) (r : Rule) (i : ℕ) (s : Slot) → Formed r → i < length (r .source)
+-- a vertex takes a slot under any map with the same images of lower vertices
+pub takes-same : (g : Graph) (a b : List ℕ) (r : Rule) (i : ℕ) (s : Slot) → Formed r → i < length (r .source)
     → ((u : ℕ) → u < i → imageOf a u ≡ imageOf b u) → Takes g a (sourceOf r i) s → Takes g b (sourceOf r i) s
 takes-same g a b r i s f inside same k = record {
   kind = k .kind;

@@ -1,7 +1,7 @@
 -- What sound blocks give to the functions that match: the layout, what inputs and outputs name, and what the tables say of rule
 -- inputs.
 -- Assumes nothing.
-use mathlib.Core.Path.{_≡_, sym, ap, _∙_}
+use mathlib.Core.Path.{_≡_, refl, sym, ap, _∙_}
 use mathlib.Core.Bool.{true, false, and-false}
 use mathlib.Core.List.{List, []}
 use mathlib.Core.Logic.{⊎-elim}
@@ -13,8 +13,9 @@ use lib.ListN.{length, getD, List·getD-eq-default}
 use Rattle.definitions.specs.Fields.{byteAt}
 use Rattle.definitions.specs.Operators.{kindEmpty, kindVariable, kinds, rowOf, shapeFits}
 use Rattle.definitions.specs.Graph.{unusedPlace, slotCount, graphOf, inputsOf, isVertex, badRecord, badInputs, SoundGraph}
-use Rattle.definitions.specs.Rule.{sourceCount, ruleOutputCount, nodeCount, vertexAt, anything, Pattern, ruleOf, expressionOf, wildcard, sourceOf, sourceInputs, inputKind, isRuleInput, ruleSizesFit, ruleHeaderFits, patternFits, accessesBelow, useFits, SoundRule}
+use Rattle.definitions.specs.Rule.{ruleOutputLimit, sourceCount, ruleOutputCount, nodeCount, vertexAt, anything, Pattern, ruleOf, expressionOf, wildcard, sourceOf, sourceInputs, inputKind, isRuleInput, ruleSizesFit, ruleHeaderFits, patternFits, accessesBelow, useFits, SoundRule}
 use Rattle.laws.proofs.Lists.{decided, needed, lowest-whole, all-members, length-none}
+use Rattle.laws.proofs.Operators.{row-inputs, row-attributes}
 use Rattle.laws.proofs.Members.{mem-at}
 use Rattle.laws.proofs.Graph.{vertex-inside, length-slots, length-outputs}
 use Rattle.laws.proofs.Rule.{length-source, length-source-outputs, source-kind-at, source-count-at, source-attributes-at, source-attribute-at, outputs-below, inputs-lower}
@@ -52,18 +53,6 @@ module _ (block : List ℕ) (sound : SoundGraph block) where
         rw (length-slots block) at (vertex-inside (graphOf block) (getD (graphOf block .outputs) i unusedPlace)
         (sound .outputs (getD (graphOf block .outputs) i unusedPlace) (mem-at (graphOf block .outputs) i unusedPlace inside)));
   }
-
--- ---- the tables: kind 2 has no inputs, and kind 0 has no attributes
-
-variable-inputs : (operator n m : ℕ) → shapeFits kindVariable operator n m ≡ true → n ≡ 0
-unfolding shapeFits rowOf kinds
-variable-inputs operator n m h =
-    let most : n ≤ 0 = leb-true n 0 (needed (leb n 0) h (λ f. simp (f, and-false))) in
-    omega arith
-
-empty-attributes : (operator n m : ℕ) → shapeFits kindEmpty operator n m ≡ true → m ≡ 0
-unfolding shapeFits rowOf kinds
-empty-attributes operator n m h = eqb-true m 0 (needed (eqb m 0) h (λ f. simp (f, and-false)))
 
 -- ---- a sound rule
 
@@ -105,7 +94,7 @@ module _ (block : List ℕ) (sound : SoundRule block) where
   shape-of j kind l e = let same : byteAt block (vertexAt j) ≡ kind = sym (source-kind-at block j l) ∙ e in rw same at (shape j l)
 
   pub rule-plain : (j : ℕ) → isRuleInput (ruleOf block) j ≡ true → sourceInputs (ruleOf block) j ≡ []
-  unfolding isRuleInput inputKind
+  unfolding isRuleInput inputKind rowOf kinds
   rule-plain j h =
       let kind : ℕ = sourceOf (ruleOf block) j .kind in
       let at : ℕ = vertexAt j in
@@ -115,19 +104,20 @@ module _ (block : List ℕ) (sound : SoundRule block) where
       sound-fixing block sound .plain j (eqb-true kind kindEmpty t))
       (λ (t : eqb kind kindEmpty ≡ false).
       let second : eqb kind kindVariable ≡ true = needed (eqb kind kindVariable) h (λ f. simp (t, f, and-false)) in
-      length-none (sourceInputs (ruleOf block) j) (source-count-at block j inside
-      ∙ variable-inputs (byteAt block (at + 1)) (byteAt block (at + 2)) (byteAt block (at + 3))
-      (shape-of j kindVariable inside (eqb-true kind kindVariable second))))
+      let most : byteAt block (at + 2) ≤ 0 =
+      row-inputs kindVariable (byteAt block (at + 1)) (byteAt block (at + 2)) (byteAt block (at + 3))
+      (shape-of j kindVariable inside (eqb-true kind kindVariable second)) refl in
+      length-none (sourceInputs (ruleOf block) j) (omega (arith, source-count-at block j inside)))
       (decided (eqb kind kindEmpty))
 
   rule-bare : (j : ℕ) → sourceOf (ruleOf block) j .kind ≡ kindEmpty → sourceOf (ruleOf block) j .attributes ≡ []
-  unfolding sourceOf wildcard
+  unfolding sourceOf wildcard rowOf kinds
   rule-bare j e =
       ⊎-elim (λ (t : ltb j (sourceCount block) ≡ true).
       let inside : j < sourceCount block = ltb-true j (sourceCount block) t in
       let at : ℕ = vertexAt j in
       length-none (sourceOf (ruleOf block) j .attributes) (source-attributes-at block j inside
-      ∙ empty-attributes (byteAt block (at + 1)) (byteAt block (at + 2)) (byteAt block (at + 3)) (shape-of j kindEmpty inside e)))
+      ∙ row-attributes kindEmpty (byteAt block (at + 1)) (byteAt block (at + 2)) (byteAt block (at + 3)) (shape-of j kindEmpty inside e) refl))
       (λ (t : ltb j (sourceCount block) ≡ false).
       ap (λ (p : Pattern ℕ). p .attributes)
       (List·getD-eq-default (ruleOf block .source) wildcard (rw (length-source block) (ltb-false j (sourceCount block) t))))
@@ -153,9 +143,10 @@ module _ (block : List ℕ) (sound : SoundRule block) where
   }
 
   -- one output or two
-  pub output-counts : (1 ≤ ruleOutputCount block) × (ruleOutputCount block ≤ 2)
+  pub output-counts : (1 ≤ ruleOutputCount block) × (ruleOutputCount block ≤ ruleOutputLimit)
   unfolding ruleHeaderFits ruleSizesFit
   output-counts = (
     leb-true 1 (ruleOutputCount block) (needed (leb 1 (ruleOutputCount block)) (sound .header) (λ f. simp (f, and-false))),
-    leb-true (ruleOutputCount block) 2 (needed (leb (ruleOutputCount block) 2) (sound .header) (λ f. simp (f, and-false))),
+    leb-true (ruleOutputCount block) ruleOutputLimit
+        (needed (leb (ruleOutputCount block) ruleOutputLimit) (sound .header) (λ f. simp (f, and-false))),
   )

@@ -17,18 +17,18 @@ use Rattle.laws.proofs.Lists.{decided, true-not-false}
 use Rattle.laws.proofs.Builds.{getD-none}
 use Rattle.laws.proofs.Graph.{length-slots}
 use Rattle.laws.proofs.Match.{image-inside}
-use Rattle.laws.proofs.Rule.{length-source, length-source-outputs, inputs-lower}
+use Rattle.laws.proofs.Rule.{length-source, length-source-outputs}
 use Rattle.theory.proofs.Choices.{NotAfter}
 use Rattle.theory.proofs.Fixing.{sound-fixing}
 use Rattle.theory.proofs.Least.{outputImages}
 use Rattle.rule_order.specs.InOrder.{InOrder, visitedAfter}
 use Rattle.rule_order.proofs.InOrder.{in-order-first, in-order-rest, in-order-start, in-order-whole}
 use Rattle.matching.specs.Partial.{Partial, Extends, Sends, Step}
-use Rattle.matching.proofs.Candidates.{Formed}
+use Rattle.matching.proofs.Candidates.{Formed, formed}
 use Rattle.matching.proofs.Maps.{partial-same}
 use Rattle.search.specs.Finds.{Finds}
 use Rattle.search.proofs.Least.{least-is, least-none}
-use Rattle.search.proofs.Sound.{rule-readable, rule-plain, output-counts}
+use Rattle.search.proofs.Sound.{rule-readable, rule-matchable, output-counts}
 use Rattle.search.proofs.Whole.{short-images, partial-match}
 
 -- ---- the outputs, by number
@@ -95,9 +95,9 @@ pub record Blank (r : Rule) (images : List ℕ) : Type 0 where
   pub size : length images ≡ sideLimit
   pub rest : (i : ℕ) → length (r .source) ≤ i → imageOf images i ≡ unusedPlace
 
-pub blank-start : (r : Rule) → Blank r (replicate 16 unusedPlace)
+pub blank-start : (r : Rule) → Blank r (replicate sideLimit unusedPlace)
 unfolding imageOf
-blank-start r = record { size = length-replicate 16 unusedPlace; rest = λ i l. getD-none 16 i unusedPlace }
+blank-start r = record { size = length-replicate sideLimit unusedPlace; rest = λ i l. getD-none sideLimit i unusedPlace }
 
 -- it has the images of all vertices up to the first output, which is sent to `first`, and no match that sends it there has others
 pub record Rooted (g : Graph) (r : Rule) (o first : ℕ) (images : List ℕ) : Type 0 where
@@ -189,10 +189,9 @@ module _ (graph rule : List ℕ) (sound : SoundRule rule) where
   least-map start made end p e blank from least =
       let whole : Partial g r (length (r .source)) made = rw e at p in
       let fits : length (r .source) ≤ sideLimit = rw (length-source rule) (rule-readable rule sound .whole .source) in
-      let plain = rule-plain rule sound in
-      let lower = inputs-lower rule (sound .lowerInputs) in
-      let same = short-images g r plain lower made whole (blank .rest) fits in
-      let isMatch = partial-match g r plain lower made whole (blank .rest) fits in
+      let f = formed rule (rule-matchable rule sound) in
+      let same = short-images g r f made whole (blank .rest) fits in
+      let isMatch = partial-match g r f made whole (blank .rest) fits in
       record {
         found = λ b. rw (← length-source rule) (least-is g r (sound-fixing rule sound) start (take (length (r .source)) made)
             (record { isMatch = isMatch; first = rw same from }) (rw same least));

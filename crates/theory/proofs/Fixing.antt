@@ -21,6 +21,7 @@ use Rattle.definitions.specs.Rule.{sourceCount, ruleOutputCount, vertexAt, Patt
 use Rattle.definitions.specs.Match.{imageOf, Match, fromReader, imagesFrom, imagesFor}
 use Rattle.laws.proofs.Lists.{decided, true-not-false, needed, length-none}
 use Rattle.laws.proofs.Rule.{source-reader, length-source, length-source-outputs, source-kind-at, source-count-at, outputs-below, inputs-lower}
+use Rattle.laws.proofs.Operators.{row-inputs}
 use Rattle.laws.proofs.Members.{member-mem, mem-member, position-image, mem-range}
 
 -- What a rule needs so that output images fix a match: inputs are lower, every source vertex is an output or read, a wildcard reads
@@ -163,16 +164,9 @@ traversal-every r = fold-every Used (visit r n) (visit-every r Used (λ w u m. i
     n : ℕ
     n = length (r .source)
 
--- kind 0 has no inputs, by the tables
-no-inputs : (operator n m : ℕ) → shapeFits kindEmpty operator n m ≡ true → n ≡ 0
-unfolding shapeFits rowOf kinds
-no-inputs operator n m h =
-    let most : n ≤ 0 = leb-true n 0 (needed (leb n 0) h (λ f. simp (f, and-false))) in
-    omega arith
-
 module _ (block : List ℕ) (s : SoundRule block) where
   sound-plain : (j : ℕ) → sourceOf (ruleOf block) j .kind ≡ kindEmpty → sourceInputs (ruleOf block) j ≡ []
-  unfolding sourceOf wildcard patternFits
+  unfolding sourceOf wildcard patternFits rowOf kinds
   sound-plain j e =
       ⊎-elim (λ (t : ltb j (sourceCount block) ≡ true).
       let inside : j < sourceCount block = ltb-true j (sourceCount block) t in
@@ -180,8 +174,9 @@ module _ (block : List ℕ) (s : SoundRule block) where
       let shape : Bool = shapeFits (byteAt block at) (byteAt block (at + 1)) (byteAt block (at + 2)) (byteAt block (at + 3)) in
       let fits : shape ≡ true = needed shape (s .patterns j (omega arith)) (λ f. simp f) in
       let kind : byteAt block at ≡ kindEmpty = sym (source-kind-at block j inside) ∙ e in
-      length-none (sourceInputs (ruleOf block) j) (source-count-at block j inside
-      ∙ no-inputs (byteAt block (at + 1)) (byteAt block (at + 2)) (byteAt block (at + 3)) (rw kind at fits)))
+      let most : byteAt block (at + 2) ≤ 0 =
+      row-inputs kindEmpty (byteAt block (at + 1)) (byteAt block (at + 2)) (byteAt block (at + 3)) (rw kind at fits) refl in
+      length-none (sourceInputs (ruleOf block) j) (omega (arith, source-count-at block j inside)))
       (λ (t : ltb j (sourceCount block) ≡ false).
       ap (λ (p : Pattern ℕ). p .inputs)
       (List·getD-eq-default (ruleOf block .source) wildcard (rw (length-source block) (ltb-false j (sourceCount block) t))))
