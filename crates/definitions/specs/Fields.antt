@@ -2,7 +2,7 @@
 -- Assumes nothing.
 use mathlib.Core.Bool.{Bool, cond, _&&_}
 use mathlib.Core.List.{List, [], _∷_}
-use Prim.Native.Nat.{ℕ, _+_, _-_, _*_, _/_, _%_, _^_}
+use Prim.Native.Nat.{ℕ, _+_, _-_, _*_, _/_, _%_, _^_, _<_}
 use lib.Dec.{eqb, ltb}
 use lib.IntN.{ℤ, pos, negsuc}
 use lib.ListN.{getD}
@@ -10,6 +10,10 @@ use Rattle.definitions.specs.Lists.{allBelow}
 
 abbrev pub byteAt : List ℕ → ℕ → ℕ
 byteAt block at = getD block at 0
+
+-- what the C side lends: every element of the list is a byte
+abbrev pub Bytes : List ℕ → Type 0
+Bytes block = (at : ℕ) → byteAt block at < 256
 
 unfoldable pub u16At : List ℕ → ℕ → ℕ
 u16At block at = byteAt block at + 256 * byteAt block (at + 1)

@@ -111,15 +111,18 @@ slotBlock s =
     ++ concatMap u32Bytes (padded attributeLimit 0 (s .attributes))
     ++ slotTail
 
-unfoldable pub graphBlock : Graph → List ℕ
-graphBlock g =
+-- the header for n slots and these outputs
+unfoldable pub headerBlock : ℕ → List ℕ → List ℕ
+headerBlock n outputs =
     (76 ∷ 71 ∷ graphLetter ∷ 0 ∷ [])
     ++ u16Bytes graphVersion
-    ++ u16Bytes (length (g .slots))
-    ++ u16Bytes (length (g .outputs))
-    ++ concatMap u16Bytes (padded outputLimit unusedPlace (g .outputs))
+    ++ u16Bytes n
+    ++ u16Bytes (length outputs)
+    ++ concatMap u16Bytes (padded outputLimit unusedPlace outputs)
     ++ replicate 6 0
-    ++ concatMap slotBlock (g .slots)
+
+unfoldable pub graphBlock : Graph → List ℕ
+graphBlock g = headerBlock (length (g .slots)) (g .outputs) ++ concatMap slotBlock (g .slots)
 
 -- ---- faults, by kind, in document 01's order
 

@@ -1,42 +1,35 @@
 -- What each test that a block passed says of it: the layout, and that inputs name slots.
 -- Assumes nothing.
 use mathlib.Core.Path.{_≡_, ap, _∙_}
-use mathlib.Core.Bool.{true, false, and-false}
+use mathlib.Core.Bool.{true, false}
 use mathlib.Core.List.{List}
 use Prim.Native.Nat.{ℕ, _+_, _<_, _≤_}
 use native.Mathlib.Omega.{arith}
-use borrow.Author.Tests.{leb-true, eqb-true, not-false, lt-ltb, le-ltb}
-use lib.Dec.{eqb, leb}
+use borrow.Author.Tests.{not-false, lt-ltb, le-ltb}
 use lib.ListN.{length, getD}
 use Rattle.definitions.specs.Lists.{lowest, all}
 use Rattle.definitions.specs.Fields.{byteAt}
 use Rattle.definitions.specs.declared.Reply.the-variants.{Done}
 use Rattle.definitions.specs.Operators.{shapeFits}
 use Rattle.definitions.specs.Reply.{badGraph, refused, flag, place, judged}
-use Rattle.definitions.specs.Graph.{slotLimit, outputLimit, unusedPlace, slotCount, outputCount, recordAt, Slot, graphOf, inputsOf, isVertex, outputPlacesFit, headerFits, recordFits, badRecord, badInputs, badOutput, hasCycle, graphFaults, graphReply}
-use Rattle.laws.proofs.Lists.{needed, lowest-passed, all-at}
-use Rattle.laws.proofs.Graph.{vertex-inside, length-slots, slot-of, length-inputs, length-attributes}
+use Rattle.definitions.specs.Graph.{unusedPlace, slotCount, outputCount, recordAt, Slot, graphOf, inputsOf, isVertex, headerFits, recordFits, badRecord, badInputs, badOutput, hasCycle, graphFaults, graphReply}
+use Rattle.laws.proofs.Lists.{lowest-passed, all-at}
+use Rattle.laws.proofs.Graph.{vertex-inside, length-slots, slot-of, length-inputs, length-attributes, header-size, few-slots, few-outputs, record-shape}
 use Rattle.laws.proofs.Operators.{few-inputs, few-attributes}
 use Rattle.graph_fields.specs.Readable.{Whole, Readable, Closed}
 
 module _ (block : List ℕ) where
   pub whole : headerFits block ≡ true → Whole block
-  unfolding headerFits outputPlacesFit
-  whole h = record {
-    size = eqb-true _ _ (needed (eqb (length block) (recordAt (slotCount block))) h (λ f. simp f));
-    slots = leb-true _ _ (needed (leb (slotCount block) slotLimit) h (λ f. simp (f, and-false)));
-    outputs = leb-true _ _ (needed (leb (outputCount block) outputLimit) h (λ f. simp (f, and-false)));
-  }
+  whole h = record { size = header-size block h; slots = few-slots block h; outputs = few-outputs block h }
 
   -- a record without a fault follows the tables
   shaped : slotCount block ≤ lowest (badRecord block) (slotCount block) → (k : ℕ) → k < slotCount block
       → let at = recordAt k in
       shapeFits (byteAt block at) (byteAt block (at + 1)) (byteAt block (at + 2)) (byteAt block (at + 3)) ≡ true
-  unfolding badRecord recordFits
+  unfolding badRecord
   shaped h k l =
-      let good = not-false (recordFits block (recordAt k)) (lowest-passed (badRecord block) (slotCount block) k (omega arith)) in
-      let at = recordAt k in
-      needed (shapeFits (byteAt block at) (byteAt block (at + 1)) (byteAt block (at + 2)) (byteAt block (at + 3))) good (λ f. simp f)
+      record-shape block (recordAt k)
+      (not-false (recordFits block (recordAt k)) (lowest-passed (badRecord block) (slotCount block) k (omega arith)))
 
   -- so it has at most six inputs and six attributes
   pub readable : Whole block → slotCount block ≤ lowest (badRecord block) (slotCount block) → Readable block

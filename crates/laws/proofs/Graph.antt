@@ -1,17 +1,19 @@
 -- Slots of a graph, and the graph of a block, field by field: one law for each field, over the index.
 -- Assumes nothing.
 use mathlib.Core.Path.{_≡_, ap, subst}
-use mathlib.Core.Bool.{true, false}
+use mathlib.Core.Bool.{true, false, and-false}
 use mathlib.Core.List.{List, [], List·Memᴰ, List·Memᴰ·not-nil}
 use mathlib.Core.Logic.{⊎-elim}
 use Prim.Native.Nat.{ℕ, _+_, _*_, _<_, _≤_}
-use borrow.Author.Tests.{leb-true, leb-false}
-use lib.Dec.{leb}
+use borrow.Author.Tests.{eqb-true, leb-true, leb-false}
+use lib.Dec.{eqb, leb}
 use lib.ListN.{length, getD, List·getD-eq-default}
+use Rattle.definitions.specs.Lists.{within}
 use Rattle.definitions.specs.Fields.{byteAt, u16At, u32At}
+use Rattle.definitions.specs.Operators.{shapeFits}
 use Rattle.definitions.specs.Paths.{Reads}
-use Rattle.definitions.specs.Graph.{slotCount, outputCount, recordAt, Slot, Graph, emptySlot, slotFrom, graphOf, slotOf, inputsOf, isVertex}
-use Rattle.laws.proofs.Lists.{decided, true-not-false, length-tabulate, getD-tabulate}
+use Rattle.definitions.specs.Graph.{slotLimit, outputLimit, slotCount, outputCount, recordAt, Slot, Graph, emptySlot, slotFrom, graphOf, slotOf, inputsOf, isVertex, outputPlacesFit, headerFits, recordFits}
+use Rattle.laws.proofs.Lists.{decided, true-not-false, and-right, needed, length-tabulate, getD-tabulate}
 
 -- ---- any graph: past the last slot there is nothing
 
@@ -76,3 +78,35 @@ module _ (block : List ℕ) where
       → getD (slotFrom block at .attributes) i d ≡ u32At block (at + 16 + 4 * i)
   unfolding slotFrom
   attribute-of at i d h = getD-tabulate (byteAt block (at + 3)) (λ j. u32At block (at + 16 + 4 * j)) i d h
+
+  -- ---- what a header that fits says, and a record that follows its kind
+
+  module _ (fits : headerFits block ≡ true) where
+    pub header-size : length block ≡ recordAt (slotCount block)
+    unfolding headerFits
+    header-size =
+        eqb-true (length block) (recordAt (slotCount block))
+        (needed (eqb (length block) (recordAt (slotCount block))) fits (λ f. simp f))
+
+    pub slots-within : within 1 (slotCount block) slotLimit ≡ true
+    unfolding headerFits
+    slots-within = needed (within 1 (slotCount block) slotLimit) fits (λ f. simp (f, and-false))
+
+    pub few-slots : slotCount block ≤ slotLimit
+    few-slots =
+        leb-true (slotCount block) slotLimit (and-right (leb 1 (slotCount block)) (leb (slotCount block) slotLimit) slots-within)
+
+    pub outputs-within : within 1 (outputCount block) outputLimit ≡ true
+    unfolding headerFits outputPlacesFit
+    outputs-within = needed (within 1 (outputCount block) outputLimit) fits (λ f. simp (f, and-false))
+
+    pub few-outputs : outputCount block ≤ outputLimit
+    few-outputs =
+        leb-true (outputCount block) outputLimit
+        (and-right (leb 1 (outputCount block)) (leb (outputCount block) outputLimit) outputs-within)
+
+  pub record-shape : (at : ℕ) → recordFits block at ≡ true
+      → shapeFits (byteAt block at) (byteAt block (at + 1)) (byteAt block (at + 2)) (byteAt block (at + 3)) ≡ true
+  unfolding recordFits
+  record-shape at fits =
+      needed (shapeFits (byteAt block at) (byteAt block (at + 1)) (byteAt block (at + 2)) (byteAt block (at + 3))) fits (λ f. simp f)

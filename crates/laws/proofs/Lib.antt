@@ -9,3 +9,9 @@ pub mod Ranges
 pub mod Reply
 pub mod Members
 pub mod Match
+pub mod Filtered
+pub mod Pieces
+pub mod Filling
+pub mod Results
+pub mod Rewriting
+pub mod Parts

@@ -1,9 +1,10 @@
 -- Laws about the words of `Lists`: what a loop over an index, or a reader of a decoded list, needs to know.
 -- Assumes nothing.
 use mathlib.Core.Path.{_≡_, refl, sym, ap, ap₂, _∙_}
-use mathlib.Core.Bool.{Bool, true, false, _&&_, _||_, and-false, or-true, or-false, false≢true}
+use mathlib.Core.Bool.{Bool, true, false, cond, _&&_, _||_, and-false, or-true, or-false, false≢true}
 use mathlib.Core.List.{List, [], _∷_, map, List·Memᴰ, List·Memᴰ·head, List·Memᴰ·tail}
 use mathlib.Core.Logic.{_⊎_, inl, inr, ⊎-elim}
+use mathlib.Core.Option.{Option, none, some}
 use Prim.Native.Nat.{ℕ, zero, suc, _+_, _<_, _≤_}
 use native.Mathlib.Nat.{not-suc-le-zero, le-of-suc-le-suc}
 use native.Mathlib.Numerals.{add-one}
@@ -20,6 +21,20 @@ decided false = inr refl
 
 pub true-not-false : {b : Bool} → b ≡ true → b ≡ false → ⊥
 true-not-false {b} t f = false≢true (sym f ∙ t)
+
+-- a test that cannot hold fails
+pub fails : {b : Bool} → (b ≡ true → ⊥) → b ≡ false
+fails {b} h = ⊎-elim (λ (t : b ≡ true). absurd (h t)) (λ (t : b ≡ false). t) (decided b)
+
+-- an option is none, or it is some value
+pub option-either : {A : Type 0} (o : Option A) → (o ≡ none) ⊎ ((a : A) × (o ≡ some a))
+option-either none = inl refl
+option-either (some a) = inr (a, refl)
+
+-- a test counts for one at most
+pub bit : (b : Bool) → cond b 1 0 ≤ 1
+bit true = omega arith
+bit false = omega arith
 
 -- ---- a conjunction holds where both parts do
 
@@ -57,11 +72,7 @@ module _ (p : ℕ → Bool) where
       (decided (ltb k n))
 
   pub allBelow-at : (n k : ℕ) → allBelow p n ≡ true → k < n → p k ≡ true
-  allBelow-at n k h l = at (decided (p k))
-    where
-      at : (p k ≡ true) ⊎ (p k ≡ false) → p k ≡ true
-      at (inl t) = t
-      at (inr f) = absurd (true-not-false h (allBelow-fails n k l f))
+  allBelow-at n k h l = needed (p k) h (allBelow-fails n k l)
 
   pub allBelow-every : (n : ℕ) → ((k : ℕ) → k < n → p k ≡ true) → allBelow p n ≡ true
   unfolding allBelow
@@ -162,10 +173,7 @@ module _ {ℓ} {A : Type ℓ} (p : A → Bool) (d : A) where
   all-fails (x ∷ xs) (suc i) l f = simp (all-fails xs i (le-of-suc-le-suc l) f, and-false)
 
   pub all-at : (xs : List A) (i : ℕ) → all p xs ≡ true → i < length xs → p (getD xs i d) ≡ true
-  all-at xs i h l =
-      ⊎-elim (λ (t : p (getD xs i d) ≡ true). t)
-      (λ (f : p (getD xs i d) ≡ false). absurd (true-not-false h (all-fails xs i l f)))
-      (decided (p (getD xs i d)))
+  all-at xs i h l = needed (p (getD xs i d)) h (all-fails xs i l)
 
 -- ---- all, by member
 
@@ -192,6 +200,17 @@ anyBelow-some p (suc n) h =
     (found .0, omega (arith, found .1), found .2))
     (decided (p n))
 
+-- and one of which it fails, where it does not hold of all
+pub allBelow-some : (p : ℕ → Bool) (n : ℕ) → (allBelow p n ≡ true → ⊥) → (k : ℕ) × (k < n) × (p k ≡ false)
+unfolding allBelow
+allBelow-some p zero h = absurd (h refl)
+allBelow-some p (suc n) h =
+    ⊎-elim (λ (t : p n ≡ true).
+    let found = allBelow-some p n (λ e. h (simp (e, t))) in
+    (found .0, omega (arith, found .1), found .2))
+    (λ (t : p n ≡ false). (n, omega arith, t))
+    (decided (p n))
+
 -- ---- elements
 
 -- what stands for an element past the end does not matter within
@@ -210,6 +229,7 @@ map-at f (x ∷ xs) zero d e l = refl
 map-at f (x ∷ xs) (suc i) d e l = map-at f xs i d e (le-of-suc-le-suc l)
 
 -- functions that agree on the elements
-pub map-same : (f h : ℕ → ℕ) (xs : List ℕ) → ((x : ℕ) → List·Memᴰ x xs → f x ≡ h x) → map f xs ≡ map h xs
+pub map-same {ℓ κ} : {A : Type ℓ} {B : Type κ} (f h : A → B) (xs : List A)
+    → ((x : A) → List·Memᴰ x xs → f x ≡ h x) → map f xs ≡ map h xs
 map-same f h [] e = refl
 map-same f h (x ∷ xs) e = ap₂ _∷_ (e x (List·Memᴰ·head refl)) (map-same f h xs (λ y m. e y (List·Memᴰ·tail m)))

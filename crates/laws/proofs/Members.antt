@@ -1,6 +1,6 @@
 -- Members of lists of numbers: the test and the meaning, places of members, and members of lists that are made from others.
 -- Assumes nothing.
-use mathlib.Core.Path.{_≡_, refl, sym, ap, subst}
+use mathlib.Core.Path.{_≡_, refl, sym, ap, _∙_, subst}
 use mathlib.Core.Bool.{Bool, true, false, not, or-true, false≢true}
 use mathlib.Core.List.{List, [], _∷_, map, List·Memᴰ, List·Memᴰ·head, List·Memᴰ·tail, List·Memᴰ·not-nil, Memᴰ·append-left, Memᴰ·append-right, List·Memᴰ·append-cases}
 use mathlib.Core.Logic.{⊎-elim}
@@ -11,7 +11,7 @@ use borrow.Author.Tests.{eqb-true, eq-eqb, not-true}
 use lib.Dec.{eqb, T}
 use lib.ListN.{length, getD}
 use Rattle.definitions.specs.Lists.{tabulate, member, position, distinct, concatMap, range}
-use Rattle.laws.proofs.Lists.{decided, true-not-false, and-left, and-right}
+use Rattle.laws.proofs.Lists.{decided, true-not-false, fails, map-at, and-left, and-right}
 
 -- ---- a test that holds, in its two spellings
 
@@ -39,8 +39,7 @@ mem-member {x} (List·Memᴰ·head {x = y} e) = simp (eq-eqb x y e)
 mem-member {x} (List·Memᴰ·tail {x = y} m) = simp (mem-member m, or-true)
 
 pub no-member : (x : ℕ) (xs : List ℕ) → (List·Memᴰ x xs → ⊥) → member x xs ≡ false
-no-member x xs h = ⊎-elim (λ (t : member x xs ≡ true). absurd (h (member-mem x xs t)))
-    (λ (t : member x xs ≡ false). t) (decided (member x xs))
+no-member x xs h = fails (λ t. h (member-mem x xs t))
 
 -- ---- places of members
 
@@ -52,15 +51,6 @@ mem-at (x ∷ xs) (suc i) d l = List·Memᴰ·tail (mem-at xs i d (le-of-suc-le-
 pub mem-place {ℓ} : {A : Type ℓ} {x : A} {xs : List A} (d : A) → List·Memᴰ x xs → (i : ℕ) × (i < length xs) × (getD xs i d ≡ x)
 mem-place d (List·Memᴰ·head e) = (0, omega arith, sym e)
 mem-place d (List·Memᴰ·tail m) = let p = mem-place d m in (suc (p .0), omega (arith, p .1), p .2)
-
--- in the list of the values, the place of the first x holds the value of x
-pub position-image : (f : ℕ → ℕ) (d x : ℕ) (xs : List ℕ) → member x xs ≡ true → getD (map f xs) (position x xs) d ≡ f x
-unfolding member position
-position-image f d x [] h = absurd (false≢true h)
-position-image f d x (y ∷ ys) h =
-    ⊎-elim (λ (t : eqb x y ≡ true). rw t (ap f (sym (eqb-true x y t))))
-    (λ (t : eqb x y ≡ false). rw t (position-image f d x ys (simp t at h)))
-    (decided (eqb x y))
 
 -- the first x is an x, and it is no later than another one
 pub position-at : (x : ℕ) (xs : List ℕ) (d : ℕ) → member x xs ≡ true → getD xs (position x xs) d ≡ x
@@ -79,6 +69,17 @@ position-least (x ∷ xs) (suc i) d l =
     ⊎-elim (λ (t : eqb (getD xs i d) x ≡ true). rw t (omega arith))
     (λ (t : eqb (getD xs i d) x ≡ false). rw t (omega (arith, position-least xs i d (le-of-suc-le-suc l))))
     (decided (eqb (getD xs i d) x))
+
+-- so it stands before the list's end
+pub position-inside : (x : ℕ) (xs : List ℕ) → member x xs ≡ true → position x xs < length xs
+position-inside x xs h =
+    let found = mem-place 0 (member-mem x xs h) in
+    let least : position x xs ≤ found .0 = rw (found .2) at (position-least xs (found .0) 0 (found .1)) in
+    omega (arith, found .1)
+
+-- in the list of the values, its place holds the value of x
+pub position-image : (f : ℕ → ℕ) (d x : ℕ) (xs : List ℕ) → member x xs ≡ true → getD (map f xs) (position x xs) d ≡ f x
+position-image f d x xs h = map-at f xs (position x xs) d d (position-inside x xs h) ∙ ap f (position-at x xs d h)
 
 -- ---- distinct: two places hold the same only where they are the same place
 

@@ -3,7 +3,6 @@
 use mathlib.Core.Path.{_≡_, refl, ap, _∙_}
 use mathlib.Core.Bool.{true, false, false≢true}
 use mathlib.Core.List.{List, [], _∷_, _++_}
-use mathlib.Core.Logic.{⊎-elim}
 use Prim.Native.Nat.{ℕ, zero, suc, _+_, _-_, _<_}
 use native.Mathlib.Nat.{sub-zero, zero-add}
 use native.Mathlib.Omega.{arith}
@@ -11,7 +10,7 @@ use borrow.Author.Tests.{eq-eqb, eqb-true}
 use lib.Dec.{eqb}
 use lib.ListN.{length, getD}
 use Rattle.definitions.specs.Lists.{tabulate, allPairs, range}
-use Rattle.laws.proofs.Lists.{decided, and-left, and-right, length-tabulate, getD-tabulate}
+use Rattle.laws.proofs.Lists.{fails, and-left, and-right, length-tabulate, getD-tabulate}
 
 pub length-range : (n : ℕ) → length (range 0 n) ≡ n
 unfolding range
@@ -21,10 +20,10 @@ pub range-at : (n i d : ℕ) → i < n → getD (range 0 n) i d ≡ i
 unfolding range
 range-at n i d h = getD-tabulate (n - 0) (λ k. 0 + k) i d (omega arith) ∙ zero-add i
 
-pub tabulate-more : (n : ℕ) (f : ℕ → ℕ) → tabulate (suc n) f ≡ tabulate n f ++ f n ∷ []
+pub tabulate-more {ℓ} : {A : Type ℓ} (n : ℕ) (f : ℕ → A) → tabulate (suc n) f ≡ tabulate n f ++ f n ∷ []
 unfolding tabulate
 tabulate-more zero f = refl
-tabulate-more (suc n) f = ap (λ (l : List ℕ). f zero ∷ l) (tabulate-more n (λ k. f (suc k)))
+tabulate-more (suc n) f = ap (λ l. f zero ∷ l) (tabulate-more n (λ k. f (suc k)))
 
 pub range-more : (n : ℕ) → range 0 (suc n) ≡ range 0 n ++ n ∷ []
 unfolding range
@@ -48,5 +47,4 @@ same-self [] = refl
 same-self (x ∷ xs) = simp (eq-eqb x x refl, same-self xs)
 
 pub other-lists : (xs ys : List ℕ) → (xs ≡ ys → ⊥) → allPairs eqb xs ys ≡ false
-other-lists xs ys h = ⊎-elim (λ (t : allPairs eqb xs ys ≡ true). absurd (h (same-lists xs ys t)))
-    (λ (t : allPairs eqb xs ys ≡ false). t) (decided (allPairs eqb xs ys))
+other-lists xs ys h = fails (λ t. h (same-lists xs ys t))

@@ -4,15 +4,16 @@ use mathlib.Core.Path.{_≡_, ap, subst, _∙_}
 use mathlib.Core.Bool.{Bool, true, false, and-false}
 use mathlib.Core.List.{List, [], List·Memᴰ, List·Memᴰ·not-nil}
 use mathlib.Core.Logic.{⊎-elim}
-use Prim.Native.Nat.{ℕ, _+_, _<_}
+use Prim.Native.Nat.{ℕ, _+_, _<_, _≤_}
 use borrow.Author.Tests.{leb-true, leb-false, ltb-true}
 use lib.Dec.{leb, ltb}
 use lib.ListN.{length, getD, List·getD-eq-default}
 use Rattle.definitions.specs.Lists.{allBelow}
 use Rattle.definitions.specs.Paths.{Reads}
 use Rattle.definitions.specs.Fields.{byteAt}
-use Rattle.definitions.specs.Rule.{sourceCount, targetCount, ruleOutputCount, vertexAt, Expression, Origin, Pattern, Rule, originOf, expressionOf, patternFrom, ruleOf, wildcard, sourceOf, targetOf, sourceInputs, ruleOutputPlacesFit, ruleHeaderFits, sourceInputsFit}
-use Rattle.laws.proofs.Lists.{decided, needed, length-tabulate, getD-tabulate, all-every, all-member, allBelow-at}
+use Rattle.definitions.specs.Operators.{shapeFits}
+use Rattle.definitions.specs.Rule.{sideLimit, ruleOutputLimit, sourceCount, targetCount, ruleOutputCount, nodeCount, vertexAt, Expression, Origin, Pattern, Rule, originOf, expressionOf, patternFrom, ruleOf, wildcard, sourceOf, targetOf, sourceInputs, inputKind, isRuleInput, ruleSizesFit, ruleOutputPlacesFit, ruleHeaderFits, patternFits, sourceInputsFit, useFits}
+use Rattle.laws.proofs.Lists.{decided, and-left, needed, length-tabulate, getD-tabulate, all-every, all-member, allBelow-at}
 
 -- past the last source vertex nothing is read
 pub source-reader : (r : Rule) (j u : ℕ) → Reads (sourceInputs r) j u → j < length (r .source)
@@ -24,6 +25,11 @@ source-reader r j u m =
     absurd (List·Memᴰ·not-nil (subst (List·Memᴰ u) none m)))
     (λ (t : leb (length (r .source)) j ≡ false). leb-false (length (r .source)) j t)
     (decided (leb (length (r .source)) j))
+
+-- a rule input is a source vertex
+pub input-inside : (r : Rule) (j : ℕ) → isRuleInput r j ≡ true → j < length (r .source)
+unfolding isRuleInput
+input-inside r j h = ltb-true j (length (r .source)) (and-left (ltb j (length (r .source))) (inputKind (sourceOf r j .kind)) h)
 
 module _ (block : List ℕ) where
   pub length-source : length (ruleOf block .source) ≡ sourceCount block
@@ -126,6 +132,60 @@ module _ (block : List ℕ) where
   target-input-at t i d h l =
       ap (λ (p : Pattern Origin). getD (p .inputs) i d) (target-of t h)
       ∙ pattern-input-of originOf (vertexAt (sourceCount block + t)) i d (rw (target-count-at t h) at l)
+
+  pub target-operator-at : (t : ℕ) → t < targetCount block
+      → targetOf (ruleOf block) t .operator ≡ byteAt block (vertexAt (sourceCount block + t) + 1)
+  unfolding patternFrom
+  target-operator-at t h = ap (λ (p : Pattern Origin). p .operator) (target-of t h)
+
+  pub target-attributes-at : (t : ℕ) → t < targetCount block
+      → length (targetOf (ruleOf block) t .attributes) ≡ byteAt block (vertexAt (sourceCount block + t) + 3)
+  target-attributes-at t h =
+      ap (λ (p : Pattern Origin). length (p .attributes)) (target-of t h)
+      ∙ length-pattern-attributes originOf (vertexAt (sourceCount block + t))
+
+  pub target-attribute-at : (t i : ℕ) (d : Expression) → t < targetCount block → i < length (targetOf (ruleOf block) t .attributes)
+      → getD (targetOf (ruleOf block) t .attributes) i d
+      ≡ expressionOf block (byteAt block (vertexAt (sourceCount block + t) + 10 + i))
+  target-attribute-at t i d h l =
+      ap (λ (p : Pattern Origin). getD (p .attributes) i d) (target-of t h)
+      ∙ pattern-attribute-of originOf (vertexAt (sourceCount block + t)) i d (rw (target-attributes-at t h) at l)
+
+  -- ---- what a header that fits says, and a record that follows its kind
+
+  module _ (fits : ruleHeaderFits block ≡ true) where
+    pub few-sources : sourceCount block ≤ sideLimit
+    unfolding ruleHeaderFits ruleSizesFit
+    few-sources =
+        leb-true (sourceCount block) sideLimit (needed (leb (sourceCount block) sideLimit) fits (λ f. simp (f, and-false)))
+
+    pub few-targets : targetCount block ≤ sideLimit
+    unfolding ruleHeaderFits ruleSizesFit
+    few-targets =
+        leb-true (targetCount block) sideLimit (needed (leb (targetCount block) sideLimit) fits (λ f. simp (f, and-false)))
+
+    -- one output or two
+    pub some-rule-outputs : 1 ≤ ruleOutputCount block
+    unfolding ruleHeaderFits ruleSizesFit
+    some-rule-outputs =
+        leb-true 1 (ruleOutputCount block) (needed (leb 1 (ruleOutputCount block)) fits (λ f. simp (f, and-false)))
+
+    pub few-rule-outputs : ruleOutputCount block ≤ ruleOutputLimit
+    unfolding ruleHeaderFits ruleSizesFit
+    few-rule-outputs =
+        leb-true (ruleOutputCount block) ruleOutputLimit
+        (needed (leb (ruleOutputCount block) ruleOutputLimit) fits (λ f. simp (f, and-false)))
+
+  pub pattern-shape : (at : ℕ) → patternFits block at ≡ true
+      → shapeFits (byteAt block at) (byteAt block (at + 1)) (byteAt block (at + 2)) (byteAt block (at + 3)) ≡ true
+  unfolding patternFits
+  pattern-shape at fits =
+      needed (shapeFits (byteAt block at) (byteAt block (at + 1)) (byteAt block (at + 2)) (byteAt block (at + 3))) fits (λ f. simp f)
+
+  -- the node of an attribute that fits its vertex is one of the block's
+  pub use-inside : (v k : ℕ) → useFits block v k ≡ true → k < nodeCount block
+  unfolding useFits
+  use-inside v k fits = ltb-true k (nodeCount block) (needed (ltb k (nodeCount block)) fits (λ f. simp f))
 
   -- ---- what a good header and good input places say of the rule
 

@@ -12,9 +12,9 @@ use Rattle.definitions.specs.declared.Reply.the-variants.{Done}
 use Rattle.definitions.specs.Lists.{lowest, all, allBelow}
 use Rattle.definitions.specs.Fields.{byteAt}
 use Rattle.definitions.specs.Reply.{badRule, refused, flag, place, judged}
-use Rattle.definitions.specs.Rule.{sideLimit, ruleOutputLimit, nodeLimit, sourceCount, targetCount, ruleOutputCount, nodeCount, vertexAt, nodeAt, ruleOf, sourceInputs, ruleSizesFit, ruleOutputPlacesFit, ruleHeaderFits, patternFits, sourceInputsFit, targetInputsFit, badVertex, inVisitingOrder, outputsFit, badNode, badUse, ruleFaults, ruleReply}
+use Rattle.definitions.specs.Rule.{nodeLimit, sourceCount, targetCount, ruleOutputCount, nodeCount, vertexAt, nodeAt, ruleOf, sourceInputs, ruleSizesFit, ruleOutputPlacesFit, ruleHeaderFits, patternFits, sourceInputsFit, targetInputsFit, badVertex, inVisitingOrder, outputsFit, badNode, badUse, ruleFaults, ruleReply}
 use Rattle.laws.proofs.Lists.{needed, lowest-passed, all-at, allBelow-at}
-use Rattle.laws.proofs.Rule.{source-output-of}
+use Rattle.laws.proofs.Rule.{source-output-of, few-sources, few-targets, few-rule-outputs}
 use Rattle.rule_records.proofs.Laws.{pattern-inputs, pattern-attributes}
 use Rattle.rule_fields.specs.Readable.{Whole, Readable, Layered}
 
@@ -23,9 +23,9 @@ module _ (block : List ℕ) where
   unfolding ruleHeaderFits ruleSizesFit
   whole h = record {
     size = eqb-true _ _ (needed (eqb (length block) (nodeAt block (nodeCount block))) h (λ f. simp f));
-    source = leb-true _ _ (needed (leb (sourceCount block) sideLimit) h (λ f. simp (f, and-false)));
-    target = leb-true _ _ (needed (leb (targetCount block) sideLimit) h (λ f. simp (f, and-false)));
-    outputs = leb-true _ _ (needed (leb (ruleOutputCount block) ruleOutputLimit) h (λ f. simp (f, and-false)));
+    source = few-sources block h;
+    target = few-targets block h;
+    outputs = few-rule-outputs block h;
     nodes = leb-true _ _ (needed (leb (nodeCount block) nodeLimit) h (λ f. simp (f, and-false)));
   }
 

@@ -6,20 +6,16 @@ use mathlib.Core.List.{List}
 use Prim.Native.Nat.{ℕ, _+_, _≤_}
 use Rattle.definitions.specs.Fields.{byteAt}
 use Rattle.definitions.specs.Graph.{inputLimit, attributeLimit}
-use Rattle.definitions.specs.Operators.{shapeFits}
 use Rattle.definitions.specs.Rule.{patternFits}
-use Rattle.laws.proofs.Lists.{needed}
+use Rattle.laws.proofs.Rule.{pattern-shape}
 use Rattle.laws.proofs.Operators.{few-inputs, few-attributes}
 
 module _ (block : List ℕ) (at : ℕ) (fits : patternFits block at ≡ true) where
-  shape : shapeFits (byteAt block at) (byteAt block (at + 1)) (byteAt block (at + 2)) (byteAt block (at + 3)) ≡ true
-  unfolding patternFits
-  shape =
-      needed (shapeFits (byteAt block at) (byteAt block (at + 1)) (byteAt block (at + 2)) (byteAt block (at + 3))) fits
-      (λ f. simp f)
-
   pub pattern-inputs : byteAt block (at + 2) ≤ inputLimit
-  pattern-inputs = few-inputs (byteAt block at) (byteAt block (at + 1)) (byteAt block (at + 2)) (byteAt block (at + 3)) shape
+  pattern-inputs =
+      few-inputs (byteAt block at) (byteAt block (at + 1)) (byteAt block (at + 2)) (byteAt block (at + 3)) (pattern-shape block at fits)
 
   pub pattern-attributes : byteAt block (at + 3) ≤ attributeLimit
-  pattern-attributes = few-attributes (byteAt block at) (byteAt block (at + 1)) (byteAt block (at + 2)) (byteAt block (at + 3)) shape
+  pattern-attributes =
+      few-attributes (byteAt block at) (byteAt block (at + 1)) (byteAt block (at + 2)) (byteAt block (at + 3))
+      (pattern-shape block at fits)

@@ -7,18 +7,18 @@ use mathlib.Core.List.{List, []}
 use mathlib.Core.Logic.{⊎-elim}
 use Prim.Native.Nat.{ℕ, _+_, _<_, _≤_}
 use native.Mathlib.Omega.{arith}
-use borrow.Author.Tests.{leb-true, ltb-true, ltb-false, eqb-true, lt-ltb}
-use lib.Dec.{eqb, leb, ltb}
+use borrow.Author.Tests.{ltb-true, ltb-false, eqb-true, lt-ltb}
+use lib.Dec.{eqb, ltb}
 use lib.ListN.{length, getD, List·getD-eq-default}
 use Rattle.definitions.specs.Fields.{byteAt}
 use Rattle.definitions.specs.Operators.{kindEmpty, kindVariable, kinds, rowOf, shapeFits}
 use Rattle.definitions.specs.Graph.{unusedPlace, slotCount, graphOf, inputsOf, isVertex, badRecord, badInputs, SoundGraph}
-use Rattle.definitions.specs.Rule.{ruleOutputLimit, sourceCount, ruleOutputCount, nodeCount, vertexAt, anything, Pattern, ruleOf, expressionOf, wildcard, sourceOf, sourceInputs, inputKind, isRuleInput, ruleSizesFit, ruleHeaderFits, patternFits, accessesBelow, useFits, SoundRule}
+use Rattle.definitions.specs.Rule.{ruleOutputLimit, sourceCount, ruleOutputCount, vertexAt, anything, Pattern, ruleOf, expressionOf, wildcard, sourceOf, sourceInputs, inputKind, isRuleInput, accessesBelow, useFits, SoundRule}
 use Rattle.laws.proofs.Lists.{decided, needed, lowest-whole, all-members, length-none}
 use Rattle.laws.proofs.Operators.{row-inputs, row-attributes}
 use Rattle.laws.proofs.Members.{mem-at}
 use Rattle.laws.proofs.Graph.{vertex-inside, length-slots, length-outputs}
-use Rattle.laws.proofs.Rule.{length-source, length-source-outputs, source-kind-at, source-count-at, source-attributes-at, source-attribute-at, outputs-below, inputs-lower}
+use Rattle.laws.proofs.Rule.{input-inside, length-source, length-source-outputs, source-kind-at, source-count-at, source-attributes-at, source-attribute-at, some-rule-outputs, few-rule-outputs, pattern-shape, use-inside, outputs-below, inputs-lower}
 use Rattle.theory.proofs.Fixing.{sound-fixing}
 use Rattle.graph_fields.specs.Readable as table
 use Rattle.rule_fields.specs.Readable as pattern
@@ -73,33 +73,24 @@ module _ (block : List ℕ) (sound : SoundRule block) where
   }
 
   evaluable : Evaluable block
-  unfolding useFits
   evaluable = record {
     nodes = sound .nodes;
-    uses = λ v i l m. ltb-true (byteAt block (vertexAt v + 10 + i)) (nodeCount block)
-        (needed (ltb (byteAt block (vertexAt v + 10 + i)) (nodeCount block)) (sound .uses v i l m) (λ f. simp f));
+    uses = λ v i l m. use-inside block v (byteAt block (vertexAt v + 10 + i)) (sound .uses v i l m);
   }
-
-  shape : (j : ℕ) → j < sourceCount block → let at = vertexAt j in
-      shapeFits (byteAt block at) (byteAt block (at + 1)) (byteAt block (at + 2)) (byteAt block (at + 3)) ≡ true
-  unfolding patternFits
-  shape j l =
-      let at = vertexAt j in
-      needed (shapeFits (byteAt block at) (byteAt block (at + 1)) (byteAt block (at + 2)) (byteAt block (at + 3)))
-      (sound .patterns j (omega arith)) (λ f. simp f)
 
   -- a source vertex has a given kind in its record where it has it in the rule
   shape-of : (j kind : ℕ) → j < sourceCount block → sourceOf (ruleOf block) j .kind ≡ kind → let at = vertexAt j in
       shapeFits kind (byteAt block (at + 1)) (byteAt block (at + 2)) (byteAt block (at + 3)) ≡ true
-  shape-of j kind l e = let same : byteAt block (vertexAt j) ≡ kind = sym (source-kind-at block j l) ∙ e in rw same at (shape j l)
+  shape-of j kind l e =
+      let same : byteAt block (vertexAt j) ≡ kind = sym (source-kind-at block j l) ∙ e in
+      rw same at (pattern-shape block (vertexAt j) (sound .patterns j (omega arith)))
 
   pub rule-plain : (j : ℕ) → isRuleInput (ruleOf block) j ≡ true → sourceInputs (ruleOf block) j ≡ []
   unfolding isRuleInput inputKind rowOf kinds
   rule-plain j h =
       let kind : ℕ = sourceOf (ruleOf block) j .kind in
       let at : ℕ = vertexAt j in
-      let low = ltb-true j (length (ruleOf block .source)) (needed (ltb j (length (ruleOf block .source))) h (λ f. simp f)) in
-      let inside : j < sourceCount block = rw (length-source block) at low in
+      let inside : j < sourceCount block = rw (length-source block) at (input-inside (ruleOf block) j h) in
       ⊎-elim (λ (t : eqb kind kindEmpty ≡ true).
       sound-fixing block sound .plain j (eqb-true kind kindEmpty t))
       (λ (t : eqb kind kindEmpty ≡ false).
@@ -144,9 +135,4 @@ module _ (block : List ℕ) (sound : SoundRule block) where
 
   -- one output or two
   pub output-counts : (1 ≤ ruleOutputCount block) × (ruleOutputCount block ≤ ruleOutputLimit)
-  unfolding ruleHeaderFits ruleSizesFit
-  output-counts = (
-    leb-true 1 (ruleOutputCount block) (needed (leb 1 (ruleOutputCount block)) (sound .header) (λ f. simp (f, and-false))),
-    leb-true (ruleOutputCount block) ruleOutputLimit
-        (needed (leb (ruleOutputCount block) ruleOutputLimit) (sound .header) (λ f. simp (f, and-false))),
-  )
+  output-counts = (some-rule-outputs block (sound .header), few-rule-outputs block (sound .header))

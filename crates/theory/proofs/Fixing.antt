@@ -2,25 +2,25 @@
 -- another vertex is read by a later one, whose image reads its image in the same place.
 -- Assumes nothing.
 use mathlib.Core.Path.{_≡_, refl, sym, ap, _∙_, subst}
-use mathlib.Core.Bool.{Bool, true, false, cond, and-false}
+use mathlib.Core.Bool.{true, false, cond}
 use mathlib.Core.List.{List, [], _∷_, _++_, map, List·Memᴰ, List·Memᴰ·head, List·Memᴰ·tail, List·Memᴰ·not-nil, List·Memᴰ·append-cases, List·Memᴰ·eq-of-singleton}
 use mathlib.Core.Logic.{_⊎_, inl, inr, ⊎-elim}
 use Prim.Native.Nat.{ℕ, zero, suc, _+_, _-_, _<_, _≤_}
 use native.Mathlib.Nat.{not-suc-le-zero}
 use native.Mathlib.Omega.{arith}
-use borrow.Author.Tests.{leb-true, ltb-true, ltb-false}
-use lib.Dec.{ltb, leb}
+use borrow.Author.Tests.{ltb-true, ltb-false}
+use lib.Dec.{ltb}
 use lib.ListN.{length, getD, drop, length-drop, drop-of-length-le, List·getD-eq-default}
 use lib.Seq.{drop-cons, getD-drop}
 use Rattle.definitions.specs.Lists.{foldl, member, position}
 use Rattle.definitions.specs.Fields.{byteAt}
-use Rattle.definitions.specs.Operators.{kindEmpty, kinds, rowOf, shapeFits}
+use Rattle.definitions.specs.Operators.{kindEmpty, kinds, rowOf}
 use Rattle.definitions.specs.Graph.{unusedPlace, Graph, inputsOf}
 use Rattle.definitions.specs.Paths.{Reads}
-use Rattle.definitions.specs.Rule.{sourceCount, ruleOutputCount, vertexAt, Pattern, Rule, ruleOf, wildcard, sourceOf, sourceInputs, ruleSizesFit, ruleHeaderFits, patternFits, visit, traversal, SoundRule}
+use Rattle.definitions.specs.Rule.{sourceCount, vertexAt, Pattern, Rule, ruleOf, wildcard, sourceOf, sourceInputs, visit, traversal, SoundRule}
 use Rattle.definitions.specs.Match.{imageOf, Match, fromReader, imagesFrom, imagesFor}
-use Rattle.laws.proofs.Lists.{decided, true-not-false, needed, length-none}
-use Rattle.laws.proofs.Rule.{source-reader, length-source, length-source-outputs, source-kind-at, source-count-at, outputs-below, inputs-lower}
+use Rattle.laws.proofs.Lists.{decided, true-not-false, length-none}
+use Rattle.laws.proofs.Rule.{source-reader, length-source, length-source-outputs, source-kind-at, source-count-at, some-rule-outputs, pattern-shape, outputs-below, inputs-lower}
 use Rattle.laws.proofs.Operators.{row-inputs}
 use Rattle.laws.proofs.Members.{member-mem, mem-member, position-image, mem-range}
 
@@ -166,13 +166,12 @@ traversal-every r = fold-every Used (visit r n) (visit-every r Used (λ w u m. i
 
 module _ (block : List ℕ) (s : SoundRule block) where
   sound-plain : (j : ℕ) → sourceOf (ruleOf block) j .kind ≡ kindEmpty → sourceInputs (ruleOf block) j ≡ []
-  unfolding sourceOf wildcard patternFits rowOf kinds
+  unfolding sourceOf wildcard rowOf kinds
   sound-plain j e =
       ⊎-elim (λ (t : ltb j (sourceCount block) ≡ true).
       let inside : j < sourceCount block = ltb-true j (sourceCount block) t in
       let at : ℕ = vertexAt j in
-      let shape : Bool = shapeFits (byteAt block at) (byteAt block (at + 1)) (byteAt block (at + 2)) (byteAt block (at + 3)) in
-      let fits : shape ≡ true = needed shape (s .patterns j (omega arith)) (λ f. simp f) in
+      let fits = pattern-shape block at (s .patterns j (omega arith)) in
       let kind : byteAt block at ≡ kindEmpty = sym (source-kind-at block j inside) ∙ e in
       let most : byteAt block (at + 2) ≤ 0 =
       row-inputs kindEmpty (byteAt block (at + 1)) (byteAt block (at + 2)) (byteAt block (at + 3)) (rw kind at fits) refl in
@@ -183,11 +182,7 @@ module _ (block : List ℕ) (s : SoundRule block) where
       (decided (ltb j (sourceCount block)))
 
   sound-some : 0 < length (ruleOf block .sourceOutputs)
-  unfolding ruleHeaderFits ruleSizesFit
-  sound-some =
-      let least : 1 ≤ ruleOutputCount block =
-      leb-true 1 (ruleOutputCount block) (needed (leb 1 (ruleOutputCount block)) (s .header) (λ f. simp (f, and-false))) in
-      omega (arith, length-source-outputs block)
+  sound-some = omega (arith, some-rule-outputs block (s .header), length-source-outputs block)
 
   -- A sound rule is such a rule, so a match of a sound rule is fixed by its output images. That every source vertex is an output or
   -- read comes from the visiting order: the traversal visits outputs and inputs alone, and it visits every source vertex.

@@ -10,7 +10,7 @@ use native.Mathlib.Omega.{arith}
 use borrow.Author.Tests.{ltb-true, ltb-false, eqb-true, eqb-false, eq-eqb, ne-eqb}
 use lib.Dec.{eqb, ltb}
 use Rattle.definitions.specs.Paths.{Reads, Reaches, here, onward, Acyclic, shallow, acyclicBelow}
-use Rattle.laws.proofs.Lists.{decided, allBelow-at, allBelow-every, all-member, all-members}
+use Rattle.laws.proofs.Lists.{decided, fails, allBelow-at, allBelow-every, all-member, all-members}
 
 -- A table of n slots: what a slot reads is a slot, and past the last slot nothing reads.
 pub record Table (inputs : ℕ → List ℕ) (n : ℕ) : Type 0 where
@@ -140,9 +140,7 @@ module _ {inputs : ℕ → List ℕ} {n : ℕ} (table : Table inputs n) where
 
   -- A table with a cycle fails the test: what a search that finds an edge from a vertex back to where it came from shows.
   pub cyclic : {v : ℕ} → ((w : ℕ) × Reaches inputs v w × Reads inputs v w) → acyclicBelow inputs n ≡ false
-  cyclic {v} c = ⊎-elim (λ (t : acyclicBelow inputs n ≡ true). absurd (acyclic-sound t v (c .0) (c .1) (c .2)))
-      (λ (t : acyclicBelow inputs n ≡ false). t)
-      (decided (acyclicBelow inputs n))
+  cyclic {v} c = fails (λ t. acyclic-sound t v (c .0) (c .1) (c .2))
 
   -- A table whose slots are all grounded passes the test: what a search that settles each vertex after its inputs shows.
   pub grounded-acyclic : ((v : ℕ) → v < n → Grounded inputs v) → acyclicBelow inputs n ≡ true

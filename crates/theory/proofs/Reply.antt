@@ -1,27 +1,30 @@
 -- What the C side gets for a check: 0 or the number of a bad block, and nothing in the bits of the place, for now.
 -- Assumes nothing.
-use mathlib.Core.Path.{_≡_, refl}
-use mathlib.Core.List.{List, [], _∷_}
-use mathlib.Core.Logic.{_⊎_, inl, inr}
-use mathlib.Core.Option.{Option, none, some}
+use mathlib.Core.Path.{_≡_, ap}
+use mathlib.Core.List.{List}
+use mathlib.Core.Logic.{_⊎_, inl, inr, ⊎-elim}
+use mathlib.Core.Option.{Option}
 use Prim.Native.Nat.{ℕ}
-use native.Mathlib.Nat.{add-zero}
-use Rattle.definitions.specs.Reply.{badGraph, badRule, noPlace, refused, numberOf, packed, judged}
+use Rattle.definitions.specs.declared.Reply.the-variants.{Done}
+use Rattle.definitions.specs.Reply.{badGraph, badRule, refused, numberOf, packed, judged}
 use Rattle.definitions.specs.Graph.{graphFaults, graphReply}
 use Rattle.definitions.specs.Rule.{ruleFaults, ruleReply}
+use Rattle.laws.proofs.Reply.{packed-refused, judged-either}
 
-judged-number : (number : ℕ) (faults : List (Option ℕ))
-    → (numberOf (judged number faults) ≡ 0) ⊎ (numberOf (judged number faults) ≡ number)
-unfolding judged refused numberOf
-judged-number number [] = inl refl
-judged-number number (none ∷ faults) = judged-number number faults
-judged-number number (some at ∷ faults) = inr refl
+module _ (number : ℕ) (faults : List (Option ℕ)) where
+  judged-number : (numberOf (judged number faults) ≡ 0) ⊎ (numberOf (judged number faults) ≡ number)
+  unfolding refused numberOf
+  judged-number =
+      ⊎-elim (λ (e : judged number faults ≡ Done). inl (ap numberOf e))
+      (λ (e : judged number faults ≡ refused number). inr (ap numberOf e))
+      (judged-either number faults)
 
-judged-packed : (number : ℕ) (faults : List (Option ℕ)) → packed (judged number faults) ≡ numberOf (judged number faults)
-unfolding judged refused noPlace numberOf packed
-judged-packed number [] = refl
-judged-packed number (none ∷ faults) = judged-packed number faults
-judged-packed number (some at ∷ faults) = simp add-zero
+  judged-packed : packed (judged number faults) ≡ numberOf (judged number faults)
+  unfolding refused numberOf packed
+  judged-packed =
+      ⊎-elim (λ (e : judged number faults ≡ Done). rw e)
+      (λ (e : judged number faults ≡ refused number). rw e (packed-refused number))
+      (judged-either number faults)
 
 -- checking a graph gives 0 or 2
 pub graph-number : (block : List ℕ) → (numberOf (graphReply block) ≡ 0) ⊎ (numberOf (graphReply block) ≡ badGraph)

@@ -1,15 +1,15 @@
 -- Results of a table's vertices: on a table with no cycle there are some, and no two differ on a vertex.
 -- Assumes nothing.
-use mathlib.Core.Path.{_≡_, refl, sym, ap₂, _∙_, subst}
+use mathlib.Core.Path.{_≡_, sym, _∙_, subst}
 use mathlib.Core.Bool.{true, false≢true}
-use mathlib.Core.List.{List, [], _∷_, map, List·Memᴰ, List·Memᴰ·head, List·Memᴰ·tail}
+use mathlib.Core.List.{List}
 use Prim.Native.Nat.{ℕ, zero, suc}
 use lib.Dec.{T}
 use lib.ListN.{length}
 use Rattle.definitions.specs.Paths.{Reads, Acyclic, shallow, acyclicBelow}
 use Rattle.definitions.specs.Graph.{Graph, inputsOf, isVertex}
 use Rattle.definitions.specs.Results.{Meaning, resultAt, AreResults}
-use Rattle.laws.proofs.Lists.{allBelow-at, all-member}
+use Rattle.laws.proofs.Lists.{allBelow-at, all-member, map-same}
 use Rattle.laws.proofs.Graph.{inputs-past, vertex-inside}
 use Rattle.laws.proofs.Members.{holds}
 use Rattle.theory.proofs.Paths.{Table, Grounded, grounded, acyclic-complete, acyclic-grounded}
@@ -43,19 +43,12 @@ along-edges g layout P step v =
 
 -- ---- a result depends on the results of the inputs alone
 
--- Two functions that agree on a list's members make the same list of it.
-pub map-agree {ℓ κ} : {A : Type ℓ} {B : Type κ} (f h : A → B) (xs : List A)
-    → ((x : A) → List·Memᴰ x xs → f x ≡ h x) → map f xs ≡ map h xs
-map-agree f h [] same = refl
-map-agree f h (x ∷ xs) same =
-    ap₂ _∷_ (same x (List·Memᴰ·head refl)) (map-agree f h xs (λ y m. same y (List·Memᴰ·tail m)))
-
 module _ {ℓ} {R : Type ℓ} (m : Meaning R) (g : Graph) where
   -- What a vertex is to have as result is the same for two ways to give results that agree on its inputs.
   pub result-agree : (one other : ℕ → R) (v : ℕ) → ((u : ℕ) → Reads (inputsOf g) v u → one u ≡ other u)
       → resultAt m g one v ≡ resultAt m g other v
   unfolding resultAt
-  result-agree one other v same = rw (map-agree one other (inputsOf g v) same)
+  result-agree one other v same = rw (map-same one other (inputsOf g v) same)
 
   -- Results are unique: two ways to give every vertex the result that its inputs' results make agree on every vertex.
   pub results-unique : Layout g → (one other : ℕ → R)

@@ -1,23 +1,24 @@
 -- Counts decide whether an image is private. The places that name the image of j are those in the inner images, which are as many as
 -- the places of the source that name j, and those in other slots. There are none of the latter exactly where the image is private.
 -- Assumes nothing.
-use mathlib.Core.Path.{_≡_, refl, ap, _∙_, subst}
+use mathlib.Core.Path.{_≡_, refl, ap, _∙_}
 use mathlib.Core.Bool.{Bool, true, false, cond, not}
-use mathlib.Core.List.{List, [], map, List·Memᴰ, Memᴰ·of-map}
+use mathlib.Core.List.{List, [], map}
 use mathlib.Core.Logic.{⊎-elim}
 use Prim.Native.Nat.{ℕ, _+_, _<_, _≤_}
 use native.Mathlib.Omega.{arith}
 use lib.ListN.{length}
-use Rattle.definitions.specs.Lists.{filter, member, distinct, range}
+use Rattle.definitions.specs.Lists.{filter, member, range}
 use Rattle.definitions.specs.Paths.{Reads}
 use Rattle.definitions.specs.Graph.{Graph, inputsOf}
 use Rattle.definitions.specs.Rule.{Rule, sourceInputs, isRuleInput}
 use Rattle.definitions.specs.Match.{imageOf, innerImages, Private}
 use Rattle.laws.proofs.Lists.{decided, true-not-false}
 use Rattle.laws.proofs.Graph.{reader-inside}
-use Rattle.laws.proofs.Members.{member-mem, mem-member, range-mem}
+use Rattle.laws.proofs.Members.{member-mem, mem-member}
+use Rattle.laws.proofs.Match.{inner-distinct, inner-below}
 use Rattle.uses.specs.Uses.{count, total, readsOf, usesOf, placesOf}
-use Rattle.uses.proofs.Sums.{count-none, count-some, count-map, total-same, total-none, total-part, sumOver, sum-map, sum-filter, sum-range, total-parts, filter-mem, distinct-values, distinct-range}
+use Rattle.uses.proofs.Sums.{count-none, count-some, count-map, total-same, total-none, total-part, sumOver, sum-map, sum-filter, sum-range, total-parts}
 
 module _ (g : Graph) (r : Rule) (images : List ℕ)
     (plain : (j : ℕ) → isRuleInput r j ≡ true → sourceInputs r j ≡ [])
@@ -33,20 +34,6 @@ module _ (g : Graph) (r : Rule) (images : List ℕ)
   -- the same, of the slots that are no inner images
   abbrev otherNames : ℕ → ℕ → ℕ
   otherNames j w = cond (member w (innerImages r images)) 0 (names j w)
-
-  inner-distinct : distinct (innerImages r images) ≡ true
-  unfolding innerImages
-  inner-distinct = distinct-values (imageOf images) (λ j. not (isRuleInput r j)) (range 0 (length (r .source)))
-      (distinct-range (length (r .source)))
-      (λ i j k l. apart i j (range-mem 0 (length (r .source)) k .1) (range-mem 0 (length (r .source)) l .1))
-
-  inner-below : (w : ℕ) → List·Memᴰ w (innerImages r images) → w < length (g .slots)
-  unfolding innerImages
-  inner-below w m =
-      let n : ℕ = length (r .source) in
-      let found = Memᴰ·of-map (imageOf images) (filter (λ j. not (isRuleInput r j)) (range 0 n)) m in
-      let low = range-mem 0 n (filter-mem (λ j. not (isRuleInput r j)) (range 0 n) (found .1)) in
-      subst (λ (v : ℕ). v < length (g .slots)) (found .2) (vertex (found .0) (low .1))
 
   module _ (j : ℕ) (l : j < length (r .source)) where
     -- the image of a source vertex names the image of j as often as the vertex names j, and counts where it is inner
@@ -74,7 +61,8 @@ module _ (g : Graph) (r : Rule) (images : List ℕ)
     unfolding readsOf
     reads-parts = omega (
       arith,
-      total-parts (names j) (length (g .slots)) (innerImages r images) inner-distinct inner-below,
+      total-parts (names j) (length (g .slots)) (innerImages r images) (inner-distinct r images apart)
+          (inner-below r images (length (g .slots)) vertex),
       inner-names,
     )
 

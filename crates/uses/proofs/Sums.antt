@@ -2,7 +2,7 @@
 -- Assumes nothing.
 use mathlib.Core.Path.{_≡_, refl, sym, ap, _∙_}
 use mathlib.Core.Bool.{Bool, true, false, cond, not}
-use mathlib.Core.List.{List, [], _∷_, _++_, map, List·Memᴰ, List·Memᴰ·head, List·Memᴰ·tail, List·Memᴰ·cases-cons, Memᴰ·cast, Memᴰ·of-map}
+use mathlib.Core.List.{List, [], _∷_, _++_, map, List·Memᴰ, List·Memᴰ·head, List·Memᴰ·tail}
 use mathlib.Core.Logic.{⊎-elim}
 use Prim.Native.Nat.{ℕ, zero, suc, _+_, _*_, _<_, _≤_}
 use native.Mathlib.Nat.{not-suc-le-zero}
@@ -13,9 +13,8 @@ use lib.Dec.{eqb, ltb}
 use lib.ListN.{length, getD, take}
 use lib.Seq.{take-suc}
 use Rattle.definitions.specs.Lists.{filter, member, distinct, range, tabulate}
-use Rattle.laws.proofs.Lists.{decided, true-not-false, and-left, and-right}
-use Rattle.laws.proofs.Ranges.{length-range, range-at, range-more}
-use Rattle.laws.proofs.Members.{mem-member, no-member, places-distinct}
+use Rattle.laws.proofs.Lists.{decided, bit, and-left, and-right}
+use Rattle.laws.proofs.Ranges.{range-more}
 use Rattle.uses.specs.Uses.{count, total}
 
 -- ---- count
@@ -24,10 +23,6 @@ pub count-append : (x : ℕ) (xs ys : List ℕ) → count x (xs ++ ys) ≡ count
 unfolding count
 count-append x [] ys = omega arith
 count-append x (y ∷ xs) ys = omega (arith, count-append x xs ys)
-
-bit : (b : Bool) → cond b 1 0 ≤ 1
-bit true = omega arith
-bit false = omega arith
 
 pub count-length : (x : ℕ) (xs : List ℕ) → count x xs ≤ length xs
 unfolding count
@@ -166,40 +161,3 @@ total-parts f n (x ∷ ws) d h =
       here,
       others,
     )
-
--- ---- the values at those numbers of a list of which p holds
-
-pub filter-mem : (p : ℕ → Bool) (xs : List ℕ) {x : ℕ} → List·Memᴰ x (filter p xs) → List·Memᴰ x xs
-unfolding filter
-filter-mem p [] m = m
-filter-mem p (y ∷ xs) {x} m = ⊎-elim
-    (λ (t : p y ≡ true).
-    ⊎-elim (λ (e : x ≡ y). List·Memᴰ·head e) (λ (k : List·Memᴰ x (filter p xs)). List·Memᴰ·tail (filter-mem p xs k))
-    (List·Memᴰ·cases-cons (simp t at m)))
-    (λ (t : p y ≡ false). List·Memᴰ·tail (filter-mem p xs (simp t at m)))
-    (decided (p y))
-
-pub distinct-values : (h : ℕ → ℕ) (p : ℕ → Bool) (xs : List ℕ) → distinct xs ≡ true
-    → ((i j : ℕ) → List·Memᴰ i xs → List·Memᴰ j xs → h i ≡ h j → i ≡ j) → distinct (map h (filter p xs)) ≡ true
-unfolding filter distinct
-distinct-values h p [] d apart = refl
-distinct-values h p (x ∷ xs) d apart =
-    let rest : distinct (map h (filter p xs)) ≡ true =
-    distinct-values h p xs (and-right (not (member x xs)) (distinct xs) d)
-    (λ i j k l. apart i j (List·Memᴰ·tail k) (List·Memᴰ·tail l)) in
-    let new : List·Memᴰ (h x) (map h (filter p xs)) → ⊥ =
-    λ m. let found = Memᴰ·of-map h (filter p xs) m in
-    let inside = filter-mem p xs (found .1) in
-    let same : x ≡ found .0 = apart x (found .0) (List·Memᴰ·head refl) (List·Memᴰ·tail inside) (sym (found .2)) in
-    true-not-false (mem-member (Memᴰ·cast same inside))
-    (not-true (member x xs) (and-left (not (member x xs)) (distinct xs) d)) in
-    ⊎-elim
-    (λ (t : p x ≡ true). simp (t, no-member (h x) (map h (filter p xs)) new, rest))
-    (λ (t : p x ≡ false). simp (t, rest))
-    (decided (p x))
-
-pub distinct-range : (n : ℕ) → distinct (range 0 n) ≡ true
-distinct-range n = places-distinct (range 0 n) 0 (λ i j k l e.
-    let inside : i < n = rw (length-range n) at k in
-    let within : j < n = rw (length-range n) at l in
-    sym (range-at n i 0 inside) ∙ e ∙ range-at n j 0 within)

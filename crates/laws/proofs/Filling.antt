@@ -1,0 +1,30 @@
+-- An array that is filled from the front: after i turns it is the padded list of the first i values.
+-- Assumes nothing.
+use mathlib.Core.Path.{_≡_, refl, ap}
+use mathlib.Core.List.{List, [], _∷_, map}
+use Prim.Native.Nat.{ℕ, zero, suc, _+_, _<_}
+use native.Mathlib.Nat.{not-suc-le-zero, le-of-suc-le-suc}
+use native.Mathlib.Numerals.{add-one}
+use native.Mathlib.Omega.{arith}
+use lib.ListN.{length, getD, set, take}
+use lib.Seq.{take-all}
+use Rattle.definitions.specs.Lists.{padded}
+
+module _ {A B : Type 0} (f : A → B) (d : A) (z : B) where
+  place-set : (n : ℕ) (xs : List A) (i : ℕ) → i < n → i < length xs
+      → set (padded n z (map f (take i xs))) i (f (getD xs i d)) ≡ padded n z (map f (take (suc i) xs))
+  unfolding padded
+  place-set zero xs i h l = absurd (not-suc-le-zero h)
+  place-set (suc n) [] i h l = absurd (not-suc-le-zero l)
+  place-set (suc n) (x ∷ xs) zero h l = refl
+  place-set (suc n) (x ∷ xs) (suc i) h l = ap (λ (ys : List B). f x ∷ ys) (place-set n xs i (le-of-suc-le-suc h) (le-of-suc-le-suc l))
+
+  -- one more turn, with what it stores
+  pub filled-more : (n : ℕ) (xs : List A) (i : ℕ) {y : B} {ys : List B} → i < n → i < length xs → y ≡ f (getD xs i d)
+      → ys ≡ padded n z (map f (take i xs)) → set ys i y ≡ padded n z (map f (take (i + 1) xs))
+  filled-more n xs i h l e same = rw (same, e, add-one) (place-set n xs i h l)
+
+  -- the last turn
+  pub filled-all : (n : ℕ) (xs : List A) (i : ℕ) {ys : List B} → length xs ≡ i
+      → ys ≡ padded n z (map f (take i xs)) → ys ≡ padded n z (map f xs)
+  filled-all n xs i e same = rw (take-all i xs (omega arith)) at same
