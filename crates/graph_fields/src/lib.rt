@@ -5,6 +5,7 @@ use fields::Integer;
 use fields::byte_at;
 use fields::i32_at;
 use fields::u16_at;
+use fields::u32_at;
 ghost use mathlib.Core.Path.{_≡_};
 ghost use Prim.Native.Nat.{_<_, _≤_};
 ghost use lib.ListN.{length, getD};
@@ -83,6 +84,16 @@ pub fn attribute_at(graph: &[u8], k: usize, i: usize) -> Integer
     ensures { λ r. ⌜ integerOf r ≡ signed (getD (slotOf (graphOf (now (graph .entry))) k .attributes) i 0) ⌝ }
 {
     i32_at(graph, HEADER_BYTES + SLOT_BYTES * k + 16 + 4 * i)
+}
+
+// The 32-bit word in attribute place i of slot k, here counted from 0.
+pub fn attribute_word(graph: &[u8], k: usize, i: usize) -> usize
+    requires { ⌜ Readable (now graph) ⌝ }
+    requires { ⌜ k < slotCount (now graph) ⌝ }
+    requires { ⌜ i < length (slotOf (graphOf (now graph)) k .attributes) ⌝ }
+    ensures { λ r. ⌜ (r ≡ getD (slotOf (graphOf (now (graph .entry))) k .attributes) i 0) × (r < 4294967296) ⌝ }
+{
+    u32_at(graph, HEADER_BYTES + SLOT_BYTES * k + 16 + 4 * i)
 }
 
 // What output place i names.

@@ -14,6 +14,12 @@ pub const BAD_RULE: u8 = 3;
 
 pub const NO_MATCH: u8 = 4;
 
+pub const NO_RESULT: u8 = 5;
+
+pub const NO_ROOM: u8 = 6;
+
+pub const NEW_CYCLE: u8 = 7;
+
 // The refusal with this number. No request names a place yet.
 pub fn refuse(number: u8) -> Reply
     ensures { λ r. ⌜ r ≡ answer.refused number ⌝ }

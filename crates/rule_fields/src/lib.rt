@@ -109,6 +109,16 @@ pub fn target_kind(rule: &[u8], t: usize) -> usize
     byte_at(rule, RULE_HEADER_BYTES + PATTERN_BYTES * v)
 }
 
+// The operator of target vertex t.
+pub fn target_operator(rule: &[u8], t: usize) -> usize
+    requires { ⌜ Whole (now rule) ⌝ }
+    requires { ⌜ t < targetCount (now rule) ⌝ }
+    ensures { λ r. ⌜ (r ≡ targetOf (ruleOf (now (rule .entry))) t .operator) × (r < 256) ⌝ }
+{
+    let v = source_count(rule) + t;
+    byte_at(rule, RULE_HEADER_BYTES + PATTERN_BYTES * v + 1)
+}
+
 // How many inputs target vertex t has.
 pub fn target_input_count(rule: &[u8], t: usize) -> usize
     requires { ⌜ Readable (now rule) ⌝ }
@@ -128,6 +138,28 @@ pub fn target_input(rule: &[u8], t: usize, i: usize) -> usize
 {
     let v = source_count(rule) + t;
     byte_at(rule, RULE_HEADER_BYTES + PATTERN_BYTES * v + 4 + i)
+}
+
+// How many attributes target vertex t has.
+pub fn target_attribute_count(rule: &[u8], t: usize) -> usize
+    requires { ⌜ Readable (now rule) ⌝ }
+    requires { ⌜ t < targetCount (now rule) ⌝ }
+    ensures { λ r. ⌜ (r ≡ length (targetOf (ruleOf (now (rule .entry))) t .attributes)) × (r ≤ attributeLimit) ⌝ }
+{
+    let v = source_count(rule) + t;
+    byte_at(rule, RULE_HEADER_BYTES + PATTERN_BYTES * v + 3)
+}
+
+// The node of attribute i of target vertex t, here counted from 0.
+pub fn target_attribute(rule: &[u8], t: usize, i: usize) -> usize
+    requires { ⌜ Readable (now rule) ⌝ }
+    requires { ⌜ t < targetCount (now rule) ⌝ }
+    requires { ⌜ i < length (targetOf (ruleOf (now rule)) t .attributes) ⌝ }
+    ensures { λ r. ⌜ expressionOf (now (rule .entry)) r ≡ getD (targetOf (ruleOf (now (rule .entry))) t .attributes) i anything ⌝ }
+    ensures { λ r. ⌜ r ≡ byteAt (now (rule .entry)) (vertexAt (sourceCount (now (rule .entry)) + t) + 10 + i) ⌝ }
+{
+    let v = source_count(rule) + t;
+    byte_at(rule, RULE_HEADER_BYTES + PATTERN_BYTES * v + 10 + i)
 }
 
 // The source vertex that source output i is.

@@ -1,0 +1,46 @@
+-- An attribute place stands in its four bytes of the record.
+-- Assumes nothing.
+use mathlib.Core.Path.{_≡_, _∙_, sym, ap}
+use Prim.Native.Nat.{_+_}
+use native.Mathlib.Omega.{arith}
+use lib.ListN.{length, getD}
+use Rattle.definitions.specs.Fields.{byteAt}
+use Rattle.definitions.specs.Graph.{Slot, recordAt, graphOf, slotOf}
+use Rattle.laws.proofs.Graph.{slot-of, length-attributes, attribute-of}
+use borrow.Author.Needs.{needs}
+use Rattle.graph_fields.proofs.attribute_word.Statement.{statement}
+use Rattle.graph_fields.proofs.attribute_word.Tie as tie
+
+mul-u32-at : tie.Need-mul-u32-at
+mul-u32-at c = search needs
+
+add-u32-at : tie.Need-add-u32-at
+add-u32-at c = search needs
+
+add-u32-at-2 : tie.Need-add-u32-at-2
+add-u32-at-2 c = search needs
+
+mul-u32-at-2 : tie.Need-mul-u32-at-2
+mul-u32-at-2 c = omega (arith, c .before .pre .0 .attributes (c .before .args .k) (c .before .pre .1 .0))
+
+add-u32-at-3 : tie.Need-add-u32-at-3
+add-u32-at-3 c = omega (arith, c .before .pre .0 .attributes (c .before .args .k) (c .before .pre .1 .0))
+
+u32-at-requires : tie.Need-u32-at-requires
+u32-at-requires c κs = omega (arith, c .before .pre .0 .attributes (c .before .args .k) (c .before .pre .1 .0), c .before .pre .0 .whole .size)
+
+returns : tie.Need-returns
+returns c =
+    let a = c .before .before .args in
+    let block = a .graph .now in
+    let slot = slot-of block (a .k) (c .before .before .pre .1 .0) in
+    let counted : length (slotOf (graphOf block) (a .k) .attributes) ≡ byteAt block (recordAt (a .k) + 3) =
+    ap (λ (s : Slot). length (s .attributes)) slot ∙ length-attributes block (recordAt (a .k)) in
+    let word = ap (λ (s : Slot). getD (s .attributes) (a .i) 0) slot
+    ∙ attribute-of block (recordAt (a .k)) (a .i) 0 (omega (arith, counted, c .before .before .pre .1 .1)) in
+    (c .u32-at .ensures .0 ∙ sym word, c .u32-at .ensures .1)
+
+pub attribute-word-spec : {M : Type 1} → statement M
+attribute-word-spec =
+    tie.close
+    (tie.spec mul-u32-at add-u32-at add-u32-at-2 mul-u32-at-2 add-u32-at-3 u32-at-requires returns)
