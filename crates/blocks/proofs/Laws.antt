@@ -1,43 +1,61 @@
--- The map's bytes, two more for each image.
+-- What good blocks are, and the bytes of the images that a search found.
 -- Assumes nothing.
-use mathlib.Core.Path.{_≡_, ap, _∙_, sym}
-use mathlib.Core.List.{List, [], _∷_, _++_, append-assoc, append-nil}
-use Prim.Native.Nat.{ℕ, suc, _+_, _*_, _/_, _%_, _<_}
+use mathlib.Core.Path.{_≡_, sym, ap, _∙_}
+use mathlib.Core.Bool.{true, false}
+use mathlib.Core.List.{List, [], _∷_}
+use mathlib.Core.Logic.{⊎-elim}
+use Prim.Native.Nat.{ℕ, _≤_}
 use native.Mathlib.Omega.{arith}
-use lib.ListN.{length, getD, take, set, length-set}
-use lib.Seq.{take-suc, take-suc-set}
-use Rattle.definitions.specs.Lists.{concatMap}
+use borrow.Author.Tests.{eqb-true}
+use lib.Dec.{eqb}
+use lib.ListN.{length, take, length-take}
+use lib.Seq.{ext-getD}
+use Rattle.definitions.specs.declared.Reply.the-variants.{Done}
+use Rattle.definitions.specs.Lists.{padded, concatMap}
 use Rattle.definitions.specs.Fields.{u16Bytes}
+use Rattle.definitions.specs.Reply.{badMapLength, refused}
+use Rattle.definitions.specs.Graph.{unusedPlace, graphReply, SoundGraph}
+use Rattle.definitions.specs.Rule.{sideLimit, ruleReply, SoundRule}
+use Rattle.definitions.specs.Match.{imageOf}
+use Rattle.definitions.specs.Operations.{mapBytes, mapBlock, mapReply, blocksReply}
+use Rattle.laws.proofs.Lists.{decided}
+use Rattle.laws.proofs.Padded.{length-padded, padded-at, taken-at}
+use Rattle.laws.proofs.Reply.{done-or-refused, first-all}
+use Rattle.graph_check.proofs.Sound as GraphSound
+use Rattle.rule_check.proofs.Sound as RuleSound
 
-concat-more : {A B : Type 0} (f : A → List B) (xs : List A) (x : A) → concatMap f (xs ++ x ∷ []) ≡ concatMap f xs ++ f x
-unfolding concatMap
-concat-more f [] x = append-nil (f x)
-concat-more f (y ∷ ys) x = ap (λ l. f y ++ l) (concat-more f ys x) ∙ sym (append-assoc (f y) (concatMap f ys) (f x))
+-- ---- the map of the images that a search found
 
--- two elements put next to each other
-two-put : (l : List ℕ) (i a b : ℕ) → suc i < length l → take (suc (suc i)) (set (set l i a) (suc i) b) ≡ take i l ++ a ∷ b ∷ []
-two-put l i a b h =
-    take-suc-set (set l i a) (suc i) b (omega (arith, length-set l i a))
-    ∙ ap (λ t. t ++ b ∷ []) (take-suc-set l i a (omega arith))
-    ∙ append-assoc (take i l) (a ∷ []) (b ∷ [])
+-- a list that holds 65535 from n on is its first n elements, filled up
+filled-up : (n : ℕ) (images : List ℕ) → length images ≡ sideLimit → n ≤ sideLimit
+    → ((i : ℕ) → n ≤ i → imageOf images i ≡ unusedPlace) → padded sideLimit unusedPlace (take n images) ≡ images
+unfolding imageOf
+filled-up n images size small rest =
+    ext-getD unusedPlace (padded sideLimit unusedPlace (take n images)) images
+    (length-padded unusedPlace sideLimit (take n images) (omega (arith, length-take n images)) ∙ sym size)
+    (λ i l. padded-at unusedPlace sideLimit (take n images) i ∙ taken-at unusedPlace n images (omega arith) rest i)
 
--- Where the first j images are written, the next one's two bytes go on.
-pub written-more : (images map : List ℕ) (j : ℕ) → j < length images → 2 * j + 1 < length map
-    → take (2 * j) map ≡ concatMap u16Bytes (take j images)
-    → take (2 * (j + 1)) (set (set map (2 * j) (getD images j 0 % 256)) (2 * j + 1) (getD images j 0 / 256 % 256))
-    ≡ concatMap u16Bytes (take (j + 1) images)
-unfolding u16Bytes
-written-more images map j h l before =
-    let twice : 2 * (j + 1) ≡ suc (suc (2 * j)) = omega arith in
-    let next : 2 * j + 1 ≡ suc (2 * j) = omega arith in
-    let more : j + 1 ≡ suc j = omega arith in
-    let image : ℕ = getD images j 0 in
-    rw (
-      twice,
-      next,
-      more,
-      two-put map (2 * j) (image % 256) (image / 256 % 256) (omega arith),
-      take-suc images j 0 h,
-      concat-more u16Bytes (take j images) image,
-      before,
-    )
+pub map-bytes : (n : ℕ) (images : List ℕ) → length images ≡ sideLimit → n ≤ sideLimit
+    → ((i : ℕ) → n ≤ i → imageOf images i ≡ unusedPlace) → concatMap u16Bytes images ≡ mapBlock (take n images)
+unfolding mapBlock
+map-bytes n images size small rest = sym (ap (concatMap u16Bytes) (filled-up n images size small rest))
+
+-- ---- past replies 1 to 3
+
+map-done : (images : List ℕ) → mapReply images ≡ Done → length images ≡ mapBytes
+unfolding mapReply
+map-done images h =
+    ⊎-elim (λ (t : eqb (length images) mapBytes ≡ true). eqb-true (length images) mapBytes t)
+    (λ (t : eqb (length images) mapBytes ≡ false).
+    let e : refused badMapLength ≡ Done = simp t at h in
+    absurd (done-or-refused badMapLength (sym e)))
+    (decided (eqb (length images) mapBytes))
+
+pub blocks-done : (graph rule images : List ℕ) → blocksReply graph rule images ≡ Done
+    → (length images ≡ mapBytes) × SoundGraph graph × SoundRule rule
+unfolding blocksReply
+blocks-done graph rule images h =
+    let first = first-all (mapReply images) (graphReply graph ∷ ruleReply rule ∷ []) h in
+    let second = first-all (graphReply graph) (ruleReply rule ∷ []) (first .1) in
+    let third = first-all (ruleReply rule) [] (second .1) in
+    (map-done images (first .0), GraphSound.only-sound graph (second .0), RuleSound.only-sound rule (third .0))

@@ -4,6 +4,7 @@ use definitions::Reply;
 use definitions::SIDE_LIMIT;
 use reply::BAD_MAP_LENGTH;
 use reply::refuse;
+use writing::put_u16s;
 ghost use mathlib.Core.Path.{_≡_};
 ghost use lib.ListN.{length};
 ghost use Rattle.definitions.specs.Lists.{concatMap};
@@ -42,11 +43,5 @@ pub fn write_map(map: &mut [u8], images: &[u16; SIDE_LIMIT])
     requires { ⌜ length (now images) ≡ sideLimit ⌝ }
     ensures { λ r. ⌜ now (map .exit) ≡ concatMap u16Bytes (now (images .entry)) ⌝ }
 {
-    let mut j = 0;
-    while j < SIDE_LIMIT {
-        let image = images[j];
-        map[2 * j] = (image % 256) as u8;
-        map[2 * j + 1] = (image / 256 % 256) as u8;
-        j += 1;
-    }
+    put_u16s(map, images);
 }

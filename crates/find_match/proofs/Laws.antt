@@ -1,69 +1,20 @@
 -- What the stages of matching come to, as the definition has them.
 -- Assumes nothing.
-use mathlib.Core.Path.{_≡_, sym, ap, _∙_}
-use mathlib.Core.Bool.{true, false}
-use mathlib.Core.List.{List, [], _∷_}
-use mathlib.Core.Logic.{⊎-elim}
+use mathlib.Core.Path.{_≡_, sym, _∙_}
+use mathlib.Core.List.{List}
 use mathlib.Core.Option.{none, some}
-use Prim.Native.Nat.{ℕ, _≤_}
-use native.Mathlib.Omega.{arith}
-use borrow.Author.Tests.{eqb-true}
-use lib.Dec.{eqb}
-use lib.ListN.{length, take, length-take}
-use lib.Seq.{ext-getD}
+use Prim.Native.Nat.{ℕ}
 use Rattle.definitions.specs.declared.Refusal.{Refusal}
 use Rattle.definitions.specs.declared.Reply.the-variants.{Done, Refused}
-use Rattle.definitions.specs.Lists.{padded, concatMap}
-use Rattle.definitions.specs.Fields.{u16Bytes}
-use Rattle.definitions.specs.Reply.{badMapLength, noMatch, refused}
-use Rattle.definitions.specs.Graph.{unusedPlace, graphOf, graphReply, SoundGraph}
-use Rattle.definitions.specs.Rule.{sideLimit, ruleOf, ruleReply, SoundRule}
-use Rattle.definitions.specs.Match.{imageOf, leastMatch}
-use Rattle.definitions.specs.Operations.{outcome, mapBytes, mapBlock, mapReply, blocksReply, matched, findMatch}
-use Rattle.laws.proofs.Lists.{decided}
-use Rattle.laws.proofs.Padded.{length-padded, padded-at, taken-at}
-use Rattle.laws.proofs.Reply.{first-all}
-use Rattle.graph_check.proofs.Sound as GraphSound
-use Rattle.rule_check.proofs.Sound as RuleSound
-
--- ---- the map of the images that a search found
-
--- a list that holds 65535 from n on is its first n elements, filled up
-filled-up : (n : ℕ) (images : List ℕ) → length images ≡ sideLimit → n ≤ sideLimit
-    → ((i : ℕ) → n ≤ i → imageOf images i ≡ unusedPlace) → padded sideLimit unusedPlace (take n images) ≡ images
-unfolding imageOf
-filled-up n images size small rest =
-    ext-getD unusedPlace (padded sideLimit unusedPlace (take n images)) images
-    (length-padded unusedPlace sideLimit (take n images) (omega (arith, length-take n images)) ∙ sym size)
-    (λ i l. padded-at unusedPlace sideLimit (take n images) i ∙ taken-at unusedPlace n images (omega arith) rest i)
-
-pub map-bytes : (n : ℕ) (images : List ℕ) → length images ≡ sideLimit → n ≤ sideLimit
-    → ((i : ℕ) → n ≤ i → imageOf images i ≡ unusedPlace) → concatMap u16Bytes images ≡ mapBlock (take n images)
-unfolding mapBlock
-map-bytes n images size small rest = sym (ap (concatMap u16Bytes) (filled-up n images size small rest))
+use Rattle.definitions.specs.Reply.{noMatch, refused}
+use Rattle.definitions.specs.Graph.{graphOf}
+use Rattle.definitions.specs.Rule.{ruleOf}
+use Rattle.definitions.specs.Match.{leastMatch}
+use Rattle.definitions.specs.Operations.{outcome, mapBlock, blocksReply, matched, findMatch}
 
 -- ---- the outcome, stage by stage
 
-map-done : (images : List ℕ) → mapReply images ≡ Done → length images ≡ mapBytes
-unfolding mapReply refused
-map-done images h =
-    ⊎-elim (λ (t : eqb (length images) mapBytes ≡ true). eqb-true (length images) mapBytes t)
-    (λ (t : eqb (length images) mapBytes ≡ false).
-    let e : refused badMapLength ≡ Done = simp t at h in
-    let z : _≡_ {A = ℕ} 0 1 = cc in
-    absurd (omega arith))
-    (decided (eqb (length images) mapBytes))
-
 module _ (graph rule : List ℕ) (start : ℕ) (images : List ℕ) where
-  -- past replies 1 to 3
-  pub blocks-done : blocksReply graph rule images ≡ Done → (length images ≡ mapBytes) × SoundGraph graph × SoundRule rule
-  unfolding blocksReply
-  blocks-done h =
-      let first = first-all (mapReply images) (graphReply graph ∷ ruleReply rule ∷ []) h in
-      let second = first-all (graphReply graph) (ruleReply rule ∷ []) (first .1) in
-      let third = first-all (ruleReply rule) [] (second .1) in
-      (map-done images (first .0), GraphSound.only-sound graph (second .0), RuleSound.only-sound rule (third .0))
-
   pub blocks-refused : (refusal : Refusal) → blocksReply graph rule images ≡ Refused refusal
       → outcome (Refused refusal) graph images ≡ findMatch graph rule start images
   unfolding findMatch

@@ -9,7 +9,8 @@ use lib.ListN.{take}
 use Rattle.definitions.specs.declared.Reply.the-variants.{Done}
 use Rattle.definitions.specs.Rule.{sourceCount}
 use Rattle.definitions.specs.Operations.{outcome, blocksReply}
-use Rattle.find_match.proofs.Laws.{map-bytes, blocks-done, blocks-refused, nothing-found, match-found}
+use Rattle.blocks.proofs.Laws.{map-bytes, blocks-done}
+use Rattle.find_match.proofs.Laws.{blocks-refused, nothing-found, match-found}
 use borrow.Author.Needs.{needs}
 use Rattle.find_match.proofs.find_match.Statement.{statement}
 use Rattle.find_match.proofs.find_match.Tie as tie
@@ -51,7 +52,7 @@ enum-told : tie.Need-enum-told
 enum-told c = search needs
 
 least-match-requires : tie.Need-least-match-requires
-least-match-requires c κs = let g = blocks-done (graph c) (rule c) (start c .args .start) (map c) (good c) in (g .1, g .2)
+least-match-requires c κs = let g = blocks-done (graph c) (rule c) (map c) (good c) in (g .1, g .2)
 
 refuse-requires : tie.Need-refuse-requires
 refuse-requires c κs = search needs
@@ -72,7 +73,7 @@ write-map-requires c κs =
     let e = c .before .before .before in
     let l = e .before .before in
     let b = l .before in
-    (blocks-done (graph b) (rule b) (start b .args .start) (map b) (good b) .0, search (needs, l .least-match .ensures .size (not-false _ (e .if1 .left))))
+    (blocks-done (graph b) (rule b) (map b) (good b) .0, search (needs, l .least-match .ensures .size (not-false _ (e .if1 .left))))
 
 same-length-3 : tie.Need-same-length-3
 same-length-3 c = search needs

@@ -1,0 +1,36 @@
+-- The bytes that a record and a header are written as, and the slot for which a record stands.
+-- Assumes nothing.
+use mathlib.Core.Path.{_≡_}
+use mathlib.Core.List.{List, [], _∷_, _++_}
+use Prim.Native.Nat.{ℕ}
+use lib.ListN.{length, replicate}
+use Rattle.definitions.specs.Lists.{padded, concatMap}
+use Rattle.definitions.specs.Fields.{u16Bytes, u32Bytes}
+use Rattle.definitions.specs.Graph.{inputLimit, attributeLimit, unusedPlace, graphLetter, graphVersion, Slot, slotTail}
+use Rattle.writing.specs.declared.Record.{Record}
+
+unfoldable pub recordBytes : Record → List ℕ
+recordBytes r =
+    (r .kind ∷ r .operator ∷ r .n ∷ r .m ∷ [])
+    ++ concatMap u16Bytes (r .inputs)
+    ++ concatMap u32Bytes (r .attributes)
+    ++ slotTail
+
+-- the header for n slots, of whose output places the first `count` are used
+unfoldable pub headerWith : ℕ → ℕ → List ℕ → List ℕ
+headerWith n count places =
+    (76 ∷ 71 ∷ graphLetter ∷ 0 ∷ [])
+    ++ u16Bytes graphVersion
+    ++ u16Bytes n
+    ++ u16Bytes count
+    ++ concatMap u16Bytes places
+    ++ replicate 6 0
+
+-- the record holds the slot: its fields, and what stands in the places that it leaves unused
+pub record Stands (r : Record) (s : Slot) : Type 0 where
+  pub kind : r .kind ≡ s .kind
+  pub operator : r .operator ≡ s .operator
+  pub inputCount : r .n ≡ length (s .inputs)
+  pub attributeCount : r .m ≡ length (s .attributes)
+  pub inputs : r .inputs ≡ padded inputLimit unusedPlace (s .inputs)
+  pub attributes : r .attributes ≡ padded attributeLimit 0 (s .attributes)

@@ -1,0 +1,120 @@
+// Numbers, slot records and headers, written into a part of a block that the caller lends on.
+use definitions::ATTRIBUTE_LIMIT;
+use definitions::GRAPH_LETTER;
+use definitions::GRAPH_VERSION;
+use definitions::INPUT_LIMIT;
+use definitions::OUTPUT_LIMIT;
+ghost use mathlib.Core.Path.{_≡_};
+ghost use Prim.Native.Nat.{_*_};
+ghost use lib.ListN.{length, replicate};
+ghost use Rattle.definitions.specs.Lists.{concatMap};
+ghost use Rattle.definitions.specs.Fields.{u16Bytes, u32Bytes};
+ghost use Rattle.definitions.specs.Graph.{headerBytes, slotBytes, inputLimit, attributeLimit, outputLimit};
+ghost use Rattle.writing.specs.Records.{recordBytes, headerWith};
+
+// What a slot's record holds: kind, operator, input count n, attribute count m, and every place, the unused ones too.
+pub struct Record {
+    pub kind: u8,
+    pub operator: u8,
+    pub n: u8,
+    pub m: u8,
+    pub inputs: [u16; INPUT_LIMIT],
+    pub attributes: [u32; ATTRIBUTE_LIMIT],
+}
+
+// ---- numbers
+
+// Writes 16-bit numbers, each as two bytes, the lower one first.
+pub fn put_u16s(part: &mut [u8], numbers: &[u16])
+    requires { ⌜ length (now part) ≡ 2 * length (now numbers) ⌝ }
+    ensures { λ r. ⌜ now (part .exit) ≡ concatMap u16Bytes (now (numbers .entry)) ⌝ }
+{
+    let count = numbers.len();
+    let mut i = 0;
+    while i < count {
+        let number = numbers[i];
+        part[2 * i] = (number % 256) as u8;
+        part[2 * i + 1] = (number / 256 % 256) as u8;
+        i += 1;
+    }
+}
+
+// Writes 32-bit words, each as four bytes, the lowest one first.
+pub fn put_u32s(part: &mut [u8], words: &[u32])
+    requires { ⌜ length (now part) ≡ 4 * length (now words) ⌝ }
+    ensures { λ r. ⌜ now (part .exit) ≡ concatMap u32Bytes (now (words .entry)) ⌝ }
+{
+    let count = words.len();
+    let mut i = 0;
+    while i < count {
+        let word = words[i];
+        part[4 * i] = (word % 256) as u8;
+        part[4 * i + 1] = (word / 256 % 256) as u8;
+        part[4 * i + 2] = (word / 65536 % 256) as u8;
+        part[4 * i + 3] = (word / 16777216 % 256) as u8;
+        i += 1;
+    }
+}
+
+// Writes zero into every byte.
+pub fn clear(part: &mut [u8])
+    ensures { λ r. ⌜ now (part .exit) ≡ replicate (length (now (part .entry))) 0 ⌝ }
+{
+    let size = part.len();
+    let mut i = 0;
+    while i < size {
+        part[i] = 0;
+        i += 1;
+    }
+}
+
+// Writes the bytes of one block over another of the same length.
+pub fn copy(to: &mut [u8], from: &[u8])
+    requires { ⌜ length (now to) ≡ length (now from) ⌝ }
+    ensures { λ r. ⌜ now (to .exit) ≡ now (from .entry) ⌝ }
+{
+    let size = from.len();
+    let mut i = 0;
+    while i < size {
+        to[i] = from[i];
+        i += 1;
+    }
+}
+
+// ---- records
+
+// Writes a slot's record into the 48 bytes of its slot.
+pub fn write_record(part: &mut [u8], record: Record)
+    requires { ⌜ length (now part) ≡ slotBytes ⌝ }
+    requires { ⌜ length («record» .inputs) ≡ inputLimit ⌝ }
+    requires { ⌜ length («record» .attributes) ≡ attributeLimit ⌝ }
+    ensures { λ r. ⌜ now (part .exit) ≡ recordBytes «record» ⌝ }
+{
+    part[0] = record.kind;
+    part[1] = record.operator;
+    part[2] = record.n;
+    part[3] = record.m;
+    let inputs = record.inputs;
+    put_u16s(&mut part[4..16], &inputs);
+    let attributes = record.attributes;
+    put_u32s(&mut part[16..40], &attributes);
+    clear(&mut part[40..48]);
+}
+
+// ---- the header
+
+// Writes a graph block's header into its 24 bytes: `outputs` has every output place, of which `count` are used.
+pub fn write_header(part: &mut [u8], slots: u16, count: u16, outputs: &[u16; OUTPUT_LIMIT])
+    requires { ⌜ length (now part) ≡ headerBytes ⌝ }
+    requires { ⌜ length (now outputs) ≡ outputLimit ⌝ }
+    ensures { λ r. ⌜ now (part .exit) ≡ headerWith slots count (now (outputs .entry)) ⌝ }
+{
+    part[0] = 76;
+    part[1] = 71;
+    part[2] = GRAPH_LETTER as u8;
+    part[3] = 0;
+    let numbers = [GRAPH_VERSION as u16, slots, count];
+    put_u16s(&mut part[4..10], &numbers);
+    put_u16s(&mut part[10..18], outputs);
+    clear(&mut part[18..24]);
+}
