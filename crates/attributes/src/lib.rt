@@ -1,4 +1,5 @@
-// What attribute expressions give for a map, and whether the attributes of a source vertex agree with those of a slot.
+// What attribute expressions give for a map: whether the attributes of a source vertex agree with those of a slot, and the results of
+// a target vertex's.
 use definitions::NODE_LIMIT;
 use definitions::SIDE_LIMIT;
 use fields::widened;
@@ -11,18 +12,20 @@ use numbers::gives;
 use numbers::number;
 use rule_fields::source_attribute;
 use rule_fields::source_attribute_count;
+use rule_fields::target_attribute;
 use rule_nodes::node_byte;
 use rule_nodes::node_form;
 use rule_nodes::node_number;
 ghost use mathlib.Core.Path.{_≡_};
+ghost use mathlib.Core.Bool.{true};
 ghost use Prim.Native.Nat.{_<_, _≤_};
 ghost use lib.ListN.{length, getD};
 ghost use Rattle.definitions.specs.Fields.{signed};
 ghost use Rattle.definitions.specs.Graph.{slotCount, graphOf, slotOf};
-ghost use Rattle.definitions.specs.Rule.{sideLimit, sourceCount, nodeCount, nodeForm, anything, ruleOf, sourceOf};
-ghost use Rattle.definitions.specs.Attributes.{agrees};
+ghost use Rattle.definitions.specs.Rule.{sideLimit, sourceCount, targetCount, nodeCount, nodeForm, anything, ruleOf, sourceOf, targetOf};
+ghost use Rattle.definitions.specs.Attributes.{result, agrees};
 ghost use Rattle.definitions.specs.Match.{readAttribute};
-ghost use Rattle.numbers.specs.Value.{valueOf};
+ghost use Rattle.numbers.specs.Value.{valueOf, bounded};
 ghost use Rattle.graph_fields.specs.Readable as graphs;
 ghost use Rattle.rule_fields.specs.Readable.{Whole, Readable};
 ghost use Rattle.attributes.specs.Evaluable.{Evaluable, agreeFirst};
@@ -221,4 +224,29 @@ pub fn attributes_agree(
         i += 1;
     }
     true
+}
+
+// The result of attribute i of target vertex t.
+pub fn target_value(
+    graph: &[u8],
+    rule: &[u8],
+    images: &[u16; SIDE_LIMIT],
+    t: usize,
+    i: usize,
+) -> Value
+    requires { ⌜ graphs.Readable (now graph) ⌝ }
+    requires { ⌜ Readable (now rule) ⌝ }
+    requires { ⌜ Evaluable (now rule) ⌝ }
+    requires { ⌜ length (now images) ≡ sideLimit ⌝ }
+    requires { ⌜ t < targetCount (now rule) ⌝ }
+    requires { ⌜ i < length (targetOf (ruleOf (now rule)) t .attributes) ⌝ }
+    ensures { λ r. ⌜ valueOf r ≡ result (readAttribute (graphOf (now (graph .entry))) (now (images .entry)))
+        (getD (targetOf (ruleOf (now (rule .entry))) t .attributes) i anything) ⌝ }
+    ensures { λ r. ⌜ bounded (valueOf r) ≡ true ⌝ }
+{
+    let k = target_attribute(rule, t, i);
+    if node_form(rule, k) < 3 {
+        return leaf_value(graph, rule, images, k);
+    }
+    operation_value(graph, rule, images, k)
 }

@@ -1,0 +1,190 @@
+-- Laws about results of many expressions: there are such where each expression has a fit one, and what their words are.
+-- Assumes nothing.
+use mathlib.Core.Path.{_≡_, refl, sym, ap, ap₂, _∙_}
+use mathlib.Core.Bool.{Bool, true, false, cond, not, _&&_, and-false, or-true, or-and-distrib-left, true≢false, false≢true}
+use mathlib.Core.List.{List, [], _∷_, map}
+use mathlib.Core.Option.{Option, none, some, Option·some-injective}
+use Prim.Native.Nat.{ℕ, _+_, _<_, _≤_}
+use native.Mathlib.Omega.{arith}
+use borrow.Author.Tests.{ltb-true}
+use lib.Dec.{eqb}
+use lib.IntN.{ℤ}
+use lib.ListN.{length, getD, set, take}
+use lib.Seq.{take-all}
+use Rattle.definitions.specs.Lists.{allBelow, all, padded}
+use Rattle.definitions.specs.Fields.{wordOf}
+use Rattle.definitions.specs.Operators.{kindProj}
+use Rattle.definitions.specs.Graph.{attributeLimit, atLeastOne}
+use Rattle.definitions.specs.Rule.{Expression, anything, Origin, Pattern, Rule, wildcard, targetOf}
+use Rattle.definitions.specs.Attributes.{inRange, result}
+use Rattle.definitions.specs.Rewriting.{results, indexFits, vertexResults, targetResults}
+use Rattle.laws.proofs.Lists.{allBelow-at, all-every, all-fails}
+use Rattle.laws.proofs.Filling.{filled-more}
+use Rattle.laws.proofs.Results.{joined, joined-some, kept, vertex-results}
+use Rattle.numbers.specs.declared.Value.{Value}
+use Rattle.numbers.specs.declared.Value.the-variants.{Nothing, Plus, Minus}
+use Rattle.numbers.specs.Value.{valueOf, limit, bounded}
+use Rattle.target_attributes.specs.Words.{wordOfValue, indexLike, isGiven, Given}
+
+-- ---- what is given
+
+module _ {A : Type 0} where
+  pub given-values : (best : Option A) → isGiven best ≡ true → (x : A) × (best ≡ some x)
+  unfolding isGiven
+  given-values none h = absurd (false≢true h)
+  given-values (some x) h = (x, refl)
+
+  pub none-given : (best : Option A) → isGiven best ≡ false → best ≡ none
+  unfolding isGiven
+  none-given none h = refl
+  none-given (some x) h = absurd (true≢false h)
+
+  given-cond : (b : Bool) (x : A) → isGiven (cond b (some x) none) ≡ b
+  unfolding isGiven
+  given-cond true x = refl
+  given-cond false x = refl
+
+  joined-given : (x : Option A) (xs : Option (List A)) → isGiven (joined x xs) ≡ (isGiven x && isGiven xs)
+  unfolding isGiven joined
+  joined-given none xs = refl
+  joined-given (some y) none = refl
+  joined-given (some y) (some ys) = refl
+
+-- ---- all target vertices
+
+-- there are results of all where each has its own
+target-given : (read : ℕ → ℕ → Option ℤ) (ps : List (Pattern Origin))
+    → isGiven (targetResults read ps) ≡ all (λ p. isGiven (vertexResults read p)) ps
+unfolding targetResults joined all isGiven
+target-given read [] = refl
+target-given read (p ∷ ps) =
+    joined-given (vertexResults read p) (targetResults read ps)
+    ∙ ap (λ (b : Bool). isGiven (vertexResults read p) && b) (target-given read ps)
+
+module _ (read : ℕ → ℕ → Option ℤ) (r : Rule) where
+  -- target vertex t has fit results
+  abbrev pub vertexGiven : ℕ → Bool
+  vertexGiven t = isGiven (vertexResults read (targetOf r t))
+
+  pub target-lacks : (t : ℕ) → t < length (r .target) → vertexGiven t ≡ false → false ≡ isGiven (targetResults read (r .target))
+  unfolding targetOf
+  target-lacks t l f =
+      sym (target-given read (r .target) ∙ all-fails (λ p. isGiven (vertexResults read p)) wildcard (r .target) t l f)
+
+  pub target-found : (t : ℕ) → length (r .target) ≤ t → allBelow vertexGiven t ≡ true → true ≡ isGiven (targetResults read (r .target))
+  unfolding targetOf
+  target-found t m h =
+      sym (target-given read (r .target) ∙ all-every (λ p. isGiven (vertexResults read p)) wildcard (r .target)
+      (λ k l. allBelow-at vertexGiven t k h (omega arith)))
+
+-- what is told of the results of one says whether there are such
+pub told-given : (best : Option (List ℤ)) (ok : Bool) (words : List ℕ) → Given best ok words → isGiven best ≡ ok
+unfolding isGiven
+told-given best true words g = rw (g .found refl .1)
+told-given best false words g = rw (g .lacking refl)
+
+-- ---- one target vertex
+
+-- the results, where a Proj's index is at least 1
+abbrev checked : ℕ → Option (List ℤ) → Option (List ℤ)
+checked kind best = kept (indexFits kind) best
+
+checked-joined : (kind : ℕ) (x : Option ℤ) (xs : Option (List ℤ))
+    → isGiven (checked kind (joined x xs)) ≡ (indexLike kind x && isGiven (checked kind xs))
+unfolding isGiven joined kept indexLike indexFits all
+checked-joined kind none xs = refl
+checked-joined kind (some z) none = sym (and-false (indexLike kind (some z)))
+checked-joined kind (some z) (some zs) =
+    given-cond (indexFits kind (z ∷ zs)) (z ∷ zs)
+    ∙ or-and-distrib-left (not (eqb kind kindProj)) (atLeastOne z) (all atLeastOne zs)
+    ∙ ap (λ (b : Bool). indexLike kind (some z) && b) (sym (given-cond (indexFits kind zs) zs))
+
+checked-given : (read : ℕ → ℕ → Option ℤ) (kind : ℕ) (es : List Expression)
+    → isGiven (checked kind (results read es)) ≡ all (λ e. indexLike kind (result read e)) es
+unfolding results joined kept all isGiven indexFits
+checked-given read kind [] = given-cond (indexFits kind []) [] ∙ or-true (not (eqb kind kindProj))
+checked-given read kind (e ∷ es) =
+    checked-joined kind (result read e) (results read es)
+    ∙ ap (λ (b : Bool). indexLike kind (result read e) && b) (checked-given read kind es)
+
+-- ---- words
+
+-- the magnitude of a result in range
+pub plus-limit : (v : Value) (n : ℕ) → bounded (valueOf v) ≡ true → v ≡ Plus n → n < limit
+unfolding bounded valueOf inRange
+plus-limit v n t e = ltb-true n limit (rw e at t)
+
+pub minus-limit : (v : Value) (n : ℕ) → bounded (valueOf v) ≡ true → v ≡ Minus n → n < limit
+unfolding bounded valueOf inRange
+minus-limit v n t e = ltb-true n limit (rw e at t)
+
+-- the word of a result, and zero where there is none
+abbrev wordIn : Option ℤ → ℕ
+wordIn none = 0
+wordIn (some z) = wordOf z
+
+value-word : (v : Value) → wordOfValue v ≡ wordIn (valueOf v)
+unfolding wordOfValue valueOf wordOf
+value-word Nothing = refl
+value-word (Plus n) = refl
+value-word (Minus n) = refl
+
+-- the words as the code has them are the definition's
+pub word-same : (v : Value) (z : ℤ) → valueOf v ≡ some z → wordOfValue v ≡ wordOf z
+word-same v z h = value-word v ∙ ap wordIn h
+
+result-words : (read : ℕ → ℕ → Option ℤ) (es : List Expression) (zs : List ℤ) → results read es ≡ some zs
+    → map wordOf zs ≡ map (λ e. wordIn (result read e)) es
+unfolding results joined
+result-words read [] zs h = ap (map wordOf) (sym (Option·some-injective [] zs h))
+result-words read (e ∷ es) zs h =
+    let parts = joined-some (result read e) (results read es) zs h in
+    ap (map wordOf) (parts .4)
+    ∙ ap₂ _∷_ (sym (ap wordIn (parts .2))) (result-words read es (parts .1) (parts .3))
+
+-- ---- one by one
+
+module _ (read : ℕ → ℕ → Option ℤ) (p : Pattern Origin) where
+  -- attribute i has a fit result
+  abbrev pub fitAt : ℕ → Bool
+  fitAt i = indexLike (p .kind) (result read (getD (p .attributes) i anything))
+
+  pub fit-tested : {b : Bool} (i kind : ℕ) (v : Value) → kind ≡ p .kind → valueOf v ≡ result read (getD (p .attributes) i anything)
+      → b ≡ indexLike kind (valueOf v) → b ≡ fitAt i
+  fit-tested i kind v k e h = rw (h, k, e)
+
+  -- the words of the first i attributes
+  abbrev pub wordsTo : ℕ → List ℕ
+  wordsTo i = padded attributeLimit 0 (map (λ e. wordIn (result read e)) (take i (p .attributes)))
+
+  vertex-given : isGiven (vertexResults read p) ≡ all (λ e. indexLike (p .kind) (result read e)) (p .attributes)
+  unfolding vertexResults kept
+  vertex-given = checked-given read (p .kind) (p .attributes)
+
+  pub words-more : (i : ℕ) (v : Value) → i < length (p .attributes) → length (p .attributes) ≤ attributeLimit
+      → valueOf v ≡ result read (getD (p .attributes) i anything) → set (wordsTo i) i (wordOfValue v) ≡ wordsTo (i + 1)
+  words-more i v l fits h =
+      filled-more (λ e. wordIn (result read e)) anything 0 attributeLimit (p .attributes) i (omega arith) l
+      (value-word v ∙ ap wordIn h) refl
+
+  -- an attribute without a fit result
+  pub vertex-lacks : (i : ℕ) (words : List ℕ) → i < length (p .attributes) → fitAt i ≡ false → Given (vertexResults read p) false words
+  vertex-lacks i words l f = record {
+    found = λ t. absurd (false≢true t);
+    lacking = λ _. none-given (vertexResults read p)
+        (vertex-given ∙ all-fails (λ e. indexLike (p .kind) (result read e)) anything (p .attributes) i l f);
+  }
+
+  -- all attributes have fit results
+  pub vertex-found : (i : ℕ) (words : List ℕ) → length (p .attributes) ≤ i → allBelow fitAt i ≡ true → words ≡ wordsTo i
+      → Given (vertexResults read p) true words
+  vertex-found i words m h w =
+      let best = given-values (vertexResults read p)
+      (vertex-given ∙ all-every (λ e. indexLike (p .kind) (result read e)) anything (p .attributes)
+      (λ k l. allBelow-at fitAt i k h (omega arith))) in
+      let same = result-words read (p .attributes) (best .0)
+      (vertex-results read p (best .0) (best .1)) in
+      record {
+        found = λ _. (best .0, best .1, w ∙ rw (take-all i (p .attributes) m, same));
+        lacking = λ f. absurd (true≢false f);
+      }

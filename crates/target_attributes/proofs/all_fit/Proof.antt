@@ -1,0 +1,123 @@
+-- The loop's invariant: the first t target vertices have fit results.
+-- Assumes nothing.
+use mathlib.Core.Path.{_≡_, refl, _∙_}
+use mathlib.Core.Bool.{true}
+use mathlib.Core.Option.{Option}
+use Prim.Native.Nat.{ℕ, _-_, _<_, _≤_}
+use native.Mathlib.Omega.{arith}
+use borrow.Author.Tests.{not-true, not-false}
+use lib.IntN.{ℤ}
+use lib.ListN.{length}
+use Rattle.definitions.specs.Lists.{allBelow}
+use Rattle.definitions.specs.Graph.{graphOf}
+use Rattle.definitions.specs.Rule.{Rule, ruleOf, targetOf}
+use Rattle.definitions.specs.Match.{readAttribute}
+use Rattle.definitions.specs.Rewriting.{vertexResults}
+use Rattle.laws.proofs.Lists.{allBelow-step}
+use Rattle.laws.proofs.Rule.{length-target}
+use Rattle.target_attributes.proofs.Laws.{vertexGiven, told-given, target-lacks, target-found}
+use Rattle.target_attributes.proofs.all_fit.Statement.{statement}
+use Rattle.target_attributes.proofs.all_fit.Tie as tie
+
+abbrev Inv-loop : tie.InvT-loop
+Inv-loop graph rule images count t₀ t =
+    (t ≤ count) × (allBelow (vertexGiven (readAttribute (graphOf graph) images) (ruleOf rule)) t ≡ true)
+
+abbrev μ-loop : tie.MeasureT-loop
+μ-loop graph rule images count t₀ t = count - t
+
+abbrev start : tie.At-loop Inv-loop μ-loop → tie.Start Inv-loop μ-loop
+start a = a .before .before .before .before
+
+abbrev reads : tie.Start Inv-loop μ-loop → ℕ → ℕ → Option ℤ
+reads s = readAttribute (graphOf (s .args .graph .now)) (s .args .images .now)
+
+abbrev decoded : tie.Start Inv-loop μ-loop → Rule
+decoded s = ruleOf (s .args .rule .now)
+
+-- a target vertex is left
+left : (c : tie.In-loop Inv-loop μ-loop) → c .before .loop .t < length (decoded (start (c .before)) .target)
+left c =
+    omega (
+      arith,
+      c .loop-test .taken,
+      c .before .before .target-count .ensures .0,
+      length-target (start (c .before) .args .rule .now),
+    )
+
+-- what is told of the vertex says whether it has fit results
+tested : (c : tie.After-vertex-words Inv-loop μ-loop)
+    → let a = c .before .before in
+    vertexGiven (reads (start a)) (decoded (start a)) (a .loop .t) ≡ c .vertex-words .result .ok
+tested c =
+    let a = c .before .before in
+    let s = start a in
+    told-given (vertexResults (reads s) (targetOf (decoded s) (a .loop .t))) (c .vertex-words .result .ok)
+    (c .vertex-words .result .words) (c .vertex-words .ensures)
+
+target-count-requires : tie.Need-target-count-requires Inv-loop μ-loop
+target-count-requires c κs = let s = c .before .before in omega (arith, s .pre .1 .0 .whole .size)
+
+loop-holds : tie.Need-loop-holds Inv-loop μ-loop
+unfolding allBelow
+loop-holds c = (omega arith, refl)
+
+vertex-words-requires : tie.Need-vertex-words-requires Inv-loop μ-loop
+vertex-words-requires c κs =
+    let s = start (c .before) in (
+      s .pre .0,
+      (
+        s .pre .1 .0,
+        (
+          s .pre .1 .1 .0,
+          (
+            s .pre .1 .1 .1,
+            omega (arith, c .loop-test .taken, c .before .before .target-count .ensures .0),
+          ),
+        ),
+      ),
+    )
+
+returns : tie.Need-returns Inv-loop μ-loop
+returns c =
+    let d = c .before .before in
+    let a = d .before .before in
+    let s = start a in
+    target-lacks (reads s) (decoded s) (a .loop .t) (left (d .before)) (tested d ∙ not-true _ (c .if1 .taken))
+
+add-t : tie.Need-add-t Inv-loop μ-loop
+add-t c = omega arith
+
+loop-less : tie.Need-loop-less Inv-loop μ-loop
+loop-less c = omega arith
+
+loop-again : tie.Need-loop-again Inv-loop μ-loop
+loop-again c =
+    let d = c .before .before in
+    let a = d .before .before in
+    let s = start a in (
+      omega arith,
+      allBelow-step (vertexGiven (reads s) (decoded s)) (a .loop .t) (a .loop .inv .1) (tested d ∙ not-false _ (c .if1 .left)),
+    )
+
+returns-2 : tie.Need-returns-2 Inv-loop μ-loop
+returns-2 c =
+    let a = c .before in
+    let s = start a in
+    target-found (reads s) (decoded s) (a .loop .t)
+    (omega (arith, c .loop-test .left, a .before .target-count .ensures .0, length-target (s .args .rule .now))) (a .loop .inv .1)
+
+pub all-fit-spec : {M : Type 1} → statement M
+all-fit-spec =
+    tie.close
+    (tie.spec
+    Inv-loop
+    μ-loop
+    target-count-requires
+    loop-holds
+    vertex-words-requires
+    returns
+    add-t
+    loop-less
+    loop-again
+    returns-2)

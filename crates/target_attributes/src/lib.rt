@@ -1,0 +1,102 @@
+// The attributes of the target vertices: their expressions' results for the match, read from the old table, as 32-bit words.
+use attributes::target_value;
+use definitions::ATTRIBUTE_LIMIT;
+use definitions::SIDE_LIMIT;
+use numbers::Value;
+use rule_fields::target_attribute_count;
+use rule_fields::target_count;
+use rule_fields::target_kind;
+ghost use mathlib.Core.Path.{_≡_};
+ghost use mathlib.Core.Option.{some};
+ghost use mathlib.Core.Bool.{true};
+ghost use Prim.Native.Nat.{_<_};
+ghost use lib.ListN.{length};
+ghost use Rattle.definitions.specs.Graph.{graphOf};
+ghost use Rattle.definitions.specs.Rule.{sideLimit, targetCount, ruleOf, targetOf};
+ghost use Rattle.definitions.specs.Match.{readAttribute};
+ghost use Rattle.definitions.specs.Rewriting.{vertexResults, targetResults};
+ghost use Rattle.numbers.specs.Value.{valueOf, bounded};
+ghost use Rattle.graph_fields.specs.Readable as graphs;
+ghost use Rattle.rule_fields.specs.Readable.{Readable};
+ghost use Rattle.attributes.specs.Evaluable.{Evaluable};
+ghost use Rattle.target_attributes.specs.Words.{wordOfValue, indexLike, Given, isGiven};
+
+// The words of a vertex's attributes, where `ok`; zero stands in the unused places.
+pub struct Words {
+    pub ok: bool,
+    pub words: [u32; ATTRIBUTE_LIMIT],
+}
+
+// The 32-bit word for a result.
+fn word_of(value: Value) -> u32
+    requires { ⌜ bounded (valueOf value) ≡ true ⌝ }
+    ensures { λ r. ⌜ r ≡ wordOfValue value ⌝ }
+{
+    match value {
+        Value::Nothing => 0,
+        Value::Plus(n) => n as u32,
+        Value::Minus(n) => (4294967295 - n) as u32,
+    }
+}
+
+// Whether a result may be an attribute of a vertex of this kind: there is one, and for a Proj it is at least 1.
+fn is_fit(kind: usize, value: Value) -> bool
+    ensures { λ r. ⌜ r ≡ indexLike kind (valueOf value) ⌝ }
+{
+    match value {
+        Value::Nothing => return false,
+        Value::Plus(n) => {
+            if kind == 5 {
+                return 0 < n;
+            }
+            return true;
+        }
+        Value::Minus(_) => return kind != 5,
+    }
+}
+
+// The attributes of target vertex t.
+pub fn vertex_words(graph: &[u8], rule: &[u8], images: &[u16; SIDE_LIMIT], t: usize) -> Words
+    requires { ⌜ graphs.Readable (now graph) ⌝ }
+    requires { ⌜ Readable (now rule) ⌝ }
+    requires { ⌜ Evaluable (now rule) ⌝ }
+    requires { ⌜ length (now images) ≡ sideLimit ⌝ }
+    requires { ⌜ t < targetCount (now rule) ⌝ }
+    ensures { λ r. ⌜ Given (vertexResults (readAttribute (graphOf (now (graph .entry))) (now (images .entry)))
+        (targetOf (ruleOf (now (rule .entry))) t)) (r .ok) (r .words) ⌝ }
+{
+    let kind = target_kind(rule, t);
+    let count = target_attribute_count(rule, t);
+    let mut words = [0u32; ATTRIBUTE_LIMIT];
+    let mut i = 0;
+    while i < count {
+        let value = target_value(graph, rule, images, t, i);
+        if !is_fit(kind, value) {
+            return Words { ok: false, words };
+        }
+        words[i] = word_of(value);
+        i += 1;
+    }
+    Words { ok: true, words }
+}
+
+// Whether every attribute of every target vertex has a fit result.
+pub fn all_fit(graph: &[u8], rule: &[u8], images: &[u16; SIDE_LIMIT]) -> bool
+    requires { ⌜ graphs.Readable (now graph) ⌝ }
+    requires { ⌜ Readable (now rule) ⌝ }
+    requires { ⌜ Evaluable (now rule) ⌝ }
+    requires { ⌜ length (now images) ≡ sideLimit ⌝ }
+    ensures { λ r. ⌜ r ≡ isGiven (targetResults (readAttribute (graphOf (now (graph .entry))) (now (images .entry)))
+        (ruleOf (now (rule .entry)) .target)) ⌝ }
+{
+    let count = target_count(rule);
+    let mut t = 0;
+    while t < count {
+        let found = vertex_words(graph, rule, images, t);
+        if !found.ok {
+            return false;
+        }
+        t += 1;
+    }
+    true
+}
