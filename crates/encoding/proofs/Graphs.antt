@@ -1,0 +1,108 @@
+-- The graph of a sound block: its tables are a sound graph's, its attributes are words, and its block is that block.
+-- Assumes nothing.
+use mathlib.Core.Path.{_≡_, refl, sym, ap, _∙_}
+use mathlib.Core.Bool.{true, false, and-false}
+use mathlib.Core.List.{List, List·Memᴰ}
+use mathlib.Core.Logic.{⊎-elim}
+use Prim.Native.Nat.{ℕ, _+_, _*_, _^_, _<_}
+use native.Mathlib.Omega.{arith}
+use borrow.Author.Tests.{eqb-true}
+use lib.Dec.{eqb}
+use lib.ListN.{length, getD}
+use lib.Seq.{ext-getD}
+use Rattle.definitions.specs.Fields.{byteAt, Bytes, u32At, signed}
+use Rattle.definitions.specs.Operators.{kindProj, rowOf, kinds, shapeFits}
+use Rattle.definitions.specs.Graph.{slotCount, outputCount, recordAt, Slot, slotFrom, graphOf, slotBlock, headerBlock, graphBlock, atLeastOne, recordFits, SoundGraph}
+use Rattle.laws.proofs.Lists.{decided, needed}
+use Rattle.laws.proofs.Members.{tabulate-mem}
+use Rattle.laws.proofs.Operators.{row-attributes}
+use Rattle.laws.proofs.Graph.{slot-of, length-slots, length-outputs, length-inputs, length-attributes, attribute-of, header-size, slots-within, outputs-within, record-shape}
+use Rattle.encoding.specs.Tables.{slotFits, Table, Words}
+use Rattle.encoding.proofs.Pieces.{in-parts, in-pieces}
+use Rattle.encoding.proofs.Numbers.{u32-small}
+use Rattle.encoding.proofs.Records.{record-read}
+use Rattle.encoding.proofs.Headers.{header-read}
+use Rattle.encoding.proofs.Blocks.{block-length, header-held, record-held}
+
+-- ---- a slot follows its kind where its counts do and the index of a Proj is at least 1
+
+-- a Proj has one attribute
+proj-attribute : (operator n m : ℕ) → shapeFits kindProj operator n m ≡ true → m ≡ 1
+unfolding rowOf kinds
+proj-attribute operator n m fits = row-attributes kindProj operator n m fits refl
+
+-- so its index is there to be looked at
+pub follows : (s : Slot) → shapeFits (s .kind) (s .operator) (length (s .inputs)) (length (s .attributes)) ≡ true
+    → (s .kind ≡ kindProj → 0 < length (s .attributes) → atLeastOne (signed (getD (s .attributes) 0 0)) ≡ true) → slotFits s ≡ true
+unfolding slotFits
+follows s fits index =
+    ⊎-elim (λ (t : eqb (s .kind) kindProj ≡ true).
+    let proj = eqb-true (s .kind) kindProj t in
+    let count = proj-attribute (s .operator) (length (s .inputs)) (length (s .attributes)) (rw proj at fits) in
+    simp (fits, t, index proj (omega arith)))
+    (λ (t : eqb (s .kind) kindProj ≡ false). simp (fits, t))
+    (decided (eqb (s .kind) kindProj))
+
+-- a record that follows its kind gives such a slot
+module _ (block : List ℕ) (at : ℕ) (fits : recordFits block at ≡ true) where
+  index-read : byteAt block at ≡ kindProj → atLeastOne (signed (u32At block (at + 16))) ≡ true
+  unfolding recordFits
+  index-read proj = needed (atLeastOne (signed (u32At block (at + 16)))) fits (λ f. simp (proj, f, and-false))
+
+  slot-read : slotFits (slotFrom block at) ≡ true
+  unfolding slotFrom
+  slot-read =
+      follows (slotFrom block at)
+      (rw (length-inputs block at, length-attributes block at) (record-shape block at fits))
+      (λ proj l.
+      let first : at + 16 + 4 * 0 ≡ at + 16 = omega arith in
+      rw (attribute-of block at 0 0 (rw (length-attributes block at) at l), first) (index-read proj))
+
+pub table-of : (block : List ℕ) → SoundGraph block → Table (graphOf block)
+table-of block sound = record {
+  size = rw (length-slots block) (slots-within block (sound .header));
+  outputCount = rw (length-outputs block) (outputs-within block (sound .header));
+  shapes = λ k l.
+      let inside : k < slotCount block = omega (arith, length-slots block) in
+      rw (slot-of block k inside) (slot-read block (recordAt k) (sound .records k inside));
+  inputs = sound .inputs;
+  outputs = sound .outputs;
+}
+
+-- ---- attributes are read from four bytes
+
+word-read : (block : List ℕ) → Bytes block → (at w : ℕ) → List·Memᴰ w (slotFrom block at .attributes) → w < 2 ^ 32
+unfolding slotFrom
+word-read block bytes at w m =
+    let place = tabulate-mem (byteAt block (at + 3)) (λ i. u32At block (at + 16 + 4 * i)) m in
+    omega (arith, place .2, u32-small block bytes (at + 16 + 4 * place .0))
+
+pub words-of : (block : List ℕ) → Bytes block → Words (graphOf block)
+words-of block bytes k l w m =
+    word-read block bytes (recordAt k) w (rw (slot-of block k (omega (arith, length-slots block))) at m)
+
+-- ---- a sound block is the block of its graph
+
+module _ (block : List ℕ) (sound : SoundGraph block) (bytes : Bytes block) where
+  header-same : (i : ℕ) → i < 24 → byteAt (graphBlock (graphOf block)) i ≡ byteAt block i
+  header-same i l =
+      header-held (graphOf block) (table-of block sound) i l
+      ∙ ap (λ (n : ℕ). getD (headerBlock n (graphOf block .outputs)) i 0) (length-slots block)
+      ∙ header-read block (sound .header) bytes i l
+
+  record-same : (k i : ℕ) → k < slotCount block → i < 48
+      → byteAt (graphBlock (graphOf block)) (24 + (48 * k + i)) ≡ byteAt block (24 + (48 * k + i))
+  record-same k i l m =
+      let e : 24 + (48 * k + i) ≡ recordAt k + i = omega arith in
+      rw e (record-held (graphOf block) (table-of block sound) k (omega (arith, length-slots block)) i m
+      ∙ ap (λ (s : Slot). getD (slotBlock s) i 0) (slot-of block k l)
+      ∙ record-read block (recordAt k) (sound .records k l) bytes i m)
+
+  pub canonical : graphBlock (graphOf block) ≡ block
+  canonical =
+      let length-same : length (graphBlock (graphOf block)) ≡ recordAt (slotCount block) =
+      block-length (graphOf block) (table-of block sound) ∙ ap recordAt (length-slots block) in
+      let Same : ℕ → Type 0 = λ i. byteAt (graphBlock (graphOf block)) i ≡ byteAt block i in
+      ext-getD 0 (graphBlock (graphOf block)) block (length-same ∙ sym (header-size block (sound .header)))
+      (λ i l. in-parts Same 24 (48 * slotCount block) header-same
+      (in-pieces (λ j. Same (24 + j)) 48 (slotCount block) (omega arith) record-same) i (omega arith))

@@ -1,0 +1,165 @@
+-- The header of a block: its 24 bytes, part by part; what a block holds that begins with them; and that a header that fits is the
+-- header of its counts and outputs.
+-- Assumes nothing.
+use mathlib.Core.Path.{_≡_, refl, sym, ap, _∙_}
+use mathlib.Core.Bool.{true, and-false}
+use mathlib.Core.List.{List, [], _∷_, _++_}
+use Prim.Native.Nat.{ℕ, zero, suc, _+_, _*_, _<_, _≤_}
+use native.Mathlib.Omega.{arith}
+use borrow.Author.Tests.{eq-eqb, eqb-true}
+use lib.Dec.{eqb}
+use lib.ListN.{length, getD, replicate, getD-replicate}
+use Rattle.definitions.specs.Lists.{within, padded, concatMap}
+use Rattle.definitions.specs.Fields.{byteAt, Bytes, u16At, filled, markFits, u16Bytes}
+use Rattle.definitions.specs.Graph.{slotLimit, outputLimit, unusedPlace, graphLetter, graphVersion, slotCount, outputCount, recordAt, graphOf, headerBlock, outputPlacesFit, headerFits}
+use Rattle.laws.proofs.Lists.{needed}
+use Rattle.laws.proofs.Graph.{length-outputs, output-of, few-outputs}
+use Rattle.encoding.proofs.Pieces.{in-parts, below-four, at-first, at-second, length-two, tabulated}
+use Rattle.encoding.proofs.Numbers.{length-u16, u16-back, u16-bytes, u16-unused, filled-every, filled-at}
+use Rattle.encoding.proofs.Places.{length-places, place-held, others-filled, places-held}
+
+-- ---- the parts of a header: the mark, seven 16-bit places, of which the outputs take what the counts leave, and zero bytes
+
+abbrev mark : List ℕ
+mark = 76 ∷ 71 ∷ graphLetter ∷ 0 ∷ []
+
+abbrev words : ℕ → List ℕ → List ℕ
+words n outputs = graphVersion ∷ n ∷ length outputs ∷ outputs
+
+abbrev wordPlaces : ℕ → List ℕ → List ℕ
+wordPlaces n outputs = concatMap u16Bytes (padded 7 unusedPlace (words n outputs))
+
+module _ (n : ℕ) (outputs : List ℕ) (few : length outputs ≤ outputLimit) where
+  parts : headerBlock n outputs ≡ mark ++ wordPlaces n outputs ++ replicate 6 0
+  unfolding headerBlock u16Bytes concatMap padded
+  parts = refl
+
+  few-words : length (words n outputs) ≤ 7
+  few-words = omega arith
+
+  upto-words : length (mark ++ wordPlaces n outputs) ≡ 18
+  upto-words = length-two mark (wordPlaces n outputs) 4 14 refl
+      (length-places u16Bytes 2 7 unusedPlace (words n outputs) length-u16 few-words)
+
+  pub length-header : length (headerBlock n outputs) ≡ 24
+  length-header = rw parts (length-two (mark ++ wordPlaces n outputs) (replicate 6 0) 18 6 upto-words refl)
+
+  -- ---- and where they stand
+
+  word-byte : (i : ℕ) → i < 14 → getD (headerBlock n outputs) (4 + i) 0 ≡ getD (wordPlaces n outputs) i 0
+  word-byte i l =
+      rw parts (at-first (mark ++ wordPlaces n outputs) (replicate 6 0) 18 (4 + i) 0 upto-words (omega arith)
+      ∙ at-second mark (wordPlaces n outputs) 4 i 0 refl)
+
+  zero-byte : (i : ℕ) → i < 6 → getD (headerBlock n outputs) (18 + i) 0 ≡ 0
+  zero-byte i l =
+      rw parts (at-second (mark ++ wordPlaces n outputs) (replicate 6 0) 18 i 0 upto-words ∙ getD-replicate 6 i 0 0 l)
+
+  -- ---- a block that begins with the header
+
+  module _ (block : List ℕ) (held : (i : ℕ) → i < 24 → byteAt block i ≡ getD (headerBlock n outputs) i 0) where
+    words-held : (i : ℕ) → i < 14 → byteAt block (4 + i) ≡ getD (wordPlaces n outputs) i 0
+    words-held i l = held (4 + i) (omega arith) ∙ word-byte i l
+
+    -- a place holds its number, where the number fits
+    word-back : (k : ℕ) → k < 7 → getD (words n outputs) k unusedPlace < 65536
+        → u16At block (4 + 2 * k) ≡ getD (words n outputs) k unusedPlace
+    word-back k l =
+        u16-back block (4 + 2 * k) (getD (words n outputs) k unusedPlace)
+        (place-held u16Bytes 2 7 unusedPlace (words n outputs) length-u16 few-words block 4 words-held k l)
+
+    pub count-back : n < 65536 → slotCount block ≡ n
+    count-back = word-back 1 (omega arith)
+
+    pub output-count-back : outputCount block ≡ length outputs
+    output-count-back = word-back 2 (omega arith) (omega arith)
+
+    pub outputs-back : ((k : ℕ) → k < length outputs → getD outputs k unusedPlace < 65536) → graphOf block .outputs ≡ outputs
+    unfolding graphOf
+    outputs-back small =
+        tabulated (outputCount block) (λ k. u16At block (10 + 2 * k)) outputs unusedPlace output-count-back
+        (λ k l.
+        let e : 4 + 2 * suc (suc (suc k)) ≡ 10 + 2 * k = omega arith in
+        rw e at (word-back (suc (suc (suc k))) (omega arith) (small k l)))
+
+    -- ---- the header fits where the counts do
+
+    marked : markFits block graphLetter ≡ true
+    unfolding markFits headerBlock
+    marked = simp (held 0 (omega arith), held 1 (omega arith), held 2 (omega arith), held 3 (omega arith))
+
+    unused-outputs : filled block (10 + 2 * length outputs) 18 255 ≡ true
+    unused-outputs =
+        let e : 4 + 2 * length (words n outputs) ≡ 10 + 2 * length outputs = omega arith in
+        rw e at (others-filled u16Bytes 2 7 unusedPlace (words n outputs) length-u16 few-words block 4 18 255
+        (omega arith) u16-unused refl words-held)
+
+    zero-end : filled block 18 24 0 ≡ true
+    zero-end = filled-every block 18 24 0 (λ i l. held (18 + i) (omega arith) ∙ zero-byte i (omega arith))
+
+    pub header-fits : length block ≡ recordAt n → within 1 n slotLimit ≡ true → within 1 (length outputs) outputLimit ≡ true
+        → n < 65536 → headerFits block ≡ true
+    unfolding headerFits outputPlacesFit
+    header-fits size slots places small =
+        simp (
+          count-back small,
+          output-count-back,
+          eq-eqb (length block) (recordAt n) size,
+          marked,
+          word-back 0 (omega arith) (omega arith),
+          slots,
+          places,
+          unused-outputs,
+          zero-end,
+        )
+
+-- ---- a header that fits is that of its counts and outputs
+
+module _ (block : List ℕ) (fits : headerFits block ≡ true) where
+  few-outputs-read : length (graphOf block .outputs) ≤ outputLimit
+  few-outputs-read = rw (length-outputs block) (few-outputs block fits)
+
+  mark-read : (i : ℕ) → i < 4 → getD (headerBlock (slotCount block) (graphOf block .outputs)) i 0 ≡ byteAt block i
+  unfolding headerFits markFits headerBlock
+  mark-read =
+      below-four (λ i. getD (headerBlock (slotCount block) (graphOf block .outputs)) i 0 ≡ byteAt block i)
+      (sym (eqb-true _ _ (needed (eqb (byteAt block 0) 76) fits (λ f. simp (f, and-false)))))
+      (sym (eqb-true _ _ (needed (eqb (byteAt block 1) 71) fits (λ f. simp (f, and-false)))))
+      (sym (eqb-true _ _ (needed (eqb (byteAt block 2) graphLetter) fits (λ f. simp (f, and-false)))))
+      (sym (eqb-true _ _ (needed (eqb (byteAt block 3) 0) fits (λ f. simp (f, and-false)))))
+
+  word-read : (k : ℕ) → k < length (words (slotCount block) (graphOf block .outputs))
+      → getD (words (slotCount block) (graphOf block .outputs)) k unusedPlace ≡ u16At block (4 + 2 * k)
+  unfolding headerFits
+  word-read zero l = sym (eqb-true _ _ (needed (eqb (u16At block 4) graphVersion) fits (λ f. simp (f, and-false))))
+  word-read (suc zero) l = refl
+  word-read (suc (suc zero)) l = length-outputs block
+  word-read (suc (suc (suc k))) l =
+      let e : 4 + 2 * suc (suc (suc k)) ≡ 10 + 2 * k = omega arith in
+      rw e (output-of block k unusedPlace (omega (arith, length-outputs block)))
+
+  unused-outputs-read : filled block (4 + 2 * length (words (slotCount block) (graphOf block .outputs))) 18 255 ≡ true
+  unfolding headerFits outputPlacesFit
+  unused-outputs-read =
+      let e : 4 + 2 * length (words (slotCount block) (graphOf block .outputs)) ≡ 10 + 2 * outputCount block =
+      omega (arith, length-outputs block) in
+      rw e (needed (filled block (10 + 2 * outputCount block) 18 255) fits (λ f. simp (f, and-false)))
+
+  zero-end-read : (i : ℕ) → i < 6 → byteAt block (18 + i) ≡ 0
+  unfolding headerFits
+  zero-end-read = filled-at block 18 24 0 (needed (filled block 18 24 0) fits (λ f. simp (f, and-false)))
+
+  pub header-read : Bytes block → (i : ℕ) → i < 24
+      → getD (headerBlock (slotCount block) (graphOf block .outputs)) i 0 ≡ byteAt block i
+  header-read bytes =
+      let n = slotCount block in
+      let outputs = graphOf block .outputs in
+      let Same : ℕ → Type 0 = λ i. getD (headerBlock n outputs) i 0 ≡ byteAt block i in
+      in-parts Same 18 6
+      (in-parts Same 4 14 mark-read
+      (λ i l. word-byte n outputs few-outputs-read i l
+      ∙ places-held u16Bytes 2 7 unusedPlace (words n outputs) length-u16 (few-words n outputs few-outputs-read) block 4 18 255
+      (omega arith) u16-unused refl
+      (λ k h j m. ap (λ (x : ℕ). getD (u16Bytes x) j 0) (word-read k h) ∙ u16-bytes block bytes (4 + 2 * k) j m)
+      unused-outputs-read i l))
+      (λ i l. zero-byte n outputs few-outputs-read i l ∙ sym (zero-end-read i l))
