@@ -1,0 +1,21 @@
+-- The record of an Empty slot, field by field.
+-- Assumes nothing.
+use mathlib.Core.Path.{refl}
+use Rattle.definitions.specs.Lists.{padded}
+use Rattle.definitions.specs.Graph.{emptySlot}
+use Rattle.new_table.proofs.empty_record.Statement.{statement}
+use Rattle.new_table.proofs.empty_record.Tie as tie
+
+returns : tie.Need-returns
+unfolding emptySlot padded
+returns c = record {
+  kind = refl;
+  operator = refl;
+  inputCount = refl;
+  attributeCount = refl;
+  inputs = refl;
+  attributes = refl;
+}
+
+pub empty-record-spec : {M : Type 1} → statement M
+empty-record-spec = tie.close (tie.spec returns)

@@ -1,0 +1,57 @@
+-- What the new table's slots are made from, and the facts that their making asks.
+-- Assumes nothing.
+use mathlib.Core.Path.{_≡_}
+use mathlib.Core.Bool.{true}
+use mathlib.Core.List.{List, [], map}
+use mathlib.Core.Option.{Option, none, some}
+use Prim.Native.Nat.{ℕ, _<_}
+use lib.IntN.{ℤ}
+use lib.ListN.{length, getD}
+use Rattle.definitions.specs.Graph.{unusedPlace, Slot, Graph, graphOf}
+use Rattle.definitions.specs.Rule.{sideLimit, ruleOf}
+use Rattle.definitions.specs.Match.{readAttribute}
+use Rattle.definitions.specs.Rewriting.{targetResults, placeOf, redirect, newGraph}
+use Rattle.graph_fields.specs.Readable as graphs
+use Rattle.rule_fields.specs.Readable as rules
+use Rattle.attributes.specs.Evaluable.{Evaluable}
+use Rattle.target_attributes.specs.Words.{isGiven}
+use Rattle.redirection.specs.Moves.{Resolvable, moved}
+use Rattle.redirection.specs.declared.Redirection.{Redirection}
+
+-- a slot whose input places are passed through `move`
+unfoldable pub movedSlot : (ℕ → ℕ) → Slot → Slot
+movedSlot move s = record {
+  kind = s .kind;
+  operator = s .operator;
+  inputs = map move (s .inputs);
+  attributes = s .attributes;
+}
+
+-- the results, where there are such
+unfoldable pub valuesOf : {A : Type 0} → Option (List A) → List A
+valuesOf none = []
+valuesOf (some values) = values
+
+-- the results of the target vertices' attributes
+unfoldable pub fitResults : List ℕ → List ℕ → List ℕ → Option (List (List ℤ))
+fitResults graph rule images = targetResults (readAttribute (graphOf graph) images) (ruleOf rule .target)
+
+-- the table that a rewriting of the block would leave
+unfoldable pub newTable : List ℕ → List ℕ → List ℕ → Graph
+newTable graph rule images = newGraph (graphOf graph) (ruleOf rule) images (valuesOf (fitResults graph rule images))
+
+-- layouts that can be read, results for every target attribute, and the target vertices' places
+pub record Prepared (graph rule images places : List ℕ) : Type 0 where
+  pub oldTable : graphs.Readable graph
+  pub patterns : rules.Readable rule
+  pub layered : rules.Layered rule
+  pub evaluable : Evaluable rule
+  pub resolvable : Resolvable rule
+  pub imageSize : length images ≡ sideLimit
+  pub placeSize : length places ≡ sideLimit
+  pub placed : (t : ℕ) → t < sideLimit → getD places t unusedPlace ≡ placeOf (graphOf graph) (ruleOf rule) images t
+  pub known : isGiven (fitResults graph rule images) ≡ true
+
+-- the moves are the redirection of the rewriting
+abbrev pub Redirects : List ℕ → List ℕ → List ℕ → Redirection → Type 0
+Redirects graph rule images way = (v : ℕ) → moved way v ≡ redirect (graphOf graph) (ruleOf rule) images v
