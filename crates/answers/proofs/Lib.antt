@@ -1,2 +1,9 @@
 pub mod Maps
+pub mod Blocks
 pub mod Matching
+pub mod Fit
+pub mod Room
+pub mod Exclusive
+pub mod Rewriting
+pub mod Demands
+pub mod Unchanged

@@ -1,41 +1,26 @@
 -- A map block, read back: the images of the source vertices, and 65535 from there on.
 -- Assumes nothing.
-use mathlib.Core.Path.{_≡_, refl, ap, _∙_}
-use mathlib.Core.List.{List, [], _∷_}
-use Prim.Native.Nat.{ℕ, zero, suc, _+_, _*_, _/_, _%_, _<_, _≤_}
-use native.Mathlib.Nat.{not-suc-le-zero, le-of-suc-le-suc}
+use mathlib.Core.Path.{_≡_, sym, ap, _∙_}
+use mathlib.Core.List.{List}
+use mathlib.Core.Option.{some}
+use Prim.Native.Nat.{ℕ, _*_, _<_, _≤_}
 use native.Mathlib.Omega.{arith}
 use lib.ListN.{length, getD, List·getD-eq-default}
 use lib.Seq.{ext-getD}
-use Rattle.definitions.specs.Lists.{padded, concatMap}
 use Rattle.definitions.specs.Fields.{u16At, u16Bytes}
-use Rattle.definitions.specs.Graph.{unusedPlace}
-use Rattle.definitions.specs.Rule.{sideLimit}
-use Rattle.definitions.specs.Match.{imageOf}
+use Rattle.definitions.specs.Graph.{unusedPlace, graphOf, SoundGraph}
+use Rattle.definitions.specs.Rule.{sideLimit, sourceCount, ruleOf, SoundRule}
+use Rattle.definitions.specs.Match.{imageOf, Match, leastMatch}
 use Rattle.definitions.specs.Operations.{mapBytes, mapBlock}
 use Rattle.laws.proofs.Lists.{length-tabulate, getD-tabulate}
-use Rattle.laws.proofs.Padded.{length-padded, padded-at}
+use Rattle.laws.proofs.Graph.{length-slots, few-slots}
+use Rattle.laws.proofs.Rule.{length-source, few-sources}
+use Rattle.laws.proofs.Match.{image-inside}
+use Rattle.theory.proofs.Fixing.{sound-fixing}
+use Rattle.theory.proofs.Least.{least-match}
+use Rattle.encoding.proofs.Numbers.{length-u16, u16-back}
+use Rattle.encoding.proofs.Places.{length-places, place-at}
 use Rattle.answers.specs.Written.{imagesIn}
-
--- ---- numbers of two bytes each
-
--- two bytes hold a number below 65536
-u16-back : (n : ℕ) → n < 65536 → n % 256 + 256 * (n / 256 % 256) ≡ n
-u16-back n l = omega arith
-
-u16s-at : (xs : List ℕ) (j d : ℕ) → j < length xs → getD xs j d < 65536 → u16At (concatMap u16Bytes xs) (2 * j) ≡ getD xs j d
-unfolding concatMap u16At u16Bytes
-u16s-at [] j d l s = absurd (not-suc-le-zero l)
-u16s-at (x ∷ xs) zero d l s = u16-back x s
-u16s-at (x ∷ xs) (suc j) d l s =
-    let low : 2 * suc j ≡ suc (suc (2 * j)) = omega arith in
-    let high : suc (suc (2 * j)) + 1 ≡ suc (suc (2 * j + 1)) = omega arith in
-    rw (low, high) (u16s-at xs j d (le-of-suc-le-suc l) s)
-
-u16s-length : (xs : List ℕ) → length (concatMap u16Bytes xs) ≡ 2 * length xs
-unfolding concatMap u16Bytes
-u16s-length [] = refl
-u16s-length (x ∷ xs) = omega (arith, u16s-length xs)
 
 -- ---- what a caller reads
 
@@ -52,31 +37,70 @@ module _ (map : List ℕ) (n : ℕ) where
 -- ---- the map block of images that two bytes hold
 
 module _ (found : List ℕ) (fits : length found ≤ sideLimit) where
-  pub map-length : length (mapBlock found) ≡ mapBytes
+  map-length : length (mapBlock found) ≡ mapBytes
   unfolding mapBlock
-  map-length =
-      u16s-length (padded sideLimit unusedPlace found) ∙ ap (λ (n : ℕ). 2 * n) (length-padded unusedPlace sideLimit found fits)
+  map-length = length-places u16Bytes 2 sideLimit unusedPlace found length-u16 fits
 
-  pub map-at : (j : ℕ) → j < sideLimit → imageOf found j < 65536 → u16At (mapBlock found) (2 * j) ≡ imageOf found j
+  map-at : (j : ℕ) → j < sideLimit → imageOf found j < 65536 → u16At (mapBlock found) (2 * j) ≡ imageOf found j
   unfolding mapBlock imageOf
   map-at j l s =
-      let same : getD (padded sideLimit unusedPlace found) j unusedPlace ≡ getD found j unusedPlace =
-      padded-at unusedPlace sideLimit found j in
-      u16s-at (padded sideLimit unusedPlace found) j unusedPlace (omega (arith, length-padded unusedPlace sideLimit found fits))
-      (rw same s) ∙ same
+      u16-back (mapBlock found) (2 * j) (imageOf found j)
+      (λ i. place-at u16Bytes 2 sideLimit unusedPlace found length-u16 fits j i l) s
 
   -- past the images stands 65535
-  pub map-rest : (j : ℕ) → length found ≤ j → j < sideLimit → u16At (mapBlock found) (2 * j) ≡ unusedPlace
+  map-rest : (j : ℕ) → length found ≤ j → j < sideLimit → u16At (mapBlock found) (2 * j) ≡ unusedPlace
   unfolding imageOf
   map-rest j past l =
       let none : imageOf found j ≡ unusedPlace = List·getD-eq-default found unusedPlace past in
       map-at j l (omega arith) ∙ none
 
   -- and before it the images themselves
-  pub map-images : ((j : ℕ) → j < length found → imageOf found j < 65536) → imagesIn (mapBlock found) (length found) ≡ found
+  map-images : ((j : ℕ) → j < length found → imageOf found j < 65536) → imagesIn (mapBlock found) (length found) ≡ found
   unfolding imageOf
   map-images small =
       ext-getD unusedPlace (imagesIn (mapBlock found) (length found)) found (images-length (mapBlock found) (length found))
       (λ j l.
       let inside : j < length found = rw (images-length (mapBlock found) (length found)) at l in
       images-at (mapBlock found) (length found) j unusedPlace inside ∙ map-at j (omega arith) (small j inside))
+
+-- ---- the map block of the least match
+
+module _ (graph rule : List ℕ) (start : ℕ) (images : List ℕ) (sound : SoundGraph graph) (soundRule : SoundRule rule)
+    (least : leastMatch (graphOf graph) (ruleOf rule) start ≡ some images) where
+  pub least-is : Match (graphOf graph) (ruleOf rule) images
+  least-is = least-match (graphOf graph) (ruleOf rule) (sound-fixing rule soundRule) start images least .isMatch
+
+  least-length : length images ≡ sourceCount rule
+  least-length = least-is .size ∙ length-source rule
+
+  least-fits : length images ≤ sideLimit
+  least-fits = omega (arith, least-length, few-sources rule (soundRule .header))
+
+  -- an image is a slot, so below the slot count, which is at most 512
+  least-small : (j : ℕ) → j < length images → imageOf images j < 65536
+  least-small j l =
+      omega (
+        arith,
+        image-inside (graphOf graph) (ruleOf rule) images j least-is (rw (least-is .size) at l),
+        length-slots graph,
+        few-slots graph (sound .header),
+      )
+
+  -- a map that holds its block
+  module _ (after : List ℕ) (written : after ≡ mapBlock images) where
+    -- its first S numbers are the images
+    pub least-told : leastMatch (graphOf graph) (ruleOf rule) start ≡ some (imagesIn after (sourceCount rule))
+    least-told =
+        let back : imagesIn after (sourceCount rule) ≡ images =
+        ap (λ (m : List ℕ). imagesIn m (sourceCount rule)) written
+        ∙ ap (imagesIn (mapBlock images)) (sym least-length)
+        ∙ map-images images least-fits least-small in
+        least ∙ ap some (sym back)
+
+    -- the others are 65535
+    pub least-rest : (j : ℕ) → sourceCount rule ≤ j → j < sideLimit → u16At after (2 * j) ≡ unusedPlace
+    least-rest j past l =
+        ap (λ (m : List ℕ). u16At m (2 * j)) written ∙ map-rest images least-fits j (omega (arith, least-length)) l
+
+    pub least-bytes : length after ≡ mapBytes
+    least-bytes = ap length written ∙ map-length images least-fits

@@ -1,0 +1,330 @@
+-- What the replies to a request for a rewriting mean, for the C side: theorems from the contract of lg_rewrite alone.
+-- Assumes nothing.
+use mathlib.Core.Path.{_≡_, refl, sym, ap, _∙_, subst}
+use mathlib.Core.Bool.{true, false, not}
+use mathlib.Core.List.{List}
+use mathlib.Core.Logic.{_⊎_, inl, inr, ⊎-elim}
+use mathlib.Core.Option.{none, some}
+use Prim.Native.Nat.{ℕ, _*_, _<_, _≤_}
+use native.Mathlib.Omega.{arith}
+use borrow.Author.Tests.{not-false}
+use lib.IntN.{ℤ}
+use lib.ListN.{length}
+use Rattle.definitions.specs.declared.Reply.the-variants.{Done}
+use Rattle.definitions.specs.Fields.{u16At}
+use Rattle.definitions.specs.Paths.{Acyclic}
+use Rattle.definitions.specs.Reply.{badMapLength, badGraph, badRule, noMatch, noResult, noRoom, newCycle, refused, packed}
+use Rattle.definitions.specs.Graph.{unusedPlace, Graph, graphOf, inputsOf, graphBlock, hasCycle, SoundGraph}
+use Rattle.definitions.specs.Rule.{sideLimit, sourceCount, Rule, ruleOf, SoundRule}
+use Rattle.definitions.specs.Match.{readAttribute, Match, leastMatch}
+use Rattle.definitions.specs.Rewriting.{targetResults, hasRoom, newGraph}
+use Rattle.definitions.specs.Operations.{Outcome, outcome, atReturn, returned, mapBytes, mapBlock, accepted, turnedDown, rewritten, replaced, rewrite}
+use Rattle.laws.proofs.Lists.{decided, true-not-false, option-either}
+use Rattle.laws.proofs.Reply.{packed-refused}
+use Rattle.laws.proofs.Rewriting.{rewritten-unfit, rewritten-full, rewritten-cyclic, rewritten-done}
+use Rattle.theory.proofs.Paths.{Table, acyclic-sound, acyclic-complete}
+use Rattle.theory.proofs.Results.{named-table}
+use Rattle.theory.proofs.Fixing.{sound-fixing}
+use Rattle.theory.proofs.Least.{none-left}
+use Rattle.replacement.proofs.Site.{Site, site}
+use Rattle.replacement.proofs.Table.{new-inputs}
+use Rattle.answers.specs.Written.{imagesIn}
+use Rattle.answers.specs.Rewritten.{Due}
+use Rattle.answers.proofs.Maps.{least-is, least-told, least-rest, least-bytes}
+use Rattle.answers.proofs.Blocks as Blocks
+use Rattle.answers.proofs.Blocks.{Staged, Good}
+use Rattle.answers.proofs.Fit.{none-unfit, some-fit}
+use Rattle.answers.proofs.Room.{room-enough, room-short}
+use Rattle.answers.proofs.Exclusive.{due-one}
+
+-- The contract of lg_rewrite: reply, graph bytes and map bytes at the return are those of the definition. `graph`, `rule` and
+-- `before` are the lent bytes as they came, the last those of the map.
+abbrev pub Rewrote : List ℕ → List ℕ → ℕ → List ℕ → ℕ → List ℕ → List ℕ → Type 0
+Rewrote graph rule start before reply graphAfter after =
+    atReturn reply graphAfter after ≡ returned (rewrite graph rule start before)
+
+-- ---- reply 7: the test for a cycle is right about the new table
+
+module _ (g : Graph) (r : Rule) (images : List ℕ) (values : List (List ℤ)) (at : Site g r images) where
+  -- what its inputs name is among its slots, so the theorems about paths hold of it
+  new-slots : Table (inputsOf (newGraph g r images values)) (length (newGraph g r images values .slots))
+  new-slots = named-table (newGraph g r images values) (new-inputs g r images values at)
+
+  pub free-acyclic : hasCycle (newGraph g r images values) ≡ false → Acyclic (inputsOf (newGraph g r images values))
+  unfolding hasCycle
+  free-acyclic h = acyclic-sound new-slots (not-false _ h)
+
+  acyclic-free : Acyclic (inputsOf (newGraph g r images values)) → hasCycle (newGraph g r images values) ≡ false
+  unfolding hasCycle
+  acyclic-free acyclic = ap not (acyclic-complete new-slots acyclic)
+
+-- ---- what good blocks come to, in document 01's order
+
+module _ (graph rule : List ℕ) (start : ℕ) (before : List ℕ) where
+  -- the graph and the rule for which the lent blocks stand
+  abbrev g : Graph
+  g = graphOf graph
+
+  abbrev r : Rule
+  r = ruleOf rule
+
+  abbrev new : List ℕ → List (List ℤ) → Graph
+  new images values = newGraph g r images values
+
+  abbrev Least : List ℕ → Type 0
+  Least images = leastMatch g r start ≡ some images
+
+  abbrev Values : List ℕ → List (List ℤ) → Type 0
+  Values images values = targetResults (readAttribute g images) (r .target) ≡ some values
+
+  -- what a call on good blocks comes to
+  rest : Outcome
+  rest = elim (leastMatch g r start) [
+    | none ↦ outcome (refused noMatch) graph before
+    | some found ↦ replaced graph rule before found
+  ]
+
+  none-rest : leastMatch g r start ≡ none → rest ≡ outcome (refused noMatch) graph before
+  unfolding rest
+  none-rest e = rw (e, rest)
+
+  -- the outcome of each test at the least match
+  module _ (images : List ℕ) (least : Least images) where
+    down-rest : (n : ℕ) → rewritten g r images ≡ turnedDown n → rest ≡ outcome (refused n) graph before
+    unfolding rest replaced
+    down-rest n e = rw (least, rest) (rw (e, replaced))
+
+    accepted-rest : (made : Graph) → rewritten g r images ≡ accepted made → rest ≡ outcome Done (graphBlock made) (mapBlock images)
+    unfolding rest replaced
+    accepted-rest made e = rw (least, rest) (rw (e, replaced))
+
+    unfit-rest : targetResults (readAttribute g images) (r .target) ≡ none → rest ≡ outcome (refused noResult) graph before
+    unfit-rest e = down-rest noResult (rewritten-unfit g r images e)
+
+    module _ (values : List (List ℤ)) (have : Values images values) where
+      full-rest : hasRoom g r images ≡ false → rest ≡ outcome (refused noRoom) graph before
+      full-rest h = down-rest noRoom (rewritten-full g r images values have h)
+
+      cyclic-rest : hasRoom g r images ≡ true → hasCycle (new images values) ≡ true → rest ≡ outcome (refused newCycle) graph before
+      cyclic-rest h c = down-rest newCycle (rewritten-cyclic g r images values have h c)
+
+      done-rest : hasRoom g r images ≡ true → hasCycle (new images values) ≡ false
+          → rest ≡ outcome Done (graphBlock (new images values)) (mapBlock images)
+      done-rest h c = accepted-rest (new images values) (rewritten-done g r images values have h c)
+
+  -- why good blocks are refused, by the number
+  data Reason : ℕ → Type 0 where
+    unmatched : leastMatch g r start ≡ none → Reason noMatch
+    unfit : (images : List ℕ) → Least images → targetResults (readAttribute g images) (r .target) ≡ none → Reason noResult
+    full : (images : List ℕ) (values : List (List ℤ)) → Least images → Values images values → hasRoom g r images ≡ false
+        → Reason noRoom
+    cyclic : (images : List ℕ) (values : List (List ℤ)) → Least images → Values images values → hasRoom g r images ≡ true
+        → hasCycle (new images values) ≡ true → Reason newCycle
+
+  -- what the tests have shown, by the outcome that they come to
+  data Tested : Outcome → Type 0 where
+    refusing : (n : ℕ) → Reason n → Tested (outcome (refused n) graph before)
+    done : (images : List ℕ) (values : List (List ℤ)) → Least images → Values images values → hasRoom g r images ≡ true
+        → hasCycle (new images values) ≡ false → Tested (outcome Done (graphBlock (new images values)) (mapBlock images))
+
+  -- every call on good blocks comes to one of these, stage by stage, from the last
+  tested-values : (images : List ℕ) → Least images → (values : List (List ℤ)) → Values images values → Tested rest
+  tested-values images least values have =
+      ⊎-elim (λ (h : hasRoom g r images ≡ true).
+      ⊎-elim (λ (c : hasCycle (new images values) ≡ true).
+      subst Tested (sym (cyclic-rest images least values have h c)) (refusing newCycle (cyclic images values least have h c)))
+      (λ (c : hasCycle (new images values) ≡ false).
+      subst Tested (sym (done-rest images least values have h c)) (done images values least have h c))
+      (decided (hasCycle (new images values))))
+      (λ (h : hasRoom g r images ≡ false).
+      subst Tested (sym (full-rest images least values have h)) (refusing noRoom (full images values least have h)))
+      (decided (hasRoom g r images))
+
+  tested-match : (images : List ℕ) → Least images → Tested rest
+  tested-match images least =
+      ⊎-elim (λ (e : targetResults (readAttribute g images) (r .target) ≡ none).
+      subst Tested (sym (unfit-rest images least e)) (refusing noResult (unfit images least e)))
+      (λ (f : (values : List (List ℤ)) × Values images values). tested-values images least (f .0) (f .1))
+      (option-either (targetResults (readAttribute g images) (r .target)))
+
+  tested : Tested rest
+  tested =
+      ⊎-elim (λ (e : leastMatch g r start ≡ none). subst Tested (sym (none-rest e)) (refusing noMatch (unmatched e)))
+      (λ (f : (images : List ℕ) × Least images). tested-match (f .0) (f .1))
+      (option-either (leastMatch g r start))
+
+  -- ---- what each outcome says
+
+  reason-number : {n : ℕ} → Reason n → (noMatch ≤ n) × (n ≤ newCycle)
+  reason-number (unmatched e) = omega arith
+  reason-number (unfit images least e) = omega arith
+  reason-number (full images values least have h) = omega arith
+  reason-number (cyclic images values least have h c) = omega arith
+
+  outcome-number : {o : Outcome} → Tested o
+      → (packed (o .reply) ≡ 0) ⊎ ((noMatch ≤ packed (o .reply)) × (packed (o .reply) ≤ newCycle))
+  unfolding packed
+  outcome-number (refusing n why) = inr (rw (packed-refused n) (reason-number why))
+  outcome-number (done images values least have h c) = inl refl
+
+  outcome-keeps : {o : Outcome} → Tested o → (packed (o .reply) ≡ 0 → ⊥) → (o .graph ≡ graph) × (o .images ≡ before)
+  unfolding packed
+  outcome-keeps (refusing n why) refusal = (refl, refl)
+  outcome-keeps (done images values least have h c) refusal = absurd (refusal refl)
+
+  -- what done leaves in the graph and in the map
+  abbrev Leaves : List ℕ → List ℕ → Type 0
+  Leaves graphAfter after =
+      (images : List ℕ) × (values : List (List ℤ)) × Least images × Values images values × (after ≡ mapBlock images)
+      × (graphAfter ≡ graphBlock (new images values)) × (hasRoom g r images ≡ true) × (hasCycle (new images values) ≡ false)
+
+  outcome-leaves : {o : Outcome} → Tested o → packed (o .reply) ≡ 0 → Leaves (o .graph) (o .images)
+  outcome-leaves (refusing n why) z = absurd (omega (arith, packed-refused n, reason-number why))
+  outcome-leaves (done images values least have h c) z = (images, values, least, have, refl, refl, h, c)
+
+  -- between sound blocks the number is the one that is due
+  module _ (sound : SoundGraph graph) (soundRule : SoundRule rule) where
+    is-match : (images : List ℕ) → Least images → Match g r images
+    is-match images least = least-is graph rule start images sound soundRule least
+
+    at-match : (images : List ℕ) → Least images → hasRoom g r images ≡ true → Site g r images
+    at-match images least h = site graph rule images sound soundRule (is-match images least) h
+
+    reason-due : {n : ℕ} → Reason n → Due g r start n
+    reason-due (unmatched e) = Due.unmatched (none-left g r (sound-fixing rule soundRule) start e)
+    reason-due (unfit images least e) = Due.unfit images least (none-unfit g r images e)
+    reason-due (full images values least have h) =
+        Due.full images least (some-fit g r images values have) (room-short g r images (is-match images least) h)
+    reason-due (cyclic images values least have h c) =
+        Due.cyclic images values least (some-fit g r images values have) have (room-enough g r images (is-match images least) h)
+        (λ acyclic. true-not-false c (acyclic-free g r images values (at-match images least h) acyclic))
+
+    outcome-due : {o : Outcome} → Tested o → Due g r start (packed (o .reply))
+    unfolding packed
+    outcome-due (refusing n why) = rw (packed-refused n) (reason-due why)
+    outcome-due (done images values least have h c) =
+        Due.done images values least (some-fit g r images values have) have (room-enough g r images (is-match images least) h)
+        (free-acyclic g r images values (at-match images least h) c)
+
+  -- the blocks are judged first
+  staged : Staged graph rule before (rewrite graph rule start before) rest
+  unfolding rewrite rest
+  staged = record {
+    refusing = λ x e. rw (e, rewrite);
+    passing = λ e. rw (e, rewrite);
+    later = ⊎-elim inl
+        (λ (n : (noMatch ≤ packed (rest .reply)) × (packed (rest .reply) ≤ newCycle)). inr (n .0))
+        (outcome-number tested);
+  }
+
+-- ---- what the replies mean
+
+module _ (graph rule : List ℕ) (start : ℕ) (before : List ℕ) (reply : ℕ) (graphAfter after : List ℕ)
+    (contract : Rewrote graph rule start before reply graphAfter after) where
+  stages : Staged graph rule before (rewrite graph rule start before) (rest graph rule start before)
+  stages = staged graph rule start before
+
+  -- what the tests show on good blocks
+  shown : Tested graph rule start before (rest graph rule start before)
+  shown = tested graph rule start before
+
+  -- at the return from a call on good blocks
+  ends : Good graph rule before → (reply ≡ packed (rest graph rule start before .reply))
+      × (graphAfter ≡ rest graph rule start before .graph) × (after ≡ rest graph rule start before .images)
+  ends blocks = Blocks.ends stages contract (rest graph rule start before) (Blocks.passed stages contract blocks)
+
+  -- Reply 1: the map buffer isn't 32 bytes.
+  pub bad-map-only : reply ≡ badMapLength → length before ≡ mapBytes → ⊥
+  bad-map-only = Blocks.bad-map-only stages contract
+
+  -- And 1 is replied wherever that is so.
+  pub bad-map-every : (length before ≡ mapBytes → ⊥) → reply ≡ badMapLength
+  bad-map-every = Blocks.bad-map-every stages contract
+
+  -- Reply 2: the map has 32 bytes, and the graph block is bad.
+  pub bad-graph-only : reply ≡ badGraph → (length before ≡ mapBytes) × (SoundGraph graph → ⊥)
+  bad-graph-only = Blocks.bad-graph-only stages contract
+
+  -- And 2 is replied wherever that is so.
+  pub bad-graph-every : length before ≡ mapBytes → (SoundGraph graph → ⊥) → reply ≡ badGraph
+  bad-graph-every = Blocks.bad-graph-every stages contract
+
+  -- Reply 3: the map has 32 bytes, the graph is sound, and the rule block is bad.
+  pub bad-rule-only : reply ≡ badRule → (length before ≡ mapBytes) × SoundGraph graph × (SoundRule rule → ⊥)
+  bad-rule-only = Blocks.bad-rule-only stages contract
+
+  -- And 3 is replied wherever that is so.
+  pub bad-rule-every : length before ≡ mapBytes → SoundGraph graph → (SoundRule rule → ⊥) → reply ≡ badRule
+  bad-rule-every = Blocks.bad-rule-every stages contract
+
+  -- Replies 0 and 4 to 7 are given for good blocks only.
+  pub good : (reply ≡ 0) ⊎ (noMatch ≤ reply) → (length before ≡ mapBytes) × SoundGraph graph × SoundRule rule
+  good = Blocks.good-only stages contract
+
+  -- For good blocks the reply is the one that is due: 4, 5, 6, 7 or 0, as document 01's table says when.
+  pub due : length before ≡ mapBytes → SoundGraph graph → SoundRule rule → Due (graphOf graph) (ruleOf rule) start reply
+  due size sound soundRule =
+      subst (Due (graphOf graph) (ruleOf rule) start) (sym (ends (size, sound, soundRule) .0))
+      (outcome-due graph rule start before sound soundRule shown)
+
+  -- And it is so exactly when: what is due is replied.
+  pub replied : length before ≡ mapBytes → SoundGraph graph → SoundRule rule
+      → (n : ℕ) → Due (graphOf graph) (ruleOf rule) start n → reply ≡ n
+  replied size sound soundRule n is =
+      due-one (graphOf graph) (ruleOf rule) (sound-fixing rule soundRule) start reply n (due size sound soundRule) is
+
+  -- Rewriting gives 0 to 7.
+  pub few : reply ≤ newCycle
+  few =
+      Blocks.by-blocks stages contract (reply ≤ newCycle)
+      (λ low high keptGraph keptMap. omega arith)
+      (λ blocks.
+      let n = packed (rest graph rule start before .reply) in
+      ⊎-elim (λ (e : n ≡ 0). omega (arith, ends blocks .0))
+      (λ (l : (noMatch ≤ n) × (n ≤ newCycle)). omega (arith, ends blocks .0))
+      (outcome-number graph rule start before shown))
+
+  -- ---- what is written
+
+  -- A refusal returns its number only: every lent byte is as it came.
+  pub refusal-keeps : (reply ≡ 0 → ⊥) → (graphAfter ≡ graph) × (after ≡ before)
+  refusal-keeps refusal =
+      Blocks.by-blocks stages contract ((graphAfter ≡ graph) × (after ≡ before))
+      (λ low high keptGraph keptMap. (keptGraph, keptMap))
+      (λ blocks.
+      let end = ends blocks in
+      let kept = outcome-keeps graph rule start before shown (λ e. refusal (end .0 ∙ e)) in
+      (end .1 ∙ kept .0, end .2 ∙ kept .1))
+
+  -- Done leaves the map of the least match, and the block of the table that the rewriting at this match makes: its target attributes
+  -- have fit results, there is room for its target vertices, and it has no cycle.
+  pub done-leaves : reply ≡ 0 → (images : List ℕ) × (values : List (List ℤ))
+      × (leastMatch (graphOf graph) (ruleOf rule) start ≡ some images)
+      × (targetResults (readAttribute (graphOf graph) images) (ruleOf rule .target) ≡ some values)
+      × (after ≡ mapBlock images) × (graphAfter ≡ graphBlock (newGraph (graphOf graph) (ruleOf rule) images values))
+      × (hasRoom (graphOf graph) (ruleOf rule) images ≡ true)
+      × (hasCycle (newGraph (graphOf graph) (ruleOf rule) images values) ≡ false)
+  done-leaves h =
+      let end = ends (good (inl h)) in
+      let left = outcome-leaves graph rule start before shown (sym (end .0) ∙ h) in
+      (left .0, left .1, left .2, left .3, end .2 ∙ left .4, end .1 ∙ left .5, left .6, left .7)
+
+  -- The map tells the match: its first S numbers are the images of the least match.
+  pub told : reply ≡ 0 → leastMatch (graphOf graph) (ruleOf rule) start ≡ some (imagesIn after (sourceCount rule))
+  told h =
+      let blocks = good (inl h) in
+      let left = done-leaves h in
+      least-told graph rule start (left .0) (blocks .1) (blocks .2) (left .2) after (left .4)
+
+  -- The other numbers of the map are 65535.
+  pub told-rest : reply ≡ 0 → (j : ℕ) → sourceCount rule ≤ j → j < sideLimit → u16At after (2 * j) ≡ unusedPlace
+  told-rest h =
+      let blocks = good (inl h) in
+      let left = done-leaves h in
+      least-rest graph rule start (left .0) (blocks .1) (blocks .2) (left .2) after (left .4)
+
+  pub told-length : reply ≡ 0 → length after ≡ mapBytes
+  told-length h =
+      let blocks = good (inl h) in
+      let left = done-leaves h in
+      least-bytes graph rule start (left .0) (blocks .1) (blocks .2) (left .2) after (left .4)
