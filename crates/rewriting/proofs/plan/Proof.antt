@@ -1,0 +1,214 @@
+-- Each stage is asked only where the ones before it passed, and answers as the definition does. The new table's block stands for the
+-- new table, so that its cycle is the one that the block is searched for.
+-- Assumes nothing.
+use mathlib.Core.Path.{_≡_, refl, sym, ap, _∙_, subst}
+use mathlib.Core.Bool.{true}
+use mathlib.Core.List.{List}
+use Prim.Native.Nat.{ℕ, _≤_}
+use native.Mathlib.Omega.{arith}
+use borrow.Author.Tests.{not-true, not-false}
+use Rattle.definitions.specs.Graph.{Graph, graphOf, hasCycle}
+use Rattle.definitions.specs.Rule.{targetCount, ruleOf}
+use Rattle.definitions.specs.Rewriting.{freeSlots}
+use Rattle.laws.proofs.Graph.{length-slots}
+use Rattle.laws.proofs.Rule.{some-rule-outputs}
+use Rattle.search.proofs.Sound.{graph-readable, rule-readable, rule-matchable}
+use Rattle.encoding.specs.Tables.{Table}
+use Rattle.encoding.proofs.Blocks.{block-readable, block-closed, block-cycle}
+use Rattle.graph_fields.specs.Readable.{Readable, Closed}
+use Rattle.target_attributes.specs.Words.{isGiven}
+use Rattle.vacancies.specs.Vacant.{marked, Lowest}
+use Rattle.vacancies.proofs.Laws.{marked-free}
+use Rattle.new_table.specs.Slots.{fitResults, newTable}
+use Rattle.rewriting.proofs.Stages.{images-inside, unfit, full, prepared, new-table-of, cyclic, done}
+use borrow.Author.Needs.{needs}
+use Rattle.rewriting.proofs.plan.Statement.{statement}
+use Rattle.rewriting.proofs.plan.Tie as tie
+
+module _ (s : tie.Start) where
+  abbrev graph : List ℕ
+  graph = s .args .graph .now
+
+  abbrev rule : List ℕ
+  rule = s .args .rule .now
+
+  abbrev images : List ℕ
+  images = s .args .images .now
+
+all-fit-requires : tie.Need-all-fit-requires
+all-fit-requires c κs =
+    let s = c .before .before .before in (
+      graph-readable (graph s) (s .pre .0),
+      (
+        rule-readable (rule s) (s .pre .1 .0),
+        (rule-matchable (rule s) (s .pre .1 .0) .evaluable, s .pre .1 .1 .0 .size),
+      ),
+    )
+
+returns : tie.Need-returns
+unfolding fitResults
+returns c =
+    let a = c .before in
+    let s = a .before .before .before .before in
+    record {
+      done = λ h. absurd (omega arith);
+      refused = λ h. unfit (graph s) (rule s) (images s) (s .pre .0) (s .pre .1 .0) (s .pre .1 .1 .0)
+          (sym (a .all-fit .ensures) ∙ not-true _ (c .if1 .taken));
+    }
+
+find-free-requires : tie.Need-find-free-requires
+find-free-requires c κs =
+    let s = c .before .before .before .before .before in (
+      graph-readable (graph s) (s .pre .0) .whole,
+      (
+        rule-readable (rule s) (s .pre .1 .0) .whole,
+        (
+          s .pre .1 .1 .0 .size,
+          images-inside (graph s) (rule s) (images s) (s .pre .0) (s .pre .1 .0) (s .pre .1 .1 .0),
+        ),
+      ),
+    )
+
+slot-count-requires : tie.Need-slot-count-requires
+slot-count-requires c κs =
+    let s = c .before .before .before .before .before .before .before in
+    omega (arith, graph-readable (graph s) (s .pre .0) .whole .size)
+
+lowest-free-requires : tie.Need-lowest-free-requires
+lowest-free-requires c κs =
+    let s = c .before .before .before .before .before .before .before .before in (
+      c .before .before .find-free .ensures .size,
+      omega (arith, c .slot-count .ensures .0, graph-readable (graph s) (s .pre .0) .whole .slots),
+    )
+
+target-count-requires : tie.Need-target-count-requires
+target-count-requires c κs =
+    let s = c .before .before .before .before .before .before .before .before .before in
+    omega (arith, rule-readable (rule s) (s .pre .1 .0) .whole .size)
+
+-- past reply 5, with the free slots listed
+module _ (c : tie.After-lowest-free) where
+  abbrev begun : tie.Start
+  begun = c .before .before .before .before .before .before .before .before .before
+
+  fit : isGiven (fitResults (graph begun) (rule begun) (images begun)) ≡ true
+  unfolding fitResults
+  fit =
+      let passed = c .before .before .before .before in
+      sym (passed .before .all-fit .ensures) ∙ not-false _ (passed .if1 .left)
+
+  places : Lowest (freeSlots (graphOf (graph begun)) (ruleOf (rule begun)) (images begun)) (c .lowest-free .result .count)
+      (c .lowest-free .result .slots)
+  places =
+      let marks = c .before .before .before .find-free in
+      let slots = c .before .slot-count .ensures .0 ∙ sym (length-slots (graph begun)) in
+      subst (λ (free : List ℕ). Lowest free (c .lowest-free .result .count) (c .lowest-free .result .slots))
+      (ap (marked (marks .result)) slots
+      ∙ marked-free (graphOf (graph begun)) (ruleOf (rule begun)) (images begun) (marks .result)
+      (rw (← length-slots (graph begun)) at (marks .ensures)))
+      (c .lowest-free .ensures)
+
+returns-2 : tie.Need-returns-2
+returns-2 c =
+    let t = c .before .before in
+    let l = t .before in
+    let s = begun l in
+    record {
+      done = λ h. absurd (omega arith);
+      refused = λ h. full (graph s) (rule s) (images s) (s .pre .0) (s .pre .1 .0) (s .pre .1 .1 .0) (fit l)
+          (l .lowest-free .result .count) (l .lowest-free .result .slots) (places l) (omega (arith, t .target-count .ensures .0));
+    }
+
+write-table-requires : tie.Need-write-table-requires
+write-table-requires c κs =
+    let l = c .before .before .before .before .before .before .before in
+    let s = begun l in (
+      prepared (graph s) (rule s) (images s) (s .pre .0) (s .pre .1 .0) (s .pre .1 .1 .0) (fit l) (l .lowest-free .result .count)
+          (l .lowest-free .result .slots) (places l),
+      (
+        some-rule-outputs (rule s) (s .pre .1 .0 .header),
+        (l .before .before .before .find-free .ensures, s .pre .1 .1 .1),
+      ),
+    )
+
+-- past reply 6, with the new table written
+module _ (c : tie.After-write-table) where
+  abbrev listed : tie.After-lowest-free
+  listed = c .before .before .before .before .before .before .before .before
+
+  abbrev started : tie.Start
+  started = begun listed
+
+  abbrev new : Graph
+  new = newTable (graph started) (rule started) (images started)
+
+  enough : targetCount (rule started) ≤ listed .lowest-free .result .count
+  enough = let e = c .before .before .before .before .before in omega (arith, e .before .before .target-count .ensures .0, e .if2 .left)
+
+  table : Table new
+  table = new-table-of (graph started) (rule started) (images started) (started .pre .0) (started .pre .1 .0) (started .pre .1 .1 .0)
+      (fit listed) (listed .lowest-free .result .count) (listed .lowest-free .result .slots) (places listed) enough
+
+-- the block's cycle is the new table's
+judged : (c : tie.After-has-cycle) → c .has-cycle .result ≡ hasCycle (new (c .before .before .before .before))
+judged c =
+    let w = c .before .before .before .before in
+    c .has-cycle .ensures ∙ ap (λ block. hasCycle (graphOf block)) (w .write-table .ensures) ∙ block-cycle (new w) (table w)
+
+has-cycle-requires : tie.Need-has-cycle-requires
+has-cycle-requires c κs =
+    let w = c .before .before .before in
+    let written = sym (w .write-table .ensures) in
+    (subst Readable written (block-readable (new w) (table w)), subst Closed written (block-closed (new w) (table w)))
+
+same-length : tie.Need-same-length
+same-length c = search needs
+
+returns-3 : tie.Need-returns-3
+returns-3 c =
+    let h = c .before in
+    let w = h .before .before .before .before in
+    let l = listed w in
+    let s = begun l in
+    record {
+      done = λ e. absurd (omega arith);
+      refused = λ e. cyclic (graph s) (rule s) (images s) (s .pre .0) (s .pre .1 .0) (s .pre .1 .1 .0) (fit l)
+          (l .lowest-free .result .count) (l .lowest-free .result .slots) (places l) (enough w) (sym (judged h) ∙ c .if3 .taken);
+    }
+
+same-length-2 : tie.Need-same-length-2
+same-length-2 c = search needs
+
+returns-4 : tie.Need-returns-4
+returns-4 c =
+    let h = c .before in
+    let w = h .before .before .before .before in
+    let l = listed w in
+    let s = begun l in
+    record {
+      done = λ e. (
+        new w,
+        done (graph s) (rule s) (images s) (s .pre .0) (s .pre .1 .0) (s .pre .1 .1 .0) (fit l)
+            (l .lowest-free .result .count) (l .lowest-free .result .slots) (places l) (enough w) (sym (judged h) ∙ c .if3 .left),
+        w .write-table .ensures,
+      );
+      refused = λ e. absurd (e refl);
+    }
+
+pub plan-spec : {M : Type 1} → statement M
+plan-spec =
+    tie.close
+    (tie.spec
+    all-fit-requires
+    returns
+    find-free-requires
+    slot-count-requires
+    lowest-free-requires
+    target-count-requires
+    returns-2
+    write-table-requires
+    has-cycle-requires
+    same-length
+    returns-3
+    same-length-2
+    returns-4)

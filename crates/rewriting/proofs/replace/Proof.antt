@@ -1,0 +1,107 @@
+-- The new table is made in the first part of a local block, as long as the graph's, and copied from there.
+-- Assumes nothing.
+use mathlib.Core.Path.{_≡_, refl, sym, ap, _∙_}
+use mathlib.Core.List.{List, _++_}
+use Prim.Native.Nat.{ℕ, _-_, _≤_}
+use native.Mathlib.Omega.{arith}
+use lib.ListN.{length, take, length-append}
+use lib.Seq.{take-append-seam}
+use Rattle.definitions.specs.Graph.{slotLimit, recordAt, SoundGraph}
+use Rattle.search.proofs.Sound.{graph-readable}
+use borrow.Author.Needs.{needs}
+use Rattle.rewriting.proofs.replace.Statement.{statement}
+use Rattle.rewriting.proofs.replace.Tie as tie
+
+-- a sound block is no longer than the longest
+short : (graph : List ℕ) → SoundGraph graph → length graph ≤ recordAt slotLimit
+short graph sound = let whole = graph-readable graph sound .whole in omega (arith, whole .size, whole .slots)
+
+-- a front of n bytes is there whole, and is what the first n bytes are
+reaches : (n : ℕ) (xs ys : List ℕ) → length xs ≡ n → n ≤ length (xs ++ ys)
+reaches n xs ys e = omega (arith, length-append xs ys)
+
+front : (n : ℕ) (xs ys : List ℕ) → length xs ≡ n → take n (xs ++ ys) ≡ xs
+front n xs ys e = ap (λ k. take k (xs ++ ys)) (sym e) ∙ take-append-seam xs ys
+
+abbrev start : tie.After-table → tie.Start
+start c = c .before .before .before .before .before
+
+-- the new table fills the part that it was lent
+filled : (c : tie.After-table2) → length (c .before .plan .last .1 .1 .1 .0) ≡ length (start (c .before .before) .args .graph .now) - 0
+filled c = c .table2 .given ∙ c .before .before .table .given .2
+
+blank-requires : tie.Need-blank-requires
+blank-requires c κs = search needs
+
+sub-plan : tie.Need-sub-plan
+sub-plan c = search needs
+
+part-table-start : tie.Need-part-table-start
+part-table-start c = search needs
+
+part-table-end : tie.Need-part-table-end
+part-table-end c = let s = c .before .before .before .before in omega (arith, short (s .args .graph .now) (s .pre .0), c .before .blank .ensures)
+
+plan-requires : tie.Need-plan-requires
+plan-requires c κs =
+    let s = c .before .before .before .before .before in
+    (s .pre .0, (s .pre .1 .0, (s .pre .1 .1, c .table .given .2 ∙ omega arith)))
+
+same-length : tie.Need-same-length
+same-length c = search needs
+
+returns : tie.Need-returns
+returns c =
+    let p = c .before .before in
+    let turned : p .plan .result ≡ 0 → ⊥ = c .if1 .taken in
+    record {
+      done = λ e. absurd (turned e);
+      refused = λ e. (p .plan .ensures .refused e, refl);
+    }
+
+sub-copy : tie.Need-sub-copy
+sub-copy c = search needs
+
+part-copy-start : tie.Need-part-copy-start
+part-copy-start c = search needs
+
+part-copy-end : tie.Need-part-copy-end
+part-copy-end c =
+    let t = c .before .before .before in
+    let a = t .before .before in
+    reaches (length (start a .args .graph .now)) (t .before .plan .last .1 .1 .1 .0) _ (filled t ∙ omega arith)
+
+copy-requires : tie.Need-copy-requires
+copy-requires c κs = search needs
+
+same-length-2 : tie.Need-same-length-2
+same-length-2 c = search needs
+
+returns-2 : tie.Need-returns-2
+returns-2 c =
+    let y = c .before .before in
+    let t = y .before .before .before .before .before in
+    let p = t .before in
+    let made = p .plan .ensures .done (y .before .before .before .before .if1 .left) in
+    record {
+      done = λ e. (made .0, made .1, y .copy .ensures ∙ front _ (p .plan .last .1 .1 .1 .0) _ (filled t) ∙ made .2);
+      refused = λ e. absurd (e refl);
+    }
+
+pub replace-spec : {M : Type 1} → statement M
+replace-spec =
+    tie.close
+    (tie.spec
+    blank-requires
+    sub-plan
+    part-table-start
+    part-table-end
+    plan-requires
+    same-length
+    returns
+    sub-copy
+    part-copy-start
+    part-copy-end
+    copy-requires
+    same-length-2
+    returns-2)

@@ -1,0 +1,26 @@
+-- What a rewriting at one match comes to, as the code tells it: 0 where it is accepted, or the number of the refusal.
+-- Assumes nothing.
+use mathlib.Core.Path.{_≡_}
+use mathlib.Core.List.{List}
+use Prim.Native.Nat.{ℕ, _≤_}
+use lib.ListN.{length, take}
+use Rattle.definitions.specs.Graph.{unusedPlace, Graph, graphOf, graphBlock}
+use Rattle.definitions.specs.Rule.{sideLimit, sourceCount, ruleOf}
+use Rattle.definitions.specs.Match.{imageOf, Match}
+use Rattle.definitions.specs.Operations.{Rewritten, accepted, turnedDown}
+
+-- an array that begins with the images of a match, and holds 65535 after them
+pub record Matched (graph rule images : List ℕ) : Type 0 where
+  pub size : length images ≡ sideLimit
+  pub isMatch : Match (graphOf graph) (ruleOf rule) (take (sourceCount rule) images)
+  pub rest : (i : ℕ) → sourceCount rule ≤ i → imageOf images i ≡ unusedPlace
+
+-- the new table is made in a block of its own
+pub record Planned (best : Rewritten) (number : ℕ) (table : List ℕ) : Type 0 where
+  pub done : number ≡ 0 → (new : Graph) × (best ≡ accepted new) × (table ≡ graphBlock new)
+  pub refused : (number ≡ 0 → ⊥) → best ≡ turnedDown number
+
+-- the graph block holds the new table, or is as it was
+pub record Replaced (best : Rewritten) (number : ℕ) (before after : List ℕ) : Type 0 where
+  pub done : number ≡ 0 → (new : Graph) × (best ≡ accepted new) × (after ≡ graphBlock new)
+  pub refused : (number ≡ 0 → ⊥) → (best ≡ turnedDown number) × (after ≡ before)

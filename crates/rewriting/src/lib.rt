@@ -1,0 +1,106 @@
+// Rewriting in lent blocks: replies 0 to 7 in order. The new table is made beside the old one and judged there; the lent blocks are
+// written last, once the answer is sure.
+use acyclic::has_cycle;
+use blocks::check_blocks;
+use blocks::write_map;
+use definitions::HEADER_BYTES;
+use definitions::Reply;
+use definitions::SIDE_LIMIT;
+use definitions::SLOT_BYTES;
+use definitions::SLOT_LIMIT;
+use graph_fields::slot_count;
+use new_table::write_table;
+use reply::NEW_CYCLE;
+use reply::NO_MATCH;
+use reply::NO_RESULT;
+use reply::NO_ROOM;
+use reply::refuse;
+use rule_fields::target_count;
+use search::least_match;
+use target_attributes::all_fit;
+use vacancies::find_free;
+use vacancies::lowest_free;
+use writing::copy;
+ghost use mathlib.Core.Path.{_≡_};
+ghost use lib.ListN.{length, take};
+ghost use Rattle.definitions.specs.Graph.{slotLimit, recordAt, graphOf, SoundGraph};
+ghost use Rattle.definitions.specs.Rule.{sourceCount, ruleOf, SoundRule};
+ghost use Rattle.definitions.specs.Operations as operation;
+ghost use Rattle.rewriting.specs.Planned.{Matched, Planned, Replaced};
+
+// The length of the longest graph block.
+const BLOCK_LIMIT: usize = HEADER_BYTES + SLOT_BYTES * SLOT_LIMIT;
+
+// What a rewriting at this match comes to: 5, 6 or 7, in that order, or 0 with the new table in `table`. The cycle is looked for in the
+// new table, and the room counted after the removal.
+fn plan(graph: &[u8], rule: &[u8], images: &[u16; SIDE_LIMIT], table: &mut [u8]) -> u8
+    requires { ⌜ SoundGraph (now graph) ⌝ }
+    requires { ⌜ SoundRule (now rule) ⌝ }
+    requires { ⌜ Matched (now graph) (now rule) (now images) ⌝ }
+    requires { ⌜ length (now table) ≡ length (now graph) ⌝ }
+    ensures { λ r. ⌜ Planned (operation.rewritten (graphOf (now (graph .entry))) (ruleOf (now (rule .entry)))
+        (take (sourceCount (now (rule .entry))) (now (images .entry)))) r (now (table .exit)) ⌝ }
+{
+    if !all_fit(graph, rule, images) {
+        return NO_RESULT;
+    }
+    let free = find_free(graph, rule, images);
+    let places = lowest_free(&free, slot_count(graph));
+    if places.count < target_count(rule) {
+        return NO_ROOM;
+    }
+    let slots = places.slots;
+    write_table(graph, rule, images, &slots, &free, table);
+    let made = &table[..];
+    if has_cycle(made) {
+        return NEW_CYCLE;
+    }
+    0
+}
+
+// Room for a table: zeros, as many as the longest block has bytes.
+fn blank() -> [u8; BLOCK_LIMIT]
+    ensures { λ r. ⌜ length r ≡ recordAt slotLimit ⌝ }
+{
+    [0u8; BLOCK_LIMIT]
+}
+
+// Rewrites the graph at this match, or says with which number that is refused, and then leaves the graph as it is.
+fn replace(graph: &mut [u8], rule: &[u8], images: &[u16; SIDE_LIMIT]) -> u8
+    requires { ⌜ SoundGraph (now graph) ⌝ }
+    requires { ⌜ SoundRule (now rule) ⌝ }
+    requires { ⌜ Matched (now graph) (now rule) (now images) ⌝ }
+    ensures { λ r. ⌜ Replaced (operation.rewritten (graphOf (now (graph .entry))) (ruleOf (now (rule .entry)))
+        (take (sourceCount (now (rule .entry))) (now (images .entry)))) r (now (graph .entry)) (now (graph .exit)) ⌝ }
+{
+    let mut table = blank();
+    let size = graph.len();
+    let answer = plan(graph, rule, images, &mut table[0..size]);
+    if answer != 0 {
+        return answer;
+    }
+    copy(graph, &table[0..size]);
+    0
+}
+
+// Rewrites at the least match from `start`; no other is tried.
+pub fn rewrite(graph: &mut [u8], rule: &[u8], start: usize, map: &mut [u8]) -> Reply
+    ensures { λ r. ⌜ operation.outcome r (now (graph .exit)) (now (map .exit))
+        ≡ operation.rewrite (now (graph .entry)) (now (rule .entry)) start (now (map .entry)) ⌝ }
+{
+    match check_blocks(graph, rule, map) {
+        Reply::Refused(refusal) => return Reply::Refused(refusal),
+        Reply::Done => {}
+    }
+    let found = least_match(graph, rule, start);
+    if !found.ok {
+        return refuse(NO_MATCH);
+    }
+    let images = found.images;
+    let number = replace(graph, rule, &images);
+    if number != 0 {
+        return refuse(number);
+    }
+    write_map(map, &images);
+    Reply::Done
+}
