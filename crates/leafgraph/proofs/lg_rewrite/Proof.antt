@@ -1,0 +1,29 @@
+-- The outcome, with its reply packed.
+-- Assumes nothing.
+use mathlib.Core.Path.{ap, _∙_}
+use Rattle.definitions.specs.Operations.{atReturn, returned}
+use borrow.Author.Needs.{needs}
+use Rattle.leafgraph.proofs.lg_rewrite.Statement.{statement}
+use Rattle.leafgraph.proofs.lg_rewrite.Tie as tie
+
+rewrite-requires : tie.Need-rewrite-requires
+rewrite-requires c κs = search needs
+
+pack-requires : tie.Need-pack-requires
+pack-requires c κs = search needs
+
+same-length : tie.Need-same-length
+same-length c = search needs
+
+same-length-2 : tie.Need-same-length-2
+same-length-2 c = search needs
+
+returns : tie.Need-returns
+unfolding returned
+returns c =
+    let f = c .before .before .before .before .before in
+    ap (λ n. atReturn n (f .rewrite .last .0) (f .rewrite .last .1 .1 .1 .0)) (c .pack .ensures) ∙ ap returned (f .rewrite .ensures)
+
+pub lg-rewrite-spec : {M : Type 1} → statement M
+lg-rewrite-spec =
+    tie.close (tie.spec rewrite-requires pack-requires same-length same-length-2 returns)
