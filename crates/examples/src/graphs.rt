@@ -1,8 +1,8 @@
 // The graph blocks of the examples.
-use crate::records::put_byte;
+use crate::records::put_bytes;
 use crate::records::put_mark;
+use crate::records::put_record;
 use crate::records::put_u16;
-use crate::records::put_unused;
 use crate::records::put_word;
 use leafgraph::lg_check_graph;
 ghost use Prim.Native.Nat.{_<_, _≤_};
@@ -10,76 +10,84 @@ ghost use Prim.Native.Nat.{_<_, _≤_};
 // The header of a graph with one output.
 fn put_header(block: &mut [u8], slots: usize, output: usize) {
     put_mark(block, 84);
-    put_unused(block, 8);
     put_u16(block, 6, slots);
     put_u16(block, 8, 1);
     put_u16(block, 10, output);
-    put_u16(block, 18, 0);
-}
-
-// Five attributes of a Variable: 1, 3, 8, 8 and 1.
-fn put_dimensions(block: &mut [u8], at: usize)
-    requires { ⌜ at < 60000 ⌝ }
-{
-    put_byte(block, at, 1);
-    put_byte(block, at + 4, 3);
-    put_byte(block, at + 8, 8);
-    put_byte(block, at + 12, 8);
-    put_byte(block, at + 16, 1);
+    put_bytes(block, 12, &[255; 6]);
 }
 
 fn put_empty(block: &mut [u8], k: usize)
     requires { ⌜ k < 1000 ⌝ }
 {
-    put_unused(block, 24 + 48 * k + 4);
+    put_record(block, 24 + 48 * k, 0, 0, 0, 0);
 }
 
+// Slot k is a Variable with the attributes 1, 3, 8, 8 and 1.
 fn put_variable(block: &mut [u8], k: usize)
     requires { ⌜ k < 1000 ⌝ }
 {
     let at = 24 + 48 * k;
-    put_byte(block, at, 2);
-    put_byte(block, at + 3, 5);
-    put_unused(block, at + 4);
-    put_dimensions(block, at + 16);
+    put_record(block, at, 2, 0, 0, 5);
+    put_bytes(
+        block,
+        at + 16,
+        &[1, 0, 0, 0, 3, 0, 0, 0, 8, 0, 0, 0, 8, 0, 0, 0, 1],
+    );
+}
+
+// Slot k is a call of one input, with this number of attributes.
+fn put_unary(block: &mut [u8], k: usize, operator: u8, attributes: u8, input: usize)
+    requires { ⌜ k < 1000 ⌝ }
+{
+    let at = 24 + 48 * k;
+    put_record(block, at, 3, operator, 1, attributes);
+    put_u16(block, at + 4, input);
 }
 
 // Slot k is relu(input).
 fn put_relu(block: &mut [u8], k: usize, input: usize)
     requires { ⌜ k < 1000 ⌝ }
 {
-    let at = 24 + 48 * k;
-    put_byte(block, at, 3);
-    put_byte(block, at + 1, 7);
-    put_byte(block, at + 2, 1);
-    put_unused(block, at + 4);
-    put_u16(block, at + 4, input);
+    put_unary(block, k, 7, 0, input);
 }
 
-// Slot k is a call of two inputs, with no attributes yet.
-fn put_call(block: &mut [u8], k: usize, operator: u8, left: usize, right: usize)
+// Slot k is gain(input), its attributes a word, 1 and 1.
+fn put_gain(block: &mut [u8], k: usize, input: usize, word: usize)
     requires { ⌜ k < 1000 ⌝ }
 {
     let at = 24 + 48 * k;
-    put_byte(block, at, 3);
-    put_byte(block, at + 1, operator);
-    put_byte(block, at + 2, 2);
-    put_unused(block, at + 4);
+    put_unary(block, k, 10, 3, input);
+    put_word(block, at + 16, word);
+    put_bytes(block, at + 20, &[1, 0, 0, 0, 1]);
+}
+
+// Slot k is a call of two inputs, with this number of attributes.
+fn put_binary(block: &mut [u8], k: usize, operator: u8, attributes: u8, left: usize, right: usize)
+    requires { ⌜ k < 1000 ⌝ }
+{
+    let at = 24 + 48 * k;
+    put_record(block, at, 3, operator, 2, attributes);
     put_u16(block, at + 4, left);
     put_u16(block, at + 6, right);
+}
+
+// Slot k is add(left, right).
+fn put_add(block: &mut [u8], k: usize, left: usize, right: usize)
+    requires { ⌜ k < 1000 ⌝ }
+{
+    put_binary(block, k, 1, 0, left, right);
 }
 
 // Slot k is conv2d(left, right), its four attributes 1.
 fn put_conv2d(block: &mut [u8], k: usize, left: usize, right: usize)
     requires { ⌜ k < 1000 ⌝ }
 {
-    let at = 24 + 48 * k;
-    put_call(block, k, 4, left, right);
-    put_byte(block, at + 3, 4);
-    put_byte(block, at + 16, 1);
-    put_byte(block, at + 20, 1);
-    put_byte(block, at + 24, 1);
-    put_byte(block, at + 28, 1);
+    put_binary(block, k, 4, 4, left, right);
+    put_bytes(
+        block,
+        24 + 48 * k + 16,
+        &[1, 0, 0, 0, 1, 0, 0, 0, 1, 0, 0, 0, 1],
+    );
 }
 
 // E1, into a block of zeros.
@@ -91,6 +99,46 @@ pub fn put_e1(block: &mut [u8]) {
     put_relu(block, 3, 2);
     put_relu(block, 4, 3);
     put_empty(block, 5);
+}
+
+// P3's graph: E1 whose outputs are slots 4 and 3.
+pub fn put_p3(block: &mut [u8]) {
+    put_e1(block);
+    put_u16(block, 8, 2);
+    put_u16(block, 12, 3);
+}
+
+// P4's graph: the first five slots of E1. Nothing of the sixth one is in a block of that length.
+pub fn put_p4(block: &mut [u8]) {
+    put_e1(block);
+    put_u16(block, 6, 5);
+}
+
+// P7's graph: a Variable, relu(0), mean(1) whose attribute is 0, and add(0, 2).
+pub fn put_p7(block: &mut [u8]) {
+    put_header(block, 4, 3);
+    put_variable(block, 0);
+    put_relu(block, 1, 0);
+    put_unary(block, 2, 12, 1, 1);
+    put_add(block, 3, 0, 2);
+}
+
+// P8's graph: two Variables, relu(0), relu(1) and add(1, 0).
+pub fn put_p8(block: &mut [u8]) {
+    put_header(block, 5, 4);
+    put_variable(block, 0);
+    put_variable(block, 1);
+    put_relu(block, 2, 0);
+    put_relu(block, 3, 1);
+    put_add(block, 4, 1, 0);
+}
+
+// P10's graph: a Variable and two gains after it, whose first attribute is this word.
+pub fn put_p10(block: &mut [u8], word: usize) {
+    put_header(block, 3, 2);
+    put_variable(block, 0);
+    put_gain(block, 1, 0, word);
+    put_gain(block, 2, 1, word);
 }
 
 // The first `length` bytes of E1 and a zero byte after it.
@@ -105,9 +153,7 @@ pub fn check_e1(length: usize) -> u64
 // Slot 0 is a Const of this word, and slot 1 relu(0), into a block of zeros.
 pub fn put_constant(block: &mut [u8], word: usize) {
     put_header(block, 2, 1);
-    put_byte(block, 24, 1);
-    put_byte(block, 27, 1);
-    put_unused(block, 28);
+    put_record(block, 24, 1, 0, 0, 1);
     put_word(block, 40, word);
     put_relu(block, 1, 0);
 }
@@ -126,7 +172,7 @@ pub fn check_last_slot_cycle() -> u64 {
     let mut block = [0u8; 168];
     put_header(&mut block, 3, 1);
     put_variable(&mut block, 0);
-    put_call(&mut block, 1, 1, 0, 2);
+    put_add(&mut block, 1, 0, 2);
     put_relu(&mut block, 2, 1);
     lg_check_graph(&block)
 }

@@ -1,17 +1,14 @@
-// Document 01's run-only examples for the checks and for matching, and P9's values as the code finds them. What this prints is held to the stored stdout,
-// which the second program under reference/ wrote.
+// Document 01's run-only examples for the checks and for matching, P9's values as the code finds them, and what rewriting makes of P1,
+// P3, P4, P7, P8 and P10. What this prints is held to the stored stdout, which the second program under reference/ wrote.
 mod graphs;
+mod lines;
 mod matches;
 mod records;
+mod rewritings;
 mod rules;
 
-// One line: the example's name, and the reply.
-fn line(name: &[u8], reply: u64) {
-    io::write_all(1, name);
-    io::write_all(1, b": ");
-    io::print_decimal(1, reply);
-    io::write_all(1, b"\n");
-}
+use lines::line;
+use lines::numbers_line;
 
 fn sizes() {
     line(b"graph N = 0", graphs::check_chain(0));
@@ -40,29 +37,12 @@ fn rule_blocks() {
     line(b"rule empty", rules::check_rr(0));
 }
 
-// The number in two bytes, the lower one first.
-fn number(low: u8, high: u8) -> u64 {
-    low as u64 + 256 * (high as u64)
-}
-
-// The sixteen numbers of a map.
-fn map_line(map: &[u8; 32]) {
-    io::write_all(1, b"map:");
-    let mut j = 0;
-    while j < 16 {
-        io::write_all(1, b" ");
-        io::print_decimal(1, number(map[2 * j], map[2 * j + 1]));
-        j += 1;
-    }
-    io::write_all(1, b"\n");
-}
-
 // A match of RR on E1. Every byte of the map is 170 before, so that a refusal is seen to keep it.
 fn match_line(name: &[u8], start: usize) {
     let mut map = [170u8; 32];
     let reply = matches::find_rr(start, &mut map);
     line(name, reply);
-    map_line(&map);
+    numbers_line(b"map:", &map, 0, 16);
 }
 
 fn matches_of_rr() {
@@ -113,6 +93,17 @@ fn remainders() {
     line(b"remainder of 7 by 0 is 0", matches::agrees(7, 7, 0, 0));
 }
 
+// The square of 65536 is no signed 32-bit number; that of 256 is.
+fn rewritings_of_graphs() {
+    rewritings::p1();
+    rewritings::p3();
+    rewritings::p4();
+    rewritings::p7();
+    rewritings::p8();
+    rewritings::p10(b"rewrite P10", 65536);
+    rewritings::p10(b"rewrite P10 with 256", 256);
+}
+
 fn main() {
     sizes();
     graph_blocks();
@@ -120,4 +111,5 @@ fn main() {
     matches_of_rr();
     quotients();
     remainders();
+    rewritings_of_graphs();
 }

@@ -8,8 +8,19 @@ pub fn put_byte(block: &mut [u8], at: usize, value: u8) {
     }
 }
 
-pub fn put_u16(block: &mut [u8], at: usize, value: usize)
+// Stores these bytes from `at` on, where the block has them.
+pub fn put_bytes(block: &mut [u8], at: usize, bytes: &[u8])
     requires { ⌜ at < 65536 ⌝ }
+{
+    let mut j = 0;
+    while j < bytes.len() {
+        put_byte(block, at + j, bytes[j]);
+        j += 1;
+    }
+}
+
+pub fn put_u16(block: &mut [u8], at: usize, value: usize)
+    requires { ⌜ at < 65535 ⌝ }
 {
     put_byte(block, at, (value % 256) as u8);
     put_byte(block, at + 1, (value / 256 % 256) as u8);
@@ -23,22 +34,16 @@ pub fn put_word(block: &mut [u8], at: usize, word: usize)
     put_u16(block, at + 2, word / 65536);
 }
 
-// Twelve bytes of 255: the six unused input places of a slot, or all places of a pattern.
-pub fn put_unused(block: &mut [u8], at: usize)
+// How the record of a slot and that of a pattern start: the kind, the operator, the numbers of inputs and of attributes, and twelve
+// bytes of 255, which are the unused input places of a slot, or all places of a pattern.
+pub fn put_record(block: &mut [u8], at: usize, kind: u8, operator: u8, inputs: u8, attributes: u8)
     requires { ⌜ at < 60000 ⌝ }
 {
-    put_u16(block, at, 65535);
-    put_u16(block, at + 2, 65535);
-    put_u16(block, at + 4, 65535);
-    put_u16(block, at + 6, 65535);
-    put_u16(block, at + 8, 65535);
-    put_u16(block, at + 10, 65535);
+    put_bytes(block, at, &[kind, operator, inputs, attributes]);
+    put_bytes(block, at + 4, &[255; 12]);
 }
 
 // `LG`, the letter of the block's sort, and version 1.
 pub fn put_mark(block: &mut [u8], letter: u8) {
-    put_byte(block, 0, 76);
-    put_byte(block, 1, 71);
-    put_byte(block, 2, letter);
-    put_byte(block, 4, 1);
+    put_bytes(block, 0, &[76, 71, letter, 0, 1]);
 }
