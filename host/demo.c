@@ -1,6 +1,6 @@
 /* Builds a small graph and a rule byte by byte, asks the library about them,
- * where the rule matches, and about a damaged copy of each, and says in words
- * what it replied. */
+ * where the rule matches, and about a damaged copy of each, says in words what
+ * it replied, and shows the graph before and after a rewriting. */
 
 #include <stdint.h>
 #include <stdio.h>
@@ -107,6 +107,10 @@ static int show(const char *what, uint64_t reply, unsigned expected) {
     return lg_reply_number(reply) == expected ? 0 : 1;
 }
 
+static unsigned number_at(const uint8_t *bytes) {
+    return bytes[0] + 256u * bytes[1];
+}
+
 /* Prints where the rule matches from this slot on; 0 if the last source vertex
  * matches the expected slot, or if none is expected and none found, else 1. */
 static int show_match(const uint8_t *graph, const uint8_t *rule, size_t start,
@@ -123,11 +127,52 @@ static int show_match(const uint8_t *graph, const uint8_t *rule, size_t start,
     }
     printf("a match");
     for (vertex = 0; vertex < SOURCE_VERTICES; vertex++) {
-        slot = map[2 * vertex] + 256u * map[2 * vertex + 1];
+        slot = number_at(map + 2 * vertex);
         printf("%s %u is slot %u", vertex == 0 ? ": source vertex" : ",", vertex, slot);
     }
     puts("");
     return slot == expected ? 0 : 1;
+}
+
+static const char *name_of(const uint8_t *record) {
+    if (record[0] != KIND_CALL) {
+        return record[0] == KIND_EMPTY ? "Empty" : "Variable";
+    }
+    return record[1] == OPERATOR_CONV2D ? "conv2d" : "relu";
+}
+
+/* Prints one slot, such as `3 relu(2)`. */
+static void show_slot(unsigned slot, const uint8_t *record) {
+    unsigned place;
+    printf("%s %u %s", slot == 0 ? "" : ",", slot, name_of(record));
+    for (place = 0; place < record[2]; place++) {
+        printf("%s%u", place == 0 ? "(" : ",", number_at(record + 4 + 2 * place));
+    }
+    printf("%s", record[2] == 0 ? "" : ")");
+}
+
+static void show_graph(const char *when, const uint8_t *graph) {
+    unsigned slot;
+    printf("%s: slots", when);
+    for (slot = 0; slot < GRAPH_SLOTS; slot++) {
+        show_slot(slot, graph + 24 + 48 * slot);
+    }
+    printf("; output %u\n", number_at(graph + 10));
+}
+
+/* Rewrites a copy of the graph by the rule, twice: the second time there is
+ * nothing left to do. 0 if the replies are those expected, else 1. */
+static int show_rewriting(const uint8_t *before, const uint8_t *rule) {
+    uint8_t graph[GRAPH_LENGTH], map[MAP_LENGTH];
+    uint64_t first, second;
+    memcpy(graph, before, sizeof graph);
+    show_graph("The graph before", graph);
+    first = lg_rewrite(graph, sizeof graph, rule, RULE_LENGTH, 0, map, sizeof map);
+    printf("Rewritten by the rule: reply %u\n", lg_reply_number(first));
+    show_graph("The graph after", graph);
+    second = lg_rewrite(graph, sizeof graph, rule, RULE_LENGTH, 0, map, sizeof map);
+    printf("Rewritten once more: reply %u\n", lg_reply_number(second));
+    return lg_reply_number(first) == LG_DONE && lg_reply_number(second) == LG_NO_MATCH ? 0 : 1;
 }
 
 int main(void) {
@@ -141,6 +186,7 @@ int main(void) {
                   lg_check_rule(rule, sizeof rule), LG_DONE);
     wrong += show_match(graph, rule, 0, 4);
     wrong += show_match(graph, rule, 5, NO_SLOT);
+    wrong += show_rewriting(graph, rule);
     graph[168 + 4] = 4; /* slot 3 reads slot 4, which reads slot 3 */
     wrong += show("The same graph with its relus reading each other",
                   lg_check_graph(graph, sizeof graph), LG_BAD_GRAPH);

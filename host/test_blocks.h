@@ -53,6 +53,14 @@ static const uint8_t p1_map[32] = {
 
 enum { MAP_LENGTH = 32, UNTOUCHED = 0xaa };
 
+/* What P1 leaves of E1: slot 3 is relu(2) as before, slot 4 is Empty as slot 5
+ * is, and the output is slot 3. */
+static void put_e1_after_p1(uint8_t *block) {
+    memcpy(block, &e1, sizeof e1);
+    memcpy(block + 24 + 48 * 4, e1.slots[5], 48);
+    block[10] = 3;
+}
+
 /* 0 if the reply is exactly the number expected, place and rest zero. */
 static int differs(const char *what, uint64_t reply, unsigned expected) {
     if (reply == expected && lg_reply_number(reply) == expected
@@ -128,6 +136,59 @@ static int count_find_differences(void) {
                           LG_BAD_MAP_LENGTH);
     count += find_differs("long map", graph, all, rule, 0, map + 1, LG_BAD_MAP_LENGTH);
     count += find_differs("no map", graph, all, rule, 0, 0, LG_BAD_MAP_LENGTH);
+    return count;
+}
+
+/* Rewrites E1, whose first output number is `output`, by the two relus. The
+ * rule is writable memory here, and the buffers are longer than what is lent:
+ * what is past it must stay on done, and every byte on a refusal. */
+static int rewrite_differs(const char *what, uint8_t output, size_t graph_len,
+                           size_t rule_len, size_t start, size_t map_len,
+                           unsigned expected) {
+    uint8_t graph[sizeof e1 + 1], graph_after[sizeof e1 + 1];
+    uint8_t rule[sizeof two_relus], map[MAP_LENGTH + 2], map_after[MAP_LENGTH + 2];
+    int count;
+    memset(map, UNTOUCHED, sizeof map);
+    memcpy(map_after, map, sizeof map);
+    memcpy(graph, &e1, sizeof e1);
+    graph[sizeof e1] = UNTOUCHED;
+    graph[10] = output;
+    memcpy(graph_after, graph, sizeof graph);
+    memcpy(rule, two_relus, sizeof rule);
+    if (expected == LG_DONE) {
+        memcpy(map_after, p1_map, sizeof p1_map);
+        put_e1_after_p1(graph_after);
+    }
+    count = differs(what, lg_rewrite(graph, graph_len, rule, rule_len, start,
+                                     map, map_len), expected);
+    if (memcmp(graph, graph_after, sizeof graph) != 0
+        || memcmp(rule, two_relus, sizeof rule) != 0
+        || memcmp(map, map_after, sizeof map) != 0) {
+        printf("%s: lent bytes are not what they should be\n", what);
+        count++;
+    }
+    return count;
+}
+
+/* P1, P2 and an inner relu that is a graph output, as in P3; and each refusal
+ * before those that follow. */
+static int count_rewrite_differences(void) {
+    const size_t all = sizeof e1, rule = sizeof two_relus, map = MAP_LENGTH;
+    int count = 0;
+    count += rewrite_differs("rewriting P1", 4, all, rule, 0, map, LG_DONE);
+    count += rewrite_differs("rewriting from 4", 4, all, rule, 4, map, LG_DONE);
+    count += rewrite_differs("rewriting from 5", 4, all, rule, 5, map, LG_NO_MATCH);
+    count += rewrite_differs("last start", 4, all, rule, SIZE_MAX, map, LG_NO_MATCH);
+    count += rewrite_differs("inner relu as output", 3, all, rule, 0, map, LG_NO_MATCH);
+    count += rewrite_differs("rewriting, short rule", 4, all, rule - 1, 9, map,
+                             LG_BAD_RULE);
+    count += rewrite_differs("rewriting, bad output", 5, all, rule - 1, 9, map,
+                             LG_BAD_GRAPH);
+    count += rewrite_differs("rewriting, long graph", 4, all + 1, rule, 0, map,
+                             LG_BAD_GRAPH);
+    count += rewrite_differs("rewriting, short map", 5, all, rule - 1, 9, map - 1,
+                             LG_BAD_MAP_LENGTH);
+    count += rewrite_differs("rewriting, no map", 4, all, rule, 0, 0, LG_BAD_MAP_LENGTH);
     return count;
 }
 

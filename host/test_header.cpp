@@ -31,10 +31,25 @@ static int count_shifted_find_differences() {
            + (map == shifted(p1_map, sizeof p1_map) ? 0 : 1);
 }
 
+static int count_shifted_rewrite_differences() {
+    uint8_t e1_after[sizeof e1];
+    std::vector<uint8_t> graph = shifted(e1_block, sizeof e1);
+    const std::vector<uint8_t> rule = shifted(two_relus, sizeof two_relus);
+    std::vector<uint8_t> map(1 + MAP_LENGTH);
+    const uint64_t reply = lg_rewrite(graph.data() + 1, graph.size() - 1,
+                                      rule.data() + 1, rule.size() - 1, 0,
+                                      map.data() + 1, map.size() - 1);
+    put_e1_after_p1(e1_after);
+    return differs("shifted rewriting", reply, LG_DONE)
+           + (graph == shifted(e1_after, sizeof e1_after) ? 0 : 1)
+           + (map == shifted(p1_map, sizeof p1_map) ? 0 : 1);
+}
+
 int main() {
     const int count = count_differences() + count_find_differences()
-                      + count_helper_differences() + count_shifted_differences()
-                      + count_shifted_find_differences();
+                      + count_rewrite_differences() + count_helper_differences()
+                      + count_shifted_differences() + count_shifted_find_differences()
+                      + count_shifted_rewrite_differences();
     if (count == 0) {
         puts("header test in C++: no difference");
     }

@@ -1,6 +1,6 @@
-/* The header promises that a call uses at most 64 KiB of stack. Each call is
- * made on a stack of its own whose bytes are all the same before; what differs
- * after shows how deep the call went. The blocks are the largest, with the
+/* The header promises that a rewriting uses at most 96 KiB of stack, and any
+ * other call at most 64 KiB. Each call is made on a stack of its own whose
+ * bytes are all the same before; what differs after shows how deep it went. The blocks are the largest, with the
  * longest chains, so that every loop and every recursion is at its deepest. */
 
 #define _GNU_SOURCE
@@ -14,6 +14,7 @@
 
 enum {
     PROMISED = 64 * 1024,
+    PROMISED_REWRITING = 96 * 1024,
     STACK = 1024 * 1024,
     FILL = 0xa5,
     SLOTS = 512,
@@ -23,6 +24,7 @@ enum {
 };
 
 static uint8_t graph[24 + 48 * SLOTS];
+static uint8_t rewritten[sizeof graph];
 static uint8_t rule[16 + 16 * (SIDE + SIDE) + 8 * NODES];
 static uint8_t pair_rule[sizeof rule];
 
@@ -40,15 +42,17 @@ static void put_slot(size_t slot, const char head[4], unsigned input, unsigned l
     }
 }
 
-/* Slot 511 a Variable, slot 510 a cast of it, slot 0 a relu of it, each other
- * slot a Tuple of five times the Variable and then the next slot: the cycle
- * test goes through all slots before it can finish one, and a search for a
- * chain goes down through the last of six inputs each time. */
+/* Slot 511 a Variable, slot 510 a cast of it, slot 0 a relu of it, slot 1
+ * Empty, each other slot a Tuple of five times the Variable and then the next
+ * slot: the cycle test goes through all slots before it can finish one, and a
+ * search for a chain goes down through the last of six inputs each time. A
+ * match removes 15 vertices; with the Empty slot there is room for 16. */
 static void build_graph(void) {
     size_t slot;
-    memcpy(graph, "LGT\0\1\0\0\2\1\0\1\0\377\377\377\377\377\377", 18);
+    memcpy(graph, "LGT\0\1\0\0\2\1\0\2\0\377\377\377\377\377\377", 18);
     put_slot(0, "\3\7\1", SLOTS - 1, SLOTS - 1);
-    for (slot = 1; slot < SLOTS - 2; slot++) {
+    put_slot(1, "\0\0\0", 0, 0);
+    for (slot = 2; slot < SLOTS - 2; slot++) {
         put_slot(slot, "\4\0\6", SLOTS - 1, (unsigned)slot + 1);
     }
     put_slot(SLOTS - 2, "\3\16\1\1", SLOTS - 1, SLOTS - 1);
@@ -119,6 +123,21 @@ static void *find_pair(void *reply) {
     return NULL;
 }
 
+/* The graph is copied outside the call that is measured. */
+static void *rewrite(void *reply) {
+    uint8_t map[32];
+    *(uint64_t *)reply = lg_rewrite(rewritten, sizeof rewritten, rule, sizeof rule, 0,
+                                    map, sizeof map);
+    return NULL;
+}
+
+static void *rewrite_pair(void *reply) {
+    uint8_t map[32];
+    *(uint64_t *)reply = lg_rewrite(rewritten, sizeof rewritten, pair_rule, sizeof pair_rule, 0,
+                                    map, sizeof map);
+    return NULL;
+}
+
 /* How many bytes of a stack the call used, or 0 where its reply was not done.
  * What a thread needs of its own is part of the figure. */
 static size_t used_by(void *(*call)(void *)) {
@@ -145,10 +164,10 @@ static size_t used_by(void *(*call)(void *)) {
 }
 
 /* Prints what a call used; 0 if its reply was done and it kept the promise. */
-static int show(const char *what, void *(*call)(void *)) {
+static int show(const char *what, void *(*call)(void *), size_t promised) {
     size_t used = used_by(call);
-    printf("stack: %s %zu bytes of %d\n", what, used, PROMISED);
-    return used != 0 && used <= PROMISED ? 0 : 1;
+    printf("stack: %s %zu bytes of %zu\n", what, used, promised);
+    return used != 0 && used <= promised ? 0 : 1;
 }
 
 int main(void) {
@@ -156,10 +175,14 @@ int main(void) {
     build_graph();
     build_rule(rule, 1);
     build_rule(pair_rule, 2);
-    wrong += show("checking a graph", check_graph);
-    wrong += show("checking a rule", check_rule);
-    wrong += show("finding a match", find_match);
-    wrong += show("finding a match with two outputs", find_pair);
+    wrong += show("checking a graph", check_graph, PROMISED);
+    wrong += show("checking a rule", check_rule, PROMISED);
+    wrong += show("finding a match", find_match, PROMISED);
+    wrong += show("finding a match with two outputs", find_pair, PROMISED);
+    memcpy(rewritten, graph, sizeof graph);
+    wrong += show("rewriting", rewrite, PROMISED_REWRITING);
+    memcpy(rewritten, graph, sizeof graph);
+    wrong += show("rewriting with two outputs", rewrite_pair, PROMISED_REWRITING);
     if (wrong != 0) {
         puts("stack test: more than promised, or sound blocks were refused");
     }

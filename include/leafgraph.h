@@ -1,5 +1,5 @@
 /* leafgraph: checks the operator graphs of an image pipeline and the rules by
- * which a later delivery will rewrite them, and finds where a rule matches.
+ * which they are rewritten, finds where a rule matches, and rewrites there.
  *
  * What holds for every function here:
  *
@@ -11,7 +11,8 @@
  * - After a refusal every lent byte is as it came.
  * - There is no state: calls may be made from any number of threads at once,
  *   as long as no buffer is written by one call while another one uses it.
- * - No memory is allocated, and a call uses at most 64 KiB of stack.
+ * - No memory is allocated. lg_rewrite uses at most 96 KiB of stack, since it
+ *   makes the new graph beside the old one; every other call at most 64 KiB.
  * - Numbers in the blocks are little-endian on every machine.
  */
 #ifndef LEAFGRAPH_H
@@ -84,15 +85,28 @@ uint64_t lg_find_match(const uint8_t *graph, size_t graph_len,
                        size_t start,
                        uint8_t *map, size_t map_len);
 
-/* Rewriting follows in a later delivery, with exactly this prototype. It is
- * not declared before it exists, so that a call to it is found by the compiler
- * and not by the linker.
+/* Rewrites a graph by a rule where lg_find_match would find its match from
+ * start on: the least one, and no other is tried. What the match removes
+ * becomes Empty, the rule's target vertices take the lowest Empty slots, and
+ * every input and graph output that named a replaced output names what takes
+ * its place. The three buffers must not overlap.
  *
- * uint64_t lg_rewrite(uint8_t *graph, size_t graph_len,
- *                     const uint8_t *rule, size_t rule_len,
- *                     size_t start,
- *                     uint8_t *map, size_t map_len);
+ * Reads:   graph_len bytes at graph, rule_len bytes at rule.
+ * Writes:  on LG_DONE, the graph_len bytes at graph: the new graph block, of
+ *          the same length and sound again; and the 32 bytes at map, as
+ *          lg_find_match does: its numbers are slots of the graph as it was
+ *          before. On a refusal, nothing: the graph is as it came.
+ * Replies: LG_DONE if the graph is rewritten; else the first that applies of
+ *          LG_BAD_MAP_LENGTH (map_len is not 32), LG_BAD_GRAPH, LG_BAD_RULE,
+ *          LG_NO_MATCH, LG_NO_RESULT (an attribute of a target vertex has no
+ *          result, or a projection's index is below 1), LG_NO_ROOM (the rule
+ *          has more target vertices than there are Empty slots and slots of
+ *          removed vertices) and LG_CYCLE (the new graph would have a cycle).
  */
+uint64_t lg_rewrite(uint8_t *graph, size_t graph_len,
+                    const uint8_t *rule, size_t rule_len,
+                    size_t start,
+                    uint8_t *map, size_t map_len);
 
 #ifdef __cplusplus
 }
