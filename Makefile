@@ -58,7 +58,8 @@ host-tests: build/test_header_c build/test_header_cpp build/test_stack build/dem
 	build/test_stack
 	build/demo
 
-# The run-only examples: the second program must say what the proved one said.
+# The examples that are run: the second program must say what the proved one
+# said.
 examples-test: | build
 	$(IN_REFERENCE) build $(LOCKED) --release -p leafgraph_reference
 	$(REFERENCE_BIN)/run_examples > build/examples
@@ -68,6 +69,7 @@ comparison: $(ARCHIVE)
 	$(IN_REFERENCE) build $(LOCKED) --release -p compare
 	$(REFERENCE_BIN)/compare checks
 	$(REFERENCE_BIN)/compare matching
+	$(REFERENCE_BIN)/compare rewriting
 
 # The proved library's speed beside the second program's, compiled alike. No
 # part of the gate: a figure is no fault.

@@ -1,4 +1,5 @@
-//! What is timed: searches that have to look at everything, and the checks.
+//! What is timed: searches that have to look at everything, rewritings at the
+//! end of such a search, and the checks.
 
 use std::hint::black_box;
 
@@ -17,7 +18,9 @@ pub struct Answer {
     pub map: [u8; MAP_LENGTH],
 }
 
-type Program = Box<dyn Fn() -> Answer>;
+/// A call. The bytes lent to it are what a rewriting rewrites, anew from the
+/// same graph each time; the other calls do not look at them.
+pub type Program = Box<dyn Fn(&mut Vec<u8>) -> Answer>;
 
 pub struct Case {
     pub name: &'static str,
@@ -49,6 +52,19 @@ pub fn searches() -> Vec<Case> {
     cases
 }
 
+/// All rewritings start at 0. Each timed call copies the graph first, in both
+/// programs alike.
+pub fn rewritings() -> Vec<Case> {
+    let mut cases = vec![];
+    for slots in SIZES {
+        let (one, two) = (double_relus(slots, true), pairs(slots, true));
+        cases.push(rewriting("rewrite, 1 output, last slot", FOUND, one, rr(), once));
+        cases.push(rewriting("rewrite, 2 outputs, last pair", FOUND, two, p7_rule(), once));
+        cases.push(rewriting("rewrite to the end", NONE, chain(slots), rr(), to_the_end));
+    }
+    cases
+}
+
 pub fn checks() -> Vec<Case> {
     let (graph, rule) = (chain(512), rr());
     vec![
@@ -74,7 +90,7 @@ type FindMatch = fn(&[u8], &[u8], usize, &mut [u8]) -> u64;
 fn search(name: &'static str, reply: u64, graph: GraphParts, rule: RuleParts) -> Case {
     let program = |find_match: FindMatch| -> Program {
         let (graph, rule) = (graph.block(), rule.block());
-        Box::new(move || {
+        Box::new(move |_| {
             let mut map = [0; MAP_LENGTH];
             let reply = find_match(black_box(&graph), black_box(&rule), black_box(0), &mut map);
             Answer { reply, map }
@@ -89,6 +105,51 @@ fn search(name: &'static str, reply: u64, graph: GraphParts, rule: RuleParts) ->
     }
 }
 
+type Rewrite = fn(&mut [u8], &[u8], usize, &mut [u8]) -> u64;
+
+/// How a table is rewritten.
+type Course = fn(Rewrite, &mut [u8], &[u8], &mut [u8]) -> u64;
+
+fn once(rewrite: Rewrite, table: &mut [u8], rule: &[u8], map: &mut [u8]) -> u64 {
+    rewrite(table, black_box(rule), black_box(0), map)
+}
+
+/// Until a call is not accepted.
+fn to_the_end(rewrite: Rewrite, table: &mut [u8], rule: &[u8], map: &mut [u8]) -> u64 {
+    loop {
+        let reply = once(rewrite, table, rule, map);
+        if reply != FOUND {
+            return reply;
+        }
+    }
+}
+
+fn rewriting(
+    name: &'static str,
+    reply: u64,
+    graph: GraphParts,
+    rule: RuleParts,
+    course: Course,
+) -> Case {
+    let program = |rewrite: Rewrite| -> Program {
+        let (graph, rule) = (graph.block(), rule.block());
+        Box::new(move |table| {
+            table.clear();
+            table.extend_from_slice(black_box(&graph));
+            let mut map = [0; MAP_LENGTH];
+            let reply = course(rewrite, table, &rule, &mut map);
+            Answer { reply, map }
+        })
+    };
+    Case {
+        name,
+        slots: Some(graph.slots.len()),
+        reply,
+        proved: program(leafgraph_proved::rewrite),
+        second: program(leafgraph_reference::rewrite),
+    }
+}
+
 type Check = fn(&[u8]) -> u64;
 
 fn check(
@@ -100,7 +161,7 @@ fn check(
 ) -> Case {
     let program = |check: Check| -> Program {
         let block = block.clone();
-        Box::new(move || Answer { reply: check(black_box(&block)), map: [0; MAP_LENGTH] })
+        Box::new(move |_| Answer { reply: check(black_box(&block)), map: [0; MAP_LENGTH] })
     };
     Case { name, slots, reply: 0, proved: program(proved), second: program(second) }
 }

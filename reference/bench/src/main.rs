@@ -7,12 +7,12 @@
 mod cases;
 mod timing;
 
-use cases::{checks, searches, Case};
+use cases::{checks, rewritings, searches, Case};
 use timing::best_of_each;
 
 fn main() {
     println!("{:30}{:>8}{:>14}{:>14}{:>9}", "call", "slots", "proved ns", "second ns", "ratio");
-    for case in searches().iter().chain(&checks()) {
+    for case in searches().iter().chain(&rewritings()).chain(&checks()) {
         let (proved, second) = figures(case);
         let ratio = proved / second;
         let slots = case.slots.map_or("-".to_string(), |slots| slots.to_string());
@@ -24,8 +24,11 @@ fn main() {
 /// Nanoseconds for a call of each program, once both have given the answer
 /// that the row is about.
 fn figures(case: &Case) -> (f64, f64) {
-    let (proved, second) = ((case.proved)(), (case.second)());
-    assert_eq!(proved, second, "the programs differ: {}, {:?} slots", case.name, case.slots);
-    assert_eq!(second.reply, case.reply, "another reply: {}, {:?} slots", case.name, case.slots);
-    best_of_each(&case.proved, &case.second)
+    let (mut one, mut other) = (vec![], vec![]);
+    let (proved, second) = ((case.proved)(&mut one), (case.second)(&mut other));
+    let row = format!("{}, {:?} slots", case.name, case.slots);
+    assert_eq!(proved, second, "the programs differ: {row}");
+    assert!(one == other, "the programs leave different tables: {row}");
+    assert_eq!(second.reply, case.reply, "another reply: {row}");
+    best_of_each(&mut || (case.proved)(&mut one), &mut || (case.second)(&mut other))
 }

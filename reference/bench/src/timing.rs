@@ -10,7 +10,7 @@ const ROUNDS: usize = 60;
 const BATCH: i64 = 300_000;
 
 /// Nanoseconds for each of the two calls, the best of all rounds.
-pub fn best_of_each<A>(one: &impl Fn() -> A, other: &impl Fn() -> A) -> (f64, f64) {
+pub fn best_of_each<A>(one: &mut impl FnMut() -> A, other: &mut impl FnMut() -> A) -> (f64, f64) {
     let repeats = (repeats(one), repeats(other));
     let mut best = (f64::INFINITY, f64::INFINITY);
     for _ in 0..ROUNDS {
@@ -21,7 +21,7 @@ pub fn best_of_each<A>(one: &impl Fn() -> A, other: &impl Fn() -> A) -> (f64, f6
 }
 
 /// How many calls make a batch.
-fn repeats<A>(call: &impl Fn() -> A) -> u32 {
+fn repeats<A>(call: &mut impl FnMut() -> A) -> u32 {
     let mut repeats = 1;
     while batch(call, repeats) < BATCH {
         repeats *= 2;
@@ -29,11 +29,11 @@ fn repeats<A>(call: &impl Fn() -> A) -> u32 {
     repeats
 }
 
-fn nanoseconds<A>(call: &impl Fn() -> A, repeats: u32) -> f64 {
+fn nanoseconds<A>(call: &mut impl FnMut() -> A, repeats: u32) -> f64 {
     batch(call, repeats) as f64 / f64::from(repeats)
 }
 
-fn batch<A>(call: &impl Fn() -> A, repeats: u32) -> i64 {
+fn batch<A>(call: &mut impl FnMut() -> A, repeats: u32) -> i64 {
     let begin = processor_time();
     for _ in 0..repeats {
         black_box(call());

@@ -7,7 +7,7 @@ use leafgraph_reference::generate::{
 use leafgraph_reference::random::Random;
 
 use crate::lent::Lent;
-use crate::tally::{Call, Tally};
+use crate::tally::{Call, Tally, CHANGED};
 
 /// One of the checks in both programs, with the blocks to try it on.
 struct Check {
@@ -56,11 +56,12 @@ impl Check {
         let (origin, block) = self.block(random);
         let lent = Lent::new(random, &block);
         let proved = (self.proved)(lent.block());
+        let faults = if lent.holds(&block) { vec![] } else { vec![CHANGED] };
         tally.record(Call {
             origin,
             proved,
             reference: (self.reference)(&block),
-            changed: !lent.holds(&block),
+            faults,
             start: None,
             bytes: &[("block", &block)],
         });

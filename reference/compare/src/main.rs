@@ -1,16 +1,20 @@
 //! Runs the proved library and the second program on the same random blocks
 //! and reports any difference.
 //!
-//!     compare [--seed S] [--calls N] checks|matching
+//!     compare [--seed S] [--calls N] checks|matching|rewriting
 //!
 //! The same seed gives the same calls. Exit status 0: no difference, enough
 //! calls were done, and everything that must be tried was; 1: otherwise; 2:
 //! wrong usage.
 
+mod arguments;
 mod checks;
 mod classes;
 mod lent;
 mod matching;
+mod rewriting;
+mod rewriting_classes;
+mod sequences;
 mod tally;
 
 use std::env;
@@ -21,9 +25,9 @@ use leafgraph_reference::random::Random;
 use tally::Tally;
 
 const DEFAULT_SEED: u64 = 1;
-const USAGE: &str = "usage: compare [--seed S] [--calls N] checks|matching";
+const USAGE: &str = "usage: compare [--seed S] [--calls N] checks|matching|rewriting";
 
-/// What is compared. Rewriting will be a further mode.
+/// What is compared.
 #[derive(Clone, Copy)]
 struct Mode {
     name: &'static str,
@@ -31,9 +35,10 @@ struct Mode {
     default_calls: u64,
 }
 
-const MODES: [Mode; 2] = [
+const MODES: [Mode; 3] = [
     Mode { name: "checks", run: checks::run, default_calls: 1_000_000 },
     Mode { name: "matching", run: matching::run, default_calls: 300_000 },
+    Mode { name: "rewriting", run: rewriting::run, default_calls: 300_000 },
 ];
 
 struct Options {

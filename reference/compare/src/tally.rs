@@ -7,13 +7,20 @@ use std::fmt::Write;
 /// only sees refusals shows nothing.
 const LEAST_DONE: u64 = 15;
 
+/// Replies above this one, and done, are given to sound blocks with a map of
+/// the right length.
+const LAST_BAD_ARGUMENT: u64 = 3;
+
+/// The fault of lent bytes that are not what they should be.
+pub const CHANGED: &str = "lent bytes are not what they should be after the call";
+
 /// The first call on which the two programs differ.
 struct Difference {
     call: u64,
     origin: &'static str,
     proved: u64,
     reference: u64,
-    changed: bool,
+    faults: Vec<&'static str>,
     start: Option<usize>,
     bytes: Vec<(&'static str, Vec<u8>)>,
 }
@@ -23,8 +30,8 @@ pub struct Call<'a> {
     pub origin: &'static str,
     pub proved: u64,
     pub reference: u64,
-    /// Whether lent bytes are not what they should be.
-    pub changed: bool,
+    /// What is wrong although the replies may be the same.
+    pub faults: Vec<&'static str>,
     /// Where a search starts; the checks have none.
     pub start: Option<usize>,
     /// Bytes that tell a reader about a difference, by name.
@@ -39,6 +46,9 @@ struct Side {
 
 pub struct Tally {
     name: &'static str,
+    /// The least share of the calls with good arguments, in percent, that must
+    /// be done.
+    least_accepted: u64,
     calls: u64,
     differences: u64,
     first: Option<Difference>,
@@ -54,6 +64,7 @@ impl Tally {
     pub fn new(name: &'static str, replies: &[u64], classes: &[&'static str]) -> Tally {
         Tally {
             name,
+            least_accepted: 0,
             calls: 0,
             differences: 0,
             first: None,
@@ -62,6 +73,14 @@ impl Tally {
             origins: BTreeMap::new(),
             classes: classes.iter().map(|&class| (class, 0)).collect(),
         }
+    }
+
+    pub fn with_least_accepted(self, percent: u64) -> Tally {
+        Tally { least_accepted: percent, ..self }
+    }
+
+    pub fn calls(&self) -> u64 {
+        self.calls
     }
 
     /// Counts a call of one of the classes named at the start.
@@ -77,7 +96,7 @@ impl Tally {
         let origin = self.origins.entry(call.origin).or_default();
         origin.calls += 1;
         origin.done += u64::from(call.reference == 0);
-        if call.proved == call.reference && !call.changed {
+        if call.proved == call.reference && call.faults.is_empty() {
             return;
         }
         self.differences += 1;
@@ -88,7 +107,7 @@ impl Tally {
                 origin: call.origin,
                 proved: call.proved,
                 reference: call.reference,
-                changed: call.changed,
+                faults: call.faults,
                 start: call.start,
                 bytes: bytes.collect(),
             });
@@ -99,8 +118,15 @@ impl Tally {
         self.reference.get(&0).copied().unwrap_or(0)
     }
 
+    /// Calls whose arguments were good, whatever came of them.
+    fn sound(&self) -> u64 {
+        let refused = self.reference.range(LAST_BAD_ARGUMENT + 1..);
+        self.done() + refused.map(|(_, count)| count).sum::<u64>()
+    }
+
     fn has_enough_done(&self) -> bool {
         self.done() * 100 >= self.calls * LEAST_DONE
+            && self.done() * 100 >= self.sound() * self.least_accepted
     }
 
     /// Replies and classes that must occur and did not.
@@ -136,8 +162,10 @@ impl Tally {
 
     fn report_faults(&self, text: &mut String) {
         if !self.has_enough_done() {
-            let done = self.done();
-            writeln!(text, "  only {done} calls are done, under {LEAST_DONE} %").expect("text");
+            let (done, sound, least) = (self.done(), self.sound(), self.least_accepted);
+            writeln!(text, "  only {done} calls are done, under {LEAST_DONE} % of all or")
+                .expect("text");
+            writeln!(text, "  under {least} % of the {sound} with good arguments").expect("text");
         }
         for class in self.missing() {
             writeln!(text, "  never seen: {class}").expect("text");
@@ -154,8 +182,8 @@ impl Difference {
         writeln!(text, "  first difference: call {}, {}", self.call, self.origin).expect("text");
         writeln!(text, "  proved replies {}, reference {}", self.proved, self.reference)
             .expect("text");
-        if self.changed {
-            text.push_str("  lent bytes are not what they should be after the call\n");
+        for fault in &self.faults {
+            writeln!(text, "  {fault}").expect("text");
         }
         if let Some(start) = self.start {
             writeln!(text, "  start {start}").expect("text");

@@ -13,6 +13,15 @@ extern "C" {
         map: *mut u8,
         map_len: usize,
     ) -> u64;
+    fn lg_rewrite(
+        graph: *mut u8,
+        graph_len: usize,
+        rule: *const u8,
+        rule_len: usize,
+        start: usize,
+        map: *mut u8,
+        map_len: usize,
+    ) -> u64;
 }
 
 pub fn check_graph(graph: &[u8]) -> u64 {
@@ -33,6 +42,23 @@ pub fn find_match(graph: &[u8], rule: &[u8], start: usize, map: &mut [u8]) -> u6
     unsafe {
         lg_find_match(
             graph.as_ptr(),
+            graph_len,
+            rule.as_ptr(),
+            rule_len,
+            start,
+            map.as_mut_ptr(),
+            map_len,
+        )
+    }
+}
+
+pub fn rewrite(graph: &mut [u8], rule: &[u8], start: usize, map: &mut [u8]) -> u64 {
+    let (graph_len, rule_len, map_len) = (graph.len(), rule.len(), map.len());
+    // SAFETY: as above; and the graph, which may be written too, overlaps
+    // neither of the others, since it is borrowed for this call alone.
+    unsafe {
+        lg_rewrite(
+            graph.as_mut_ptr(),
             graph_len,
             rule.as_ptr(),
             rule_len,

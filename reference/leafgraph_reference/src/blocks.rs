@@ -8,9 +8,9 @@ use crate::fields::put_i32;
 use crate::fields::put_u16;
 use crate::graph::{self, write_record, OUTPUT_PLACES};
 use crate::operators::{
-    ADD, CALL, CONST, CONV2D, EMPTY, PROJ, RELU, SUB, TUPLE, VARIABLE, WILDCARD,
+    ADD, CALL, CONST, CONV2D, EMPTY, GAIN, MEAN, PROJ, RELU, SUB, TUPLE, VARIABLE, WILDCARD,
 };
-use crate::rule::{self, Node, ACCESS, ANY, CONSTANT, TARGET_BASE};
+use crate::rule::{self, Node, ACCESS, ANY, CONSTANT, TARGET_BASE, TIMES};
 
 /// One slot of a graph.
 #[derive(Clone, Debug, PartialEq, Eq)]
@@ -223,6 +223,43 @@ pub fn p7_rule() -> RuleParts {
         target_outputs: vec![target_place(0); 2],
         nodes: vec![],
     }
+}
+
+/// P7's graph: slots "0 Variable, 1 relu(0), 2 mean(1)", 3 add(0,2), output 3.
+pub fn p7_graph() -> GraphParts {
+    let slots = vec![variable(), relu(0), call(MEAN, &[1], &[0]), add(0, 2)];
+    GraphParts::new(slots, &[3])
+}
+
+/// P8's graph: "Slots 0, 1 Variable, 2 relu(0), 3 relu(1), 4 add(1,0), output
+/// 4".
+pub fn p8_graph() -> GraphParts {
+    let slots = vec![variable(), variable(), relu(0), relu(1), add(1, 0)];
+    GraphParts::new(slots, &[4])
+}
+
+/// P10's rule: "gain over gain, attributes multiplied".
+pub fn p10_rule() -> RuleParts {
+    let gain = |input, nodes: [u8; 3]| call_pattern(GAIN, &[input], &nodes);
+    let mut nodes = vec![any_node()];
+    for place in 1..=3 {
+        let left = nodes.len() as u8;
+        nodes.extend([access_node(1, place), access_node(2, place)]);
+        nodes.push(operation_node(TIMES, left, left + 1));
+    }
+    RuleParts {
+        source: vec![wildcard(), gain(0, [0; 3]), gain(1, [0; 3])],
+        target: vec![gain(0, [3, 6, 9])],
+        source_outputs: vec![2],
+        target_outputs: vec![target_place(0)],
+        nodes,
+    }
+}
+
+/// Slots 0 Variable, 1 gain(0) and 2 gain(1) with these attributes, output 2.
+pub fn p10_graph(first: [i32; 3], second: [i32; 3]) -> GraphParts {
+    let slots = vec![variable(), call(GAIN, &[0], &first), call(GAIN, &[1], &second)];
+    GraphParts::new(slots, &[2])
 }
 
 /// Slot 0 a Variable, slot k relu(k - 1), the last one the output.

@@ -16,14 +16,16 @@ mod fields;
 pub mod generate;
 pub mod graph;
 pub mod matching;
+pub mod meaning;
 pub mod operators;
 pub mod random;
 pub mod reply;
+pub mod results;
 mod rewriting;
 pub mod rule;
 mod rule_check;
 
-use graph::Graph;
+use graph::{Graph, MAX_BLOCK};
 use reply::{reply_of, Refusal};
 use rule::Rule;
 
@@ -66,9 +68,10 @@ fn try_rewrite(graph: &mut [u8], rule: &[u8], start: usize, map: &mut [u8]) -> R
     let old = Graph::parse(graph)?;
     let rule = Rule::parse(rule)?;
     let images = matching::least_match(old, rule, start).ok_or(Refusal::NO_MATCH)?;
-    let new = rewriting::rewritten(old, rule, &images)?;
-    let length = graph.len();
-    graph.copy_from_slice(&new[..length]);
+    let mut buffer = [0; MAX_BLOCK];
+    let new = &mut buffer[..old.bytes().len()];
+    rewriting::write_new_table(new, old, rule, &images)?;
+    graph.copy_from_slice(new);
     matching::write_map(map, &images);
     Ok(())
 }

@@ -51,6 +51,7 @@ pub const CONV2D: u8 = 4;
 pub const RELU: u8 = 7;
 pub const GAIN: u8 = 10;
 pub const MEAN: u8 = 12;
+pub const RESHAPE: u8 = 13;
 
 /// The operator of this number, "1 to 14".
 pub fn operator_of(number: u8) -> Option<Operator> {

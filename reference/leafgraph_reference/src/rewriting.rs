@@ -3,7 +3,7 @@
 use crate::attributes::results;
 use crate::cycle::has_cycle;
 use crate::fields::put_u16;
-use crate::graph::{write_empty, write_record, Graph, HEADER, MAX_BLOCK, RECORD};
+use crate::graph::{write_empty, write_record, Graph, HEADER, RECORD};
 use crate::matching::Images;
 use crate::operators::{PLACES, PROJ};
 use crate::reply::Refusal;
@@ -12,22 +12,26 @@ use crate::rule::{Rule, MAX_OUTPUTS, MAX_VERTICES, TARGET_BASE};
 /// The attributes of each target vertex.
 type TargetAttributes = [[i32; PLACES]; MAX_VERTICES];
 
-/// The new table for this match, in a buffer of its own: the lent block is
-/// written only when no refusal can follow. The refusals come in document
-/// 01's order: 5, then 6, then 7.
-pub fn rewritten(old: Graph, rule: Rule, images: &Images) -> Result<[u8; MAX_BLOCK], Refusal> {
+/// Writes the new table for this match into a buffer of the old one's length
+/// that nobody has lent: a refusal may still follow. The refusals come in
+/// document 01's order: 5, then 6, then 7.
+pub fn write_new_table(
+    new: &mut [u8],
+    old: Graph,
+    rule: Rule,
+    images: &Images,
+) -> Result<(), Refusal> {
     let attributes = target_attributes(old, rule, images).ok_or(Refusal::NO_RESULT)?;
-    let mut new = [0; MAX_BLOCK];
-    new[..old.bytes().len()].copy_from_slice(old.bytes());
     let slots = target_slots(old, rule, images).ok_or(Refusal::NO_ROOM)?;
     let plan = Plan { old, rule, images, slots };
-    plan.redirect(&mut new);
-    plan.remove(&mut new);
-    plan.write_targets(&mut new, &attributes);
-    if has_cycle(Graph::view(&new[..old.bytes().len()])) {
+    new.copy_from_slice(old.bytes());
+    plan.redirect(new);
+    plan.remove(new);
+    plan.write_targets(new, &attributes);
+    if has_cycle(Graph::view(new)) {
         return Err(Refusal::CYCLE);
     }
-    Ok(new)
+    Ok(())
 }
 
 /// "their attributes are the results of their expressions, read from the old

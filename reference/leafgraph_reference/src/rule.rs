@@ -61,6 +61,10 @@ impl<'a> Rule<'a> {
         Rule { bytes }
     }
 
+    pub fn bytes(self) -> &'a [u8] {
+        self.bytes
+    }
+
     /// S.
     pub fn source_count(self) -> usize {
         usize::from(self.bytes[6])

@@ -7,7 +7,7 @@ mod common;
 use common::{map_of, run_match, run_rewrite};
 use leafgraph_reference::attributes::{agrees, results};
 use leafgraph_reference::blocks::{empty, GraphParts, RuleParts, Vertex};
-use leafgraph_reference::generate::{matching_case, search_case, Case};
+use leafgraph_reference::generate::{matching_case, rewriting_case, search_case, Case};
 use leafgraph_reference::graph::Graph;
 use leafgraph_reference::random::Random;
 use leafgraph_reference::rule::Rule;
@@ -209,7 +209,10 @@ fn the_rewriting_leaves_the_one_table() {
     let mut random = Random::new(2);
     let mut replies = [0; 8];
     for _ in 0..9000 {
-        let case = matching_case(&mut random);
+        let case = match random.chance(50) {
+            true => matching_case(&mut random),
+            false => rewriting_case(&mut random).1,
+        };
         let found = run_match(&case.graph, &case.rule, case.start);
         let answer = run_rewrite(&case.graph, &case.rule, case.start);
         replies[answer.reply as usize] += 1;

@@ -5,7 +5,7 @@ use std::collections::BTreeMap;
 
 use leafgraph_reference::generate::*;
 use leafgraph_reference::random::Random;
-use leafgraph_reference::{check_graph, check_rule, find_match};
+use leafgraph_reference::{check_graph, check_rule, find_match, rewrite};
 
 #[test]
 fn sound_graphs_are_accepted() {
@@ -112,4 +112,31 @@ fn damaged_cases_are_mostly_refused() {
     }
     assert!((1000..2000).contains(&graphs), "{graphs}");
     assert!((1000..2000).contains(&rules), "{rules}");
+}
+
+/// Cases for rewriting are sound, and most of them are accepted.
+#[test]
+fn rewriting_cases_are_sound_and_of_every_outcome() {
+    let mut random = Random::new(13);
+    let mut replies = [0; 8];
+    for _ in 0..10_000 {
+        let (name, case) = rewriting_case(&mut random);
+        let (mut graph, rule) = (case.graph.block(), case.rule.block());
+        let reply = rewrite(&mut graph, &rule, case.start, &mut [0; 32]);
+        replies[reply as usize] += 1;
+        assert!(reply == 0 || reply >= 4, "{name}: {reply}, {case:?}");
+    }
+    assert!(replies[0] > 5000, "{replies:?}");
+    assert!(replies[4..].iter().all(|&count| count > 20), "{replies:?}");
+}
+
+#[test]
+fn sequences_are_sound() {
+    let mut random = Random::new(14);
+    for _ in 0..1000 {
+        let Sequence { graph, rules } = sequence(&mut random);
+        assert_eq!(check_graph(&graph.block()), 0, "{graph:?}");
+        assert!(rules.iter().all(|rule| check_rule(&rule.block()) == 0), "{rules:?}");
+        assert!(!rules.is_empty());
+    }
 }

@@ -5,8 +5,8 @@ mod common;
 use common::{map_of, run_match, run_rewrite};
 use leafgraph_reference::attributes::combine;
 use leafgraph_reference::blocks::*;
-use leafgraph_reference::operators::{ADD, GAIN, MEAN, RELU};
-use leafgraph_reference::rule::{DIVIDE, REMAINDER, TIMES};
+use leafgraph_reference::operators::{ADD, GAIN, MEAN, RELU, SUB};
+use leafgraph_reference::rule::{DIVIDE, REMAINDER};
 use leafgraph_reference::{check_graph, check_rule};
 
 fn e1_after_p1() -> GraphParts {
@@ -93,15 +93,18 @@ fn p6_interior_image_read_from_outside() {
 fn p7_cycle_in_the_new_table() {
     let mut graph = p6_graph();
     graph.slots[3] = add(0, 2);
+    assert_eq!(graph, p7_graph());
     assert_eq!(run_match(&graph, &p7_rule(), 0).map, map_of(&[0, 1, 2, 3]));
     assert_eq!(run_rewrite(&graph, &p7_rule(), 0).reply, 7);
 }
 
 #[test]
 fn p8_the_search_goes_on() {
-    let slots = vec![variable(), variable(), relu(0), relu(1), add(1, 0)];
-    let graph = GraphParts::new(slots, &[4]);
-    assert_eq!(run_match(&graph, &p7_rule(), 0).map, map_of(&[1, 3, 0, 4]));
+    assert_eq!(run_match(&p8_graph(), &p7_rule(), 0).map, map_of(&[1, 3, 0, 4]));
+    let answer = run_rewrite(&p8_graph(), &p7_rule(), 0);
+    let slots = vec![variable(), variable(), relu(0), call(SUB, &[1, 0], &[]), empty()];
+    assert_eq!((answer.reply, answer.map), (0, map_of(&[1, 3, 0, 4])));
+    assert_eq!(answer.graph, GraphParts::new(slots, &[3]).block());
 }
 
 #[test]
@@ -116,39 +119,13 @@ fn p9_division() {
     assert_eq!(combine(REMAINDER, 1, 0), None);
 }
 
-fn gain_rule() -> RuleParts {
-    let mut nodes = vec![any_node()];
-    for place in 1..=3 {
-        nodes.push(access_node(1, place));
-        nodes.push(access_node(2, place));
-        let right = nodes.len() as u8 - 1;
-        nodes.push(operation_node(TIMES, right - 1, right));
-    }
-    RuleParts {
-        source: vec![
-            wildcard(),
-            call_pattern(GAIN, &[0], &[0, 0, 0]),
-            call_pattern(GAIN, &[1], &[0, 0, 0]),
-        ],
-        target: vec![call_pattern(GAIN, &[0], &[3, 6, 9])],
-        source_outputs: vec![2],
-        target_outputs: vec![target_place(0)],
-        nodes,
-    }
-}
-
-fn gain_graph(first: [i32; 3], second: [i32; 3]) -> GraphParts {
-    let slots = vec![variable(), call(GAIN, &[0], &first), call(GAIN, &[1], &second)];
-    GraphParts::new(slots, &[2])
-}
-
 #[test]
 fn p10_product_without_result() {
-    let graph = gain_graph([65536, 1, 1], [65536, 1, 1]);
-    assert_eq!(run_match(&graph, &gain_rule(), 0).reply, 0);
-    assert_eq!(run_rewrite(&graph, &gain_rule(), 0).reply, 5);
-    let graph = gain_graph([65536, -3, 1], [32767, 5, 0]);
-    let after = run_rewrite(&graph, &gain_rule(), 0);
+    let graph = p10_graph([65536, 1, 1], [65536, 1, 1]);
+    assert_eq!(run_match(&graph, &p10_rule(), 0).reply, 0);
+    assert_eq!(run_rewrite(&graph, &p10_rule(), 0).reply, 5);
+    let graph = p10_graph([65536, -3, 1], [32767, 5, 0]);
+    let after = run_rewrite(&graph, &p10_rule(), 0);
     let fused = call(GAIN, &[0], &[65536 * 32767, -15, 0]);
     let expected = GraphParts::new(vec![variable(), fused, empty()], &[1]);
     assert_eq!(after.reply, 0);

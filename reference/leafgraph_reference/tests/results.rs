@@ -1,252 +1,217 @@
-//! Demand 3 on random accepted rewritings: what vertices mean before and
-//! after, under a random meaning.
+//! Demand 3 on random accepted rewritings, and on tables that are wrong.
 
 mod common;
 
-use common::{run_rewrite, Answer};
+use common::run_rewrite;
 use leafgraph_reference::blocks::*;
 use leafgraph_reference::check_graph;
-use leafgraph_reference::generate::{matching_case, same_meaning_case, Case};
-use leafgraph_reference::graph::{Graph, Slot};
-use leafgraph_reference::operators::{ADD, CALL, GAIN, RELU, VARIABLE};
-use leafgraph_reference::random::{mixed, Random};
-use leafgraph_reference::rule::TIMES;
+use leafgraph_reference::generate::{lawful_rules, matching_case, rewriting_case};
+use leafgraph_reference::generate::{same_meaning_case, sound_graph_of, Case};
+use leafgraph_reference::graph::Graph;
+use leafgraph_reference::meaning::{Meaning, Term};
+use leafgraph_reference::operators::{ADD, CALL, GAIN, MEAN, PROJ, RELU, RESHAPE, TUPLE};
+use leafgraph_reference::random::Random;
+use leafgraph_reference::results::{Accepted, Verdict};
+use leafgraph_reference::rule::Rule;
 
-/// "every other vertex's result is a function, any one, of its kind,
-/// operator, attributes and input results in order."
-type Function = fn(seed: u64, slot: Slot, inputs: &[u64]) -> u64;
+type Make = fn(u64) -> Meaning;
 
-/// A function without any law of its own: a hash of all it is given.
-fn lawless(seed: u64, slot: Slot, inputs: &[u64]) -> u64 {
-    let head = u64::from(u32::from_le_bytes(slot.head()));
-    let attributes = slot.attributes().map(|number| number as u64);
-    let all = attributes.chain(inputs.iter().copied());
-    all.fold(mixed(seed ^ head), |hash, number| mixed(hash.rotate_left(7) ^ number))
+/// The new table and the map of an accepted case, or None where it is refused.
+fn accepted(case: &Case) -> Option<(Vec<u8>, Vec<u16>)> {
+    let answer = run_rewrite(&case.graph, &case.rule, case.start);
+    (answer.reply == 0).then_some((answer.graph, answer.map))
 }
 
-/// Sums are sums, relu is idempotent, gain multiplies by its attributes; the
-/// rest is lawless.
-fn lawful(seed: u64, slot: Slot, inputs: &[u64]) -> u64 {
-    match (slot.kind(), slot.operator()) {
-        (CALL, ADD) => inputs[0].wrapping_add(inputs[1]),
-        (CALL, RELU) => inputs[0] | 1 << 63,
-        (CALL, GAIN) => {
-            slot.attributes().fold(inputs[0], |result, factor| result.wrapping_mul(factor as u64))
-        }
-        _ => lawless(seed, slot, inputs),
-    }
-}
-
-/// The results of all vertices; "a Variable's result belongs to its slot
-/// number".
-fn results(block: &[u8], seed: u64, function: Function) -> Vec<Option<u64>> {
-    let graph = Graph::parse(block).expect("a sound graph");
-    let mut results = vec![None; graph.slot_count()];
-    for number in 0..graph.slot_count() {
-        result_of(graph, number, seed, function, &mut results);
-    }
-    results
-}
-
-fn result_of(
-    graph: Graph,
-    number: usize,
-    seed: u64,
-    function: Function,
-    results: &mut [Option<u64>],
-) -> u64 {
-    if let Some(result) = results[number] {
-        return result;
-    }
-    let slot = graph.slot(number);
-    if slot.is_empty() {
-        return 0;
-    }
-    let inputs: Vec<u64> = slot
-        .inputs()
-        .map(|input| result_of(graph, input.into(), seed, function, results))
-        .collect();
-    let result = match slot.kind() {
-        VARIABLE => mixed(seed.wrapping_add(number as u64)),
-        _ => function(seed, slot, &inputs),
+/// What a meaning shows where this is said to be the new table.
+fn judge(random: &mut Random, case: &Case, new: &[u8], map: &[u16], make: Make) -> Verdict {
+    let (old, rule) = (case.graph.block(), case.rule.block());
+    let accepted = Accepted {
+        old: Graph::parse(&old).expect("a sound graph"),
+        new: Graph::parse(new).expect("a sound graph"),
+        rule: Rule::parse(&rule).expect("a sound rule"),
+        images: map.try_into().expect("sixteen"),
     };
-    results[number] = Some(result);
-    result
-}
-
-/// The slots of the old table that stay.
-fn staying(case: &Case, map: &[u16]) -> Vec<usize> {
-    let removed = |slot: usize| {
-        let mut pairs = case.rule.source.iter().zip(map);
-        pairs.any(|(pattern, &image)| {
-            usize::from(image) == slot && pattern.kind != 0 && pattern.kind != VARIABLE
-        })
-    };
-    (0..case.graph.slots.len())
-        .filter(|&slot| case.graph.slots[slot].kind != 0 && !removed(slot))
-        .collect()
-}
-
-/// The slots that a replaced output has a path to, in the old table.
-fn below_replaced(case: &Case, map: &[u16]) -> Vec<bool> {
-    let mut below = vec![false; case.graph.slots.len()];
-    for &output in &case.rule.source_outputs {
-        below[usize::from(map[usize::from(output)])] = true;
-    }
-    loop {
-        let next = (0..below.len()).find(|&slot| {
-            let mut inputs = case.graph.slots[slot].inputs.iter();
-            !below[slot] && inputs.any(|&input| below[usize::from(input)])
-        });
-        match next {
-            Some(slot) => below[slot] = true,
-            None => return below,
-        }
-    }
-}
-
-/// "Every vertex that stays and has no path to it from a replaced output has
-/// the same result after as before."
-fn assert_first_half(case: &Case, answer: &Answer, seed: u64) {
-    let before = results(&case.graph.block(), seed, lawless);
-    let after = results(&answer.graph, seed, lawless);
-    let below = below_replaced(case, &answer.map);
-    for slot in staying(case, &answer.map) {
-        if !below[slot] {
-            assert_eq!(before[slot], after[slot], "slot {slot} of {case:?}");
-        }
-    }
-}
-
-/// "Then every vertex that stays has the same result after as before. So has
-/// every graph output, place by place".
-fn assert_second_half(case: &Case, answer: &Answer, seed: u64, function: Function) {
-    let old = case.graph.block();
-    let before = results(&old, seed, function);
-    let after = results(&answer.graph, seed, function);
-    for slot in staying(case, &answer.map) {
-        assert_eq!(before[slot], after[slot], "slot {slot} of {case:?}");
-    }
-    let outputs = |block: &[u8], results: &[Option<u64>]| -> Vec<Option<u64>> {
-        let graph = Graph::parse(block).expect("a sound graph");
-        graph.outputs().map(|output| results[usize::from(output)]).collect()
-    };
-    assert_eq!(outputs(&old, &before), outputs(&answer.graph, &after));
+    let mut meaning = make(random.number());
+    accepted.judge(&mut meaning, random)
 }
 
 #[test]
-fn first_half_for_any_rule() {
+fn the_first_half_holds_for_any_rule() {
     let mut random = Random::new(3);
-    let mut accepted = 0;
-    while accepted < 2000 {
-        let case = matching_case(&mut random);
-        let answer = run_rewrite(&case.graph, &case.rule, case.start);
-        if answer.reply == 0 {
-            assert_eq!(check_graph(&answer.graph), 0);
-            assert_first_half(&case, &answer, random.number());
-            accepted += 1;
-        }
+    let (mut count, mut apart, mut changed) = (0, 0, 0);
+    while count < 3000 {
+        let case = match random.chance(50) {
+            true => matching_case(&mut random),
+            false => rewriting_case(&mut random).1,
+        };
+        let Some((new, map)) = accepted(&case) else {
+            continue;
+        };
+        assert_eq!(check_graph(&new), 0);
+        let verdict = judge(&mut random, &case, &new, &map, Meaning::lawless);
+        assert!(verdict.first_half_holds() && verdict.second_half_holds(), "{case:?}");
+        count += 1;
+        apart += usize::from(verdict.apart > 0);
+        changed += usize::from(!verdict.same_meaning && verdict.below_changed > 0);
     }
+    assert!(apart > 1500 && changed > 300, "{apart} {changed}");
 }
 
 #[test]
-fn second_half_for_rules_of_the_same_meaning() {
+fn the_second_half_holds_for_copies() {
     let mut random = Random::new(4);
-    let (mut accepted, mut two_outputs, mut merged) = (0, 0, 0);
-    while accepted < 2000 {
+    let (mut count, mut two_outputs, mut merged, mut below) = (0, 0, 0, 0);
+    while count < 2000 {
         let Some(case) = same_meaning_case(&mut random) else {
             continue;
         };
-        let answer = run_rewrite(&case.graph, &case.rule, case.start);
-        if answer.reply == 0 {
-            let seed = random.number();
-            assert_first_half(&case, &answer, seed);
-            assert_second_half(&case, &answer, seed, lawless);
-            accepted += 1;
-            two_outputs += usize::from(case.rule.source_outputs.len() == 2);
-            let copied = case
-                .rule
-                .source
-                .iter()
-                .filter(|pattern| pattern.kind != 0 && pattern.kind != VARIABLE);
-            merged += usize::from(copied.count() > case.rule.target.len());
-        }
-    }
-    assert!(two_outputs > 100 && merged > 10, "{two_outputs} {merged}");
-}
-
-/// Rules whose two sides mean the same under `lawful`.
-fn lawful_rules() -> Vec<RuleParts> {
-    let sum = |left, right| call_pattern(ADD, &[left, right], &[]);
-    let turned = RuleParts {
-        source: vec![wildcard(), wildcard(), sum(0, 1)],
-        target: vec![sum(1, 0)],
-        source_outputs: vec![2],
-        target_outputs: vec![target_place(0)],
-        nodes: vec![],
-    };
-    let grouped = RuleParts {
-        source: vec![wildcard(), wildcard(), sum(0, 1), wildcard(), sum(2, 3)],
-        target: vec![sum(1, 3), sum(0, 16)],
-        source_outputs: vec![4],
-        target_outputs: vec![target_place(1)],
-        nodes: vec![],
-    };
-    let mut nodes = vec![any_node(), access_node(1, 1), access_node(2, 1)];
-    nodes.push(operation_node(TIMES, 1, 2));
-    nodes.extend([access_node(1, 2), access_node(2, 2)]);
-    nodes.push(operation_node(TIMES, 4, 5));
-    nodes.extend([access_node(1, 3), access_node(2, 3)]);
-    nodes.push(operation_node(TIMES, 7, 8));
-    let gain = |input, attributes: &[u8]| call_pattern(GAIN, &[input], attributes);
-    let gains = RuleParts {
-        source: vec![wildcard(), gain(0, &[0; 3]), gain(1, &[0; 3])],
-        target: vec![gain(0, &[3, 6, 9])],
-        source_outputs: vec![2],
-        target_outputs: vec![target_place(0)],
-        nodes,
-    };
-    vec![rr(), turned, grouped, gains]
-}
-
-/// A graph of few operators, in a shuffled slot order.
-fn lawful_graph(random: &mut Random) -> GraphParts {
-    let slots = random.within(3, 12) as u16;
-    let mut order: Vec<u16> = (0..slots).collect();
-    random.shuffle(&mut order);
-    let mut table = vec![empty(); usize::from(slots) + 1];
-    for index in 0..order.len() {
-        let earlier = &order[..index];
-        let vertex = match random.below(4) {
-            _ if index < 2 => variable(),
-            0 => relu(random.pick(earlier)),
-            1 => {
-                let factors = [(); 3].map(|()| random.below(7) as i32 - 3);
-                call(GAIN, &[random.pick(earlier)], &factors)
-            }
-            _ => add(random.pick(earlier), random.pick(earlier)),
+        let Some((new, map)) = accepted(&case) else {
+            continue;
         };
-        table[usize::from(order[index])] = vertex;
+        let verdict = judge(&mut random, &case, &new, &map, Meaning::lawless);
+        assert!(verdict.same_meaning && verdict.second_half_holds(), "{case:?}");
+        assert!(verdict.first_half_holds(), "{case:?}");
+        count += 1;
+        two_outputs += usize::from(case.rule.source_outputs.len() == 2);
+        below += usize::from(verdict.below > 0);
+        let copied = case.rule.source.iter().filter(|pattern| ![0, 2].contains(&pattern.kind));
+        merged += usize::from(copied.count() > case.rule.target.len());
     }
-    let outputs: Vec<u16> = (0..2).map(|_| random.pick(&order)).collect();
-    GraphParts::new(table, &outputs)
+    assert!(two_outputs > 100 && merged > 10 && below > 500, "{two_outputs} {merged} {below}");
+}
+
+/// Each of the rules on graphs that hold a match of it, under its laws and
+/// without them.
+#[test]
+fn the_second_half_holds_for_lawful_rules() {
+    let mut random = Random::new(5);
+    let rules = lawful_rules();
+    let (mut lawful, mut lawless) = (vec![0; rules.len()], vec![0; rules.len()]);
+    for _ in 0..15_000 {
+        let (name, case) = rewriting_case(&mut random);
+        let index = rules.iter().position(|rule| *rule == case.rule);
+        let (Some(index), Some((new, map)), "lawful rule") = (index, accepted(&case), name) else {
+            continue;
+        };
+        let verdict = judge(&mut random, &case, &new, &map, Meaning::lawful);
+        assert!(verdict.same_meaning && verdict.second_half_holds(), "{case:?}");
+        lawful[index] += 1;
+        let verdict = judge(&mut random, &case, &new, &map, Meaning::lawless);
+        assert!(verdict.first_half_holds() && verdict.second_half_holds(), "{case:?}");
+        lawless[index] += usize::from(verdict.same_meaning);
+    }
+    assert!(lawful.iter().all(|&count| count > 100), "{lawful:?}");
+    let in_every_meaning = lawless.iter().filter(|&&count| count > 100).count();
+    assert_eq!(in_every_meaning, 2, "{lawless:?}");
+}
+
+/// A table is wrong where one place names another vertex: one reader moved
+/// too many, or one too few. It is noticed unless both vertices have the same
+/// result.
+#[test]
+fn wrong_tables_are_noticed() {
+    let mut random = Random::new(6);
+    let (mut tried, mut noticed, mut first) = (0, 0, 0);
+    while tried < 2000 {
+        let Some(case) = same_meaning_case(&mut random) else {
+            continue;
+        };
+        let Some((mut new, map)) = accepted(&case) else {
+            continue;
+        };
+        misname_input(&mut random, &mut new);
+        if check_graph(&new) != 0 {
+            continue;
+        }
+        let verdict = judge(&mut random, &case, &new, &map, Meaning::lawless);
+        tried += 1;
+        noticed += usize::from(!verdict.second_half_holds());
+        first += usize::from(!verdict.first_half_holds());
+    }
+    assert!(noticed > 1000 && first > 300, "{noticed} {first}");
+}
+
+/// Some used input place, or the first graph output, names some slot.
+fn misname_input(random: &mut Random, block: &mut [u8]) {
+    let slots = Graph::parse(block).expect("a sound graph").slot_count();
+    let record = 24 + 48 * random.below(slots);
+    let at = match block[record + 2] {
+        0 => 10,
+        inputs => record + 4 + 2 * random.below(inputs.into()),
+    };
+    let named = random.below(slots) as u16;
+    block[at..at + 2].copy_from_slice(&named.to_le_bytes());
+}
+
+/// The owner's loss: two look-alike stages with different attributes are made
+/// one. No rule of the same meaning leaves this table, and it is noticed.
+#[test]
+fn merged_look_alikes_are_noticed() {
+    let gain = |input, last| call(GAIN, &[input], &[1, 1, last]);
+    let mean = |input| call(MEAN, &[input], &[0]);
+    let before = vec![variable(), gain(0, 2), gain(0, 3), mean(1), mean(2)];
+    let after = vec![variable(), gain(0, 2), empty(), mean(1), mean(1)];
+    let relu_of_input = call_pattern(RELU, &[0], &[]);
+    // Any rule of two outputs over one input will do for the match.
+    let any_gain = call_pattern(GAIN, &[0], &[0; 3]);
+    let rule = RuleParts {
+        source: vec![wildcard(), any_gain.clone(), any_gain],
+        target: vec![relu_of_input],
+        source_outputs: vec![1, 2],
+        target_outputs: vec![target_place(0); 2],
+        nodes: vec![any_node()],
+    };
+    let case = Case { graph: GraphParts::new(before, &[3, 4]), rule, start: 0 };
+    let (_, map) = accepted(&case).expect("a match");
+    let new = GraphParts::new(after, &[3, 4]).block();
+    let verdict = judge(&mut Random::new(7), &case, &new, &map, Meaning::lawless);
+    assert!(!verdict.same_meaning);
+    assert_eq!((verdict.apart_changed, verdict.below_changed, verdict.outputs_changed), (0, 1, 1));
 }
 
 #[test]
-fn second_half_for_lawful_rules() {
-    let mut random = Random::new(5);
-    let rules = lawful_rules();
-    let mut accepted = vec![0; rules.len()];
-    for round in 0..20_000 {
-        let kind = round % rules.len();
-        let case = Case { graph: lawful_graph(&mut random), rule: rules[kind].clone(), start: 0 };
-        let answer = run_rewrite(&case.graph, &case.rule, case.start);
-        if answer.reply == 0 {
-            let seed = random.number();
-            assert_first_half(&case, &answer, seed);
-            assert_second_half(&case, &answer, seed, lawful);
-            accepted[kind] += 1;
-        }
+fn laws() {
+    let term = |kind, operator, attributes: &[i64], inputs: &[u64]| Term {
+        kind,
+        operator,
+        attributes: attributes.to_vec(),
+        inputs: inputs.to_vec(),
+    };
+    // Whether the laws make the second term's result that of the third.
+    let same = |make: Make, inner: Term, outer: Term, alone: Term| {
+        let mut meaning = make(8);
+        let inner = meaning.result(inner);
+        let outer = meaning.result(Term { inputs: vec![inner], ..outer });
+        outer == meaning.result(alone)
+    };
+    let relu = || term(CALL, RELU, &[], &[5]);
+    let gain = |number| term(CALL, GAIN, &[number, 1, 1], &[5]);
+    let reshape = |number| term(CALL, RESHAPE, &[number; 4], &[5]);
+    for (make, holds) in [(Meaning::lawful as Make, true), (Meaning::lawless, false)] {
+        assert_eq!(same(make, relu(), relu(), relu()), holds);
+        assert_eq!(same(make, gain(2), gain(3), gain(6)), holds);
+        assert_eq!(same(make, reshape(2), reshape(3), reshape(3)), holds);
+        let mut meaning = make(9);
+        let tuple = meaning.result(term(TUPLE, 0, &[], &[5, 6]));
+        assert_eq!(meaning.result(term(PROJ, 0, &[2], &[tuple])) == 6, holds);
+        assert_ne!(meaning.result(term(PROJ, 0, &[3], &[tuple])), 6);
+        let sums = [[5, 6], [6, 5]].map(|inputs| meaning.result(term(CALL, ADD, &[], &inputs)));
+        assert_eq!(sums[0] == sums[1], holds);
     }
-    assert!(accepted.iter().all(|&count| count > 100), "{accepted:?}");
+}
+
+/// A Variable's result belongs to its slot, whatever its attributes are.
+#[test]
+fn variables_are_told_apart_by_their_slots() {
+    let mut random = Random::new(10);
+    let graph = sound_graph_of(&mut random, 40);
+    let block = graph.block();
+    let results = Meaning::lawless(1).results(Graph::parse(&block).expect("a sound graph"));
+    let variables = (0..40).filter(|&slot| graph.slots[slot].kind == 2);
+    let mut of_variables: Vec<u64> = variables.map(|slot| results[slot].expect("one")).collect();
+    let count = of_variables.len();
+    of_variables.sort_unstable();
+    of_variables.dedup();
+    assert_eq!(of_variables.len(), count);
+    assert!(count > 1);
 }

@@ -1,16 +1,19 @@
-//! Prints the reply to each run-only example, one line each, so that the
-//! proved library's own run of them can be compared with it.
+//! Prints the replies to the run-only examples, and what rewriting makes of
+//! the P examples that call for it, so that the proved library's own run of
+//! them can be compared with it.
 
 use leafgraph_reference::blocks::{
-    add, call_pattern, chain, constant, constant_node, e1, operation_node, pattern, relu,
-    reversed_chain, rr, target_place, variable, GraphParts, RuleParts,
+    add, call_pattern, chain, constant, constant_node, e1, operation_node, p10_graph, p10_rule,
+    p7_graph, p7_rule, p8_graph, pattern, relu, reversed_chain, rr, target_place, variable,
+    GraphParts, RuleParts,
 };
-use leafgraph_reference::{check_graph, check_rule, find_match};
+use leafgraph_reference::{check_graph, check_rule, find_match, rewrite};
 
 fn main() {
     checks();
     matches();
     operations();
+    rewritings();
 }
 
 fn checks() {
@@ -48,10 +51,14 @@ fn matches() {
         let mut map = [170; 32];
         let reply = find_match(&e1().block(), &rr().block(), start, &mut map);
         println!("match RR on E1 from {start}: {}", reply & 255);
-        let numbers: Vec<String> =
-            map.chunks(2).map(|pair| u16::from_le_bytes([pair[0], pair[1]]).to_string()).collect();
-        println!("map: {}", numbers.join(" "));
+        println!("map: {}", numbers(&map));
     }
+}
+
+/// The 16-bit numbers in these bytes.
+fn numbers(bytes: &[u8]) -> String {
+    let numbers = bytes.chunks(2).map(|pair| u16::from_le_bytes([pair[0], pair[1]]).to_string());
+    numbers.collect::<Vec<String>>().join(" ")
 }
 
 /// P9: whether an operation gives a number, seen by matching a constant.
@@ -75,6 +82,42 @@ fn agrees(form: u8, left: i32, right: i32, result: i32) -> u64 {
         nodes: vec![constant_node(left), constant_node(right), operation_node(form, 0, 1)],
     };
     find_match(&graph.block(), &rule.block(), 0, &mut [0; 32]) & 255
+}
+
+/// All start at 0.
+fn rewritings() {
+    let e1_with = |outputs: &[u16]| GraphParts { outputs: outputs.to_vec(), ..e1() };
+    let mut e1_of_five = e1();
+    e1_of_five.slots.pop();
+    let gains = |number| p10_graph([number, 1, 1], [number, 1, 1]);
+    let cases: [(&str, GraphParts, RuleParts); 7] = [
+        ("P1", e1(), rr()),
+        ("P3", e1_with(&[4, 3]), rr()),
+        ("P4", e1_of_five, rr()),
+        ("P7", p7_graph(), p7_rule()),
+        ("P8", p8_graph(), p7_rule()),
+        ("P10", gains(65536), p10_rule()),
+        ("P10 with 256", gains(256), p10_rule()),
+    ];
+    for (name, graph, rule) in cases {
+        rewriting(name, &mut graph.block(), &rule.block());
+    }
+}
+
+/// The reply, and the map and the table after it: of the header the four
+/// output places, of each slot kind, operator, the first two input places and
+/// the first attribute.
+fn rewriting(name: &str, graph: &mut [u8], rule: &[u8]) {
+    let mut map = [170; 32];
+    let reply = rewrite(graph, rule, 0, &mut map);
+    println!("rewrite {name}: {}", reply & 255);
+    println!("map: {}", numbers(&map));
+    println!("outputs: {}", numbers(&graph[10..18]));
+    for (slot, record) in graph[24..].chunks(48).enumerate() {
+        let attribute = u32::from_le_bytes([record[16], record[17], record[18], record[19]]);
+        let inputs = numbers(&record[4..8]);
+        println!("slot {slot}: {} {} {inputs} {attribute}", record[0], record[1]);
+    }
 }
 
 fn shorter(mut block: Vec<u8>) -> Vec<u8> {

@@ -2,16 +2,17 @@
 //! interior vertices, two outputs, look-alike stages, attributes that are
 //! computed from other attributes.
 
-use crate::blocks::{access_node, any_node, constant_node, pattern};
-use crate::blocks::{wildcard, GraphParts, PatternParts, RuleParts, Vertex};
-use crate::operators::{CALL, PLACES};
+use crate::blocks::{pattern, wildcard, GraphParts, PatternParts, RuleParts};
+use crate::operators::CALL;
 use crate::random::Random;
-use crate::rule::{MAX_NODES, MAX_VERTICES, TARGET_BASE};
+use crate::rule::MAX_VERTICES;
 
-use super::agreeing::{at_the_limits, by_division, doubled, near_miss, plus, MOST_NODES};
 use super::expressions::Expressions;
-use super::graphs::{attribute, sound_graph_of};
+use super::filling::fill_attributes;
+use super::graphs::sound_graph_of;
 use super::rules::{is_input_kind, rule_with_random_target};
+use super::tables::is_below;
+use super::targets::{rule_with_copied_target, Merging};
 
 /// What a call of matching or rewriting gets.
 #[derive(Clone, Debug)]
@@ -34,7 +35,8 @@ pub fn matching_case(random: &mut Random) -> Case {
 /// their images, some alike ones merged. None where the nodes do not suffice.
 pub fn same_meaning_case(random: &mut Random) -> Option<Case> {
     let (graph, cut) = graph_and_cut(random, graph);
-    let rule = rule_with_same_meaning(random, cut)?;
+    let merging = random.pick(&[Merging::Never, Merging::InEveryMatch]);
+    let rule = rule_with_copied_target(&graph, cut, merging)?;
     let start = start(random, graph.slots.len());
     Some(Case { graph, rule, start })
 }
@@ -110,9 +112,9 @@ fn cut(random: &mut Random, graph: &GraphParts) -> Option<Cut> {
     if outputs.len() == 2 && !cutter.is_connected(&outputs) {
         return None;
     }
-    let mut expressions = Expressions::new();
-    cutter.fill_attributes(random, &mut expressions);
-    Some(Cut { source: cutter.source, outputs, expressions, images: cutter.images })
+    let Cutter { mut source, images, .. } = cutter;
+    let expressions = fill_attributes(random, graph, &images, &mut source);
+    Some(Cut { source, outputs, expressions, images })
 }
 
 /// One or two vertices that can be source outputs.
@@ -150,21 +152,6 @@ fn partners(random: &mut Random, graph: &GraphParts, suiting: &[u16], first: u16
         return below;
     }
     partners
-}
-
-/// Whether the upper vertex has a path to the lower one.
-pub(super) fn is_below(graph: &GraphParts, upper: u16, lower: u16) -> bool {
-    let mut seen = vec![false; graph.slots.len()];
-    let mut open = vec![lower];
-    while let Some(slot) = open.pop() {
-        if slot == upper {
-            return true;
-        }
-        if !std::mem::replace(&mut seen[usize::from(slot)], true) {
-            open.extend(&graph.slots[usize::from(slot)].inputs);
-        }
-    }
-    false
 }
 
 /// How many vertices and graph outputs name each slot. A vertex that names a
@@ -237,141 +224,4 @@ impl Cutter<'_> {
         }
         reached_by[usize::from(outputs[0])] & reached_by[usize::from(outputs[1])] != 0
     }
-
-    fn fill_attributes(&mut self, random: &mut Random, expressions: &mut Expressions) {
-        for vertex in 0..self.source.len() {
-            let image = &self.graph.slots[usize::from(self.images[vertex])];
-            for place in 0..self.source[vertex].attributes.len() {
-                let number = image.attributes[place];
-                let node = self.agreeing_node(random, expressions, vertex, number);
-                self.source[vertex].attributes[place] = node;
-            }
-        }
-    }
-
-    /// A node that agrees with this number at this vertex, nearly always.
-    fn agreeing_node(
-        &self,
-        random: &mut Random,
-        expressions: &mut Expressions,
-        vertex: usize,
-        number: i32,
-    ) -> u8 {
-        if expressions.nodes.len() + MOST_NODES + 2 > MAX_NODES {
-            return expressions.for_source(random, vertex);
-        }
-        match random.below(80) {
-            _ if random.below(500) == 0 => doubled(random, expressions, number),
-            0..=27 => expressions.push(any_node()),
-            28..=43 => expressions.push(constant_node(number)),
-            44..=61 => self.node_by_access(random, expressions, vertex, number),
-            62..=72 => by_division(random, expressions, number),
-            73..=76 => at_the_limits(random, expressions, number),
-            77 => near_miss(random, expressions, number),
-            78 => self.access_past_attributes(random, expressions, vertex, number),
-            _ => expressions.push(constant_node(attribute(random))),
-        }
-    }
-
-    /// An access to a lower vertex that has the number, or one plus the
-    /// difference.
-    fn node_by_access(
-        &self,
-        random: &mut Random,
-        expressions: &mut Expressions,
-        vertex: usize,
-        number: i32,
-    ) -> u8 {
-        let accesses: Vec<(u8, u8, i32)> = (0..vertex)
-            .flat_map(|lower| {
-                let image: &Vertex = &self.graph.slots[usize::from(self.images[lower])];
-                let places = image.attributes.iter().enumerate();
-                places.map(move |(place, &value)| (lower as u8, place as u8 + 1, value))
-            })
-            .collect();
-        if accesses.is_empty() {
-            return expressions.push(any_node());
-        }
-        let same = accesses.iter().find(|access| access.2 == number);
-        let (lower, place, value) = match same {
-            Some(&access) if random.chance(70) => access,
-            _ => random.pick(&accesses),
-        };
-        match number.checked_sub(value) {
-            Some(difference) => {
-                let access = expressions.push(access_node(lower, place));
-                plus(expressions, access, difference)
-            }
-            None => expressions.push(any_node()),
-        }
-    }
-
-    /// An access past the attributes of a lower vertex, plus the number: no
-    /// result, but the number where such an access reads the unused place.
-    fn access_past_attributes(
-        &self,
-        random: &mut Random,
-        expressions: &mut Expressions,
-        vertex: usize,
-        number: i32,
-    ) -> u8 {
-        if vertex == 0 {
-            return expressions.push(any_node());
-        }
-        let lower = random.below(vertex);
-        let count = self.graph.slots[usize::from(self.images[lower])].attributes.len();
-        let place = random.within((count + 1).min(PLACES), PLACES);
-        let access = expressions.push(access_node(lower as u8, place as u8));
-        plus(expressions, access, number)
-    }
-}
-
-/// Copies of the non-input source vertices as target. Two copies of the same
-/// kind and operator over the same places, without attributes, mean the same
-/// and may be merged; with attributes they differ in their nodes.
-fn rule_with_same_meaning(random: &mut Random, mut cut: Cut) -> Option<RuleParts> {
-    let merging = random.chance(50);
-    let mut target: Vec<PatternParts> = vec![];
-    let mut places: Vec<u8> = vec![];
-    for (vertex, original) in cut.source.iter().enumerate() {
-        if is_input_kind(original.kind) {
-            places.push(vertex as u8);
-            continue;
-        }
-        let copy = target_copy(&mut cut.expressions, vertex, original, &places)?;
-        let alike = target.iter().position(|earlier| merging && *earlier == copy);
-        let index = alike.unwrap_or(target.len());
-        if index == target.len() {
-            target.push(copy);
-        }
-        places.push(TARGET_BASE + index as u8);
-    }
-    let outputs = cut.outputs.iter().map(|&output| places[usize::from(output)]);
-    Some(RuleParts {
-        source: cut.source,
-        target,
-        target_outputs: outputs.collect(),
-        source_outputs: cut.outputs,
-        nodes: cut.expressions.nodes,
-    })
-}
-
-/// A target vertex like this source vertex, with its image's attributes.
-fn target_copy(
-    expressions: &mut Expressions,
-    vertex: usize,
-    original: &PatternParts,
-    places: &[u8],
-) -> Option<PatternParts> {
-    let mut copy = original.clone();
-    for input in &mut copy.inputs {
-        *input = places[usize::from(*input)];
-    }
-    for (place, node) in copy.attributes.iter_mut().enumerate() {
-        if expressions.nodes.len() == MAX_NODES {
-            return None;
-        }
-        *node = expressions.push(access_node(vertex as u8, place as u8 + 1));
-    }
-    Some(copy)
 }

@@ -1,6 +1,7 @@
 //! The expression nodes of a random rule.
 
-use crate::blocks::{access_node, any_node, constant_node, operation_node};
+use crate::attributes::combine;
+use crate::blocks::{access_node, any_node, constant_node, operation_node, GraphParts};
 use crate::random::Random;
 use crate::rule::{Node, ACCESS, ANY, CONSTANT, MAX_NODES, PLUS, REMAINDER};
 
@@ -110,5 +111,34 @@ impl Expressions {
             0 => access_node(random.below(source_count) as u8, random.within(1, 6) as u8),
             _ => constant_node(attribute(random)),
         })
+    }
+}
+
+/// The results of these nodes where the first source vertices have these
+/// images and the others have none yet.
+pub(super) fn node_results(graph: &GraphParts, nodes: &[Node], images: &[u16]) -> Vec<Option<i32>> {
+    let mut results = vec![];
+    for node in nodes {
+        results.push(node_result(graph, node, images, &results));
+    }
+    results
+}
+
+/// The result of one node, from those of the nodes before it.
+pub(super) fn node_result(
+    graph: &GraphParts,
+    node: &Node,
+    images: &[u16],
+    earlier: &[Option<i32>],
+) -> Option<i32> {
+    match node.form {
+        ANY => None,
+        CONSTANT => Some(node.number),
+        ACCESS => {
+            let image = *images.get(usize::from(node.a))?;
+            let attributes = &graph.slots[usize::from(image)].attributes;
+            attributes.get(usize::from(node.b) - 1).copied()
+        }
+        form => combine(form, earlier[usize::from(node.a)]?, earlier[usize::from(node.b)]?),
     }
 }

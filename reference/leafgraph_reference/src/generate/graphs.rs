@@ -163,7 +163,7 @@ pub(super) fn common_operator(random: &mut Random) -> u8 {
     }
 }
 
-fn leaf(random: &mut Random) -> Vertex {
+pub(super) fn leaf(random: &mut Random) -> Vertex {
     match random.chance(70) {
         true => variable_of([(); 5].map(|()| attribute(random))),
         false => constant(attribute(random)),

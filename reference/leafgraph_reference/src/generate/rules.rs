@@ -50,7 +50,7 @@ pub(super) fn is_input_kind(kind: u8) -> bool {
 }
 
 /// Source patterns and outputs. Attributes stand as zeros, to be filled in.
-fn source_side(random: &mut Random) -> (Vec<PatternParts>, Vec<u8>) {
+pub(super) fn source_side(random: &mut Random) -> (Vec<PatternParts>, Vec<u8>) {
     let count = random.within(1, 2);
     let size = match random.chance(50) {
         true => random.within(count + 1, 6),
@@ -171,7 +171,11 @@ const LATE_TARGET: usize = 11;
 
 /// Target patterns and outputs that name every rule input and use every
 /// target vertex. Attributes stand as zeros.
-fn target_side(random: &mut Random, inputs: &[u8], outputs: usize) -> (Vec<PatternParts>, Vec<u8>) {
+pub(super) fn target_side(
+    random: &mut Random,
+    inputs: &[u8],
+    outputs: usize,
+) -> (Vec<PatternParts>, Vec<u8>) {
     let wanted = match random.below(4) {
         0 => 0,
         1 | 2 => random.within(1, 4),

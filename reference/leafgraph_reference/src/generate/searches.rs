@@ -4,17 +4,18 @@
 
 use crate::blocks::{relu, GraphParts, Vertex};
 use crate::graph::MAX_SLOTS;
-use crate::operators::{EMPTY, PROJ, WILDCARD};
+use crate::operators::{PROJ, WILDCARD};
 use crate::random::Random;
 
-use super::cuts::{graph_and_cut, is_below, Case, Cut};
+use super::cuts::{graph_and_cut, Case, Cut};
 use super::graphs::{attribute, deep_graph, sound_graph_of};
 use super::rules::{is_input_kind, rule_with_random_target};
+use super::tables::{add_vertex, is_below, renumber};
 
 /// A graph and what was cut out of it.
-struct Scene {
-    graph: GraphParts,
-    cut: Cut,
+pub(super) struct Scene {
+    pub graph: GraphParts,
+    pub cut: Cut,
 }
 
 /// What may be done to a graph after the cut, by name. The graph stays sound.
@@ -23,7 +24,7 @@ type Change = (&'static str, fn(&mut Random, &mut Scene));
 const CHANGES: [Change; 9] = [
     ("as cut", |_, _| ()),
     ("stage repeated", repeat_stage),
-    ("slots renumbered", renumber),
+    ("slots renumbered", |random, scene| renumber(random, &mut scene.graph, &mut scene.cut.images)),
     ("look-alike input", put_look_alike),
     ("inputs swapped", swap_inputs),
     ("another attribute", change_attribute),
@@ -46,7 +47,7 @@ pub fn search_case(random: &mut Random) -> (&'static str, Case) {
 }
 
 /// Often none, so that most searches find what was cut.
-fn change_scene(random: &mut Random, scene: &mut Scene) -> &'static str {
+pub(super) fn change_scene(random: &mut Random, scene: &mut Scene) -> &'static str {
     if random.chance(50) {
         return CHANGES[0].0;
     }
@@ -59,7 +60,7 @@ fn change_scene(random: &mut Random, scene: &mut Scene) -> &'static str {
     name
 }
 
-fn graph(random: &mut Random) -> GraphParts {
+pub(super) fn graph(random: &mut Random) -> GraphParts {
     let slots = match random.below(200) {
         0..=169 => random.within(2, 24),
         170..=185 => random.within(25, 120),
@@ -72,7 +73,7 @@ fn graph(random: &mut Random) -> GraphParts {
 
 /// Starts around the first output's image and around N, and numbers that
 /// would be small again if some of their bits were dropped.
-fn start(random: &mut Random, slots: usize, image: usize) -> usize {
+pub(super) fn start(random: &mut Random, slots: usize, image: usize) -> usize {
     match random.below(80) {
         0..=47 => 0,
         48..=57 => image,
@@ -111,19 +112,7 @@ impl Scene {
 
     /// Puts a vertex into an Empty slot or a new one.
     fn add(&mut self, random: &mut Random, vertex: Vertex) -> Option<u16> {
-        let slots = self.graph.slots.len();
-        let empty: Vec<usize> =
-            (0..slots).filter(|&slot| self.graph.slots[slot].kind == EMPTY).collect();
-        let slot = match empty.is_empty() {
-            false => random.pick(&empty),
-            true if slots < MAX_SLOTS => slots,
-            true => return None,
-        };
-        match slot < slots {
-            true => self.graph.slots[slot] = vertex,
-            false => self.graph.slots.push(vertex),
-        }
-        Some(slot as u16)
+        add_vertex(random, &mut self.graph, vertex)
     }
 }
 
@@ -145,20 +134,6 @@ fn repeat_stage(random: &mut Random, scene: &mut Scene) {
         };
         copies[vertex] = slot;
     }
-}
-
-/// The same graph with its slots in another order.
-fn renumber(random: &mut Random, scene: &mut Scene) {
-    let mut order: Vec<u16> = (0..scene.graph.slots.len() as u16).collect();
-    random.shuffle(&mut order);
-    let mut slots = scene.graph.slots.clone();
-    for (old, vertex) in scene.graph.slots.drain(..).enumerate() {
-        slots[usize::from(order[old])] = vertex;
-    }
-    scene.graph.slots = slots;
-    let inputs = scene.graph.slots.iter_mut().flat_map(|vertex| &mut vertex.inputs);
-    let named = inputs.chain(&mut scene.graph.outputs).chain(&mut scene.cut.images);
-    named.for_each(|slot| *slot = order[usize::from(*slot)]);
 }
 
 /// One place of an image names another slot with the same content.

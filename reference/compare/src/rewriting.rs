@@ -1,0 +1,143 @@
+//! Rewriting, on matches that were cut out of graphs or put into them, and on
+//! one graph again and again.
+
+use leafgraph_reference::generate::rewriting_case;
+use leafgraph_reference::graph::Graph;
+use leafgraph_reference::matching::Images;
+use leafgraph_reference::meaning::Meaning;
+use leafgraph_reference::random::Random;
+use leafgraph_reference::results::{Accepted, Verdict};
+use leafgraph_reference::rule::Rule;
+
+use crate::arguments::Arguments;
+use crate::lent::Lent;
+use crate::rewriting_classes::{count_classes, CLASSES};
+use crate::sequences;
+use crate::tally::{Call, Tally, CHANGED};
+
+const REPLIES: [u64; 8] = [0, 1, 2, 3, 4, 5, 6, 7];
+
+/// The least share of calls with good arguments that must be accepted.
+const LEAST_ACCEPTED: u64 = 40;
+
+const UNSOUND: &str = "the new table is not sound";
+const FIRST_HALF: &str =
+    "a vertex that stays, with no path from a replaced output, has another result";
+const SECOND_HALF: &str = "the rule's sides mean the same, and a result is another one";
+
+/// What the second program makes of a call.
+pub struct Outcome {
+    pub reply: u64,
+    pub graph: Vec<u8>,
+    pub map: Vec<u8>,
+    /// Where it is accepted.
+    pub verdicts: Option<Verdicts>,
+}
+
+/// Demand 3 under a meaning without laws and under one with laws.
+pub struct Verdicts {
+    pub lawless: Verdict,
+    pub lawful: Verdict,
+}
+
+/// Two of three calls by themselves, the others in sequences.
+pub fn run(random: &mut Random, calls: u64) -> Vec<Tally> {
+    let mut tally = Tally::new("rewrite", &REPLIES, &CLASSES).with_least_accepted(LEAST_ACCEPTED);
+    let in_sequences = calls / 3;
+    for _ in in_sequences..calls {
+        let (origin, case) = rewriting_case(random);
+        let arguments = Arguments::damaged(random, origin, case);
+        let outcome = arguments.rewrite(random, &mut tally);
+        count_classes(&mut tally, &arguments, &outcome);
+    }
+    vec![tally, sequences::run(random, in_sequences)]
+}
+
+impl Arguments {
+    /// Calls both programs and records what is not as it should be.
+    pub fn rewrite(&self, random: &mut Random, tally: &mut Tally) -> Outcome {
+        let mut graph = Lent::new(random, &self.graph);
+        let rule = Lent::new(random, &self.rule);
+        let mut map = Lent::new(random, &self.map);
+        let proved =
+            leafgraph_proved::rewrite(graph.block_mut(), rule.block(), self.start, map.block_mut());
+        let outcome = self.outcome(random);
+        let mut faults = outcome.faults();
+        if !(graph.holds(&outcome.graph) && rule.holds(&self.rule) && map.holds(&outcome.map)) {
+            faults.push(CHANGED);
+        }
+        tally.record(Call {
+            origin: self.origin,
+            proved,
+            reference: outcome.reply,
+            faults,
+            start: Some(self.start),
+            bytes: &[
+                ("graph before", &self.graph),
+                ("rule", &self.rule),
+                ("map before", &self.map),
+                ("graph after, proved", graph.block()),
+                ("graph after, reference", &outcome.graph),
+                ("map after, proved", map.block()),
+                ("map after, reference", &outcome.map),
+            ],
+        });
+        outcome
+    }
+
+    /// The second program's part, judged.
+    fn outcome(&self, random: &mut Random) -> Outcome {
+        let (mut graph, mut map) = (self.graph.clone(), self.map.clone());
+        let reply = leafgraph_reference::rewrite(&mut graph, &self.rule, self.start, &mut map);
+        let verdicts = match reply {
+            0 => self.judge(random, &graph, &map),
+            _ => None,
+        };
+        Outcome { reply, graph, map, verdicts }
+    }
+
+    /// None where the new table is no sound one.
+    fn judge(&self, random: &mut Random, new: &[u8], map: &[u8]) -> Option<Verdicts> {
+        let accepted = Accepted {
+            old: Graph::parse(&self.graph).ok()?,
+            new: Graph::parse(new).ok()?,
+            rule: Rule::parse(&self.rule).ok()?,
+            images: &images_of(map),
+        };
+        let (mut lawless, mut lawful) =
+            (Meaning::lawless(random.number()), Meaning::lawful(random.number()));
+        Some(Verdicts {
+            lawless: accepted.judge(&mut lawless, random),
+            lawful: accepted.judge(&mut lawful, random),
+        })
+    }
+}
+
+/// The numbers of a whole map.
+fn images_of(map: &[u8]) -> Images {
+    std::array::from_fn(|vertex| u16::from_le_bytes([map[2 * vertex], map[2 * vertex + 1]]))
+}
+
+impl Outcome {
+    /// What is wrong with an accepted rewriting, whatever the other program
+    /// says of it.
+    fn faults(&self) -> Vec<&'static str> {
+        if self.reply != 0 {
+            return vec![];
+        }
+        let mut faults = vec![];
+        let Some(Verdicts { lawless, lawful }) = &self.verdicts else {
+            return vec![UNSOUND];
+        };
+        if leafgraph_proved::check_graph(&self.graph) != 0 {
+            faults.push(UNSOUND);
+        }
+        if !(lawless.first_half_holds() && lawful.first_half_holds()) {
+            faults.push(FIRST_HALF);
+        }
+        if !(lawless.second_half_holds() && lawful.second_half_holds()) {
+            faults.push(SECOND_HALF);
+        }
+        faults
+    }
+}

@@ -1,0 +1,61 @@
+//! What several generators do to a graph: put a vertex into it, give its slots
+//! another order, ask for a path.
+
+use crate::blocks::{GraphParts, Vertex};
+use crate::graph::MAX_SLOTS;
+use crate::operators::EMPTY;
+use crate::random::Random;
+
+pub(super) fn empty_slots(graph: &GraphParts) -> Vec<usize> {
+    (0..graph.slots.len()).filter(|&slot| graph.slots[slot].kind == EMPTY).collect()
+}
+
+/// Puts a vertex into an Empty slot or a new one. None where there is neither.
+pub(super) fn add_vertex(
+    random: &mut Random,
+    graph: &mut GraphParts,
+    vertex: Vertex,
+) -> Option<u16> {
+    let slots = graph.slots.len();
+    let empty = empty_slots(graph);
+    let slot = match empty.is_empty() {
+        false => random.pick(&empty),
+        true if slots < MAX_SLOTS => slots,
+        true => return None,
+    };
+    match slot < slots {
+        true => graph.slots[slot] = vertex,
+        false => graph.slots.push(vertex),
+    }
+    Some(slot as u16)
+}
+
+/// The same graph with its slots in another order. The images, which name
+/// slots too, follow.
+pub(super) fn renumber(random: &mut Random, graph: &mut GraphParts, images: &mut [u16]) {
+    let mut order: Vec<u16> = (0..graph.slots.len() as u16).collect();
+    random.shuffle(&mut order);
+    let mut slots = graph.slots.clone();
+    for (old, vertex) in graph.slots.drain(..).enumerate() {
+        slots[usize::from(order[old])] = vertex;
+    }
+    graph.slots = slots;
+    let inputs = graph.slots.iter_mut().flat_map(|vertex| &mut vertex.inputs);
+    let named = inputs.chain(&mut graph.outputs).chain(images);
+    named.for_each(|slot| *slot = order[usize::from(*slot)]);
+}
+
+/// Whether the upper vertex has a path to the lower one.
+pub(super) fn is_below(graph: &GraphParts, upper: u16, lower: u16) -> bool {
+    let mut seen = vec![false; graph.slots.len()];
+    let mut open = vec![lower];
+    while let Some(slot) = open.pop() {
+        if slot == upper {
+            return true;
+        }
+        if !std::mem::replace(&mut seen[usize::from(slot)], true) {
+            open.extend(&graph.slots[usize::from(slot)].inputs);
+        }
+    }
+    false
+}
