@@ -278,7 +278,7 @@ module _ (graph rule images : List ℕ) (k : ℕ) (inside : k < nodeCount rule) 
 
 -- ---- the memo
 
-remembered-value : (value : Value) → remembered (stateOf value) (magnitudeOf value) ≡ valueOf value
+pub remembered-value : (value : Value) → remembered (stateOf value) (magnitudeOf value) ≡ valueOf value
 unfolding remembered valueOf
 remembered-value Nothing = refl
 remembered-value (Plus n) = refl

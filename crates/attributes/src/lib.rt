@@ -143,9 +143,12 @@ fn node_value(
     let first = node_value(graph, rule, images, left, states, magnitudes);
     let second = node_value(graph, rule, images, right, states, magnitudes);
     let value = combine(form, first, second);
-    states[k] = state_of(value);
-    magnitudes[k] = magnitude_of(value);
-    value
+    let state = state_of(value);
+    let magnitude = magnitude_of(value);
+    states[k] = state;
+    magnitudes[k] = magnitude;
+    // Not `value` itself: returned whole, its unused bytes are copied too, and a search waits for them.
+    recalled(state, magnitude)
 }
 
 // What node k gives where it is an operation: nothing is known before.

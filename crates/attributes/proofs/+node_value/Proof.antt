@@ -11,7 +11,7 @@ use Rattle.definitions.specs.Match.{readAttribute}
 use Rattle.numbers.specs.Value.{valueOf, bounded}
 use Rattle.attributes.specs.Memo.{nodeResult}
 use Rattle.rule_expressions.proofs.Laws.{left-earlier, right-earlier}
-use Rattle.attributes.proofs.Laws.{combined-gives, node-bounded, memo-more}
+use Rattle.attributes.proofs.Laws.{combined-gives, node-bounded, remembered-value, memo-more}
 use borrow.Fn.Kinds.{In}
 use borrow.Fn.PlainCycle.{Measures, is, falls, and}
 use Rattle.attributes.proofs.node_value.Reads as node-value
@@ -253,7 +253,7 @@ node-value-state-of-requires : (t : ℕ) → node-value-lts.Need-state-of-requir
 node-value-state-of-requires t c κs = tt
 
 node-value-element-write-states : (t : ℕ) → node-value-lts.Need-element-write-states (calls t) (node-value-at t) node-value.Post
-node-value-element-write-states t c = placed t (begun t (c .before .before))
+node-value-element-write-states t c = placed t (begun t (c .before .before .before))
 
 node-value-magnitude-of-requires : (t : ℕ) → node-value-lts.Need-magnitude-of-requires (calls t) (node-value-at t) node-value.Post
 node-value-magnitude-of-requires t c κs = tt
@@ -264,14 +264,18 @@ node-value-mul-magnitudes t c = omega (arith, placed t (begun t (c .before .befo
 node-value-element-write-magnitudes : (t : ℕ) → node-value-lts.Need-element-write-magnitudes (calls t) (node-value-at t) node-value.Post
 node-value-element-write-magnitudes t c = placed t (begun t (c .before .before .before))
 
+node-value-recalled-requires-2 : (t : ℕ) → node-value-lts.Need-recalled-requires-2 (calls t) (node-value-at t) node-value.Post
+node-value-recalled-requires-2 t c κs = tt
+
 node-value-returns-3 : (t : ℕ) → node-value-lts.Need-returns-3 (calls t) (node-value-at t) node-value.Post
 node-value-returns-3 t c =
-    let d = c .before .before in
+    let n = c .before in
+    let d = n .before .before in
     let s = begun t (d .before) in (
-      combined t d,
-      memo-more (s .args .graph .now) (s .args .rule .now) (s .args .images .now) (s .args .k) (c .before .state-of .result)
-          (c .magnitude-of .result) (d .combine .result) (d .before .node-value2 .ensures .1) (placed t s) (combined t d)
-          (c .before .state-of .ensures) (c .magnitude-of .ensures),
+      c .recalled2 .ensures ∙ rw (n .before .state-of .ensures, n .magnitude-of .ensures) (remembered-value (d .combine .result) ∙ combined t d),
+      memo-more (s .args .graph .now) (s .args .rule .now) (s .args .images .now) (s .args .k) (n .before .state-of .result)
+          (n .magnitude-of .result) (d .combine .result) (d .before .node-value2 .ensures .1) (placed t s) (combined t d)
+          (n .before .state-of .ensures) (n .magnitude-of .ensures),
     )
 
 pub +node-value-spec : {M : Type 1} → statement M
@@ -293,8 +297,9 @@ pub +node-value-spec : {M : Type 1} → statement M
     (node-value-node-value-requires-2 t)
     (node-value-combine-requires t)
     (node-value-state-of-requires t)
-    (node-value-element-write-states t)
     (node-value-magnitude-of-requires t)
+    (node-value-element-write-states t)
     (node-value-mul-magnitudes t)
     (node-value-element-write-magnitudes t)
+    (node-value-recalled-requires-2 t)
     (node-value-returns-3 t)
