@@ -11,8 +11,9 @@
  * - After a refusal every lent byte is as it came.
  * - There is no state: calls may be made from any number of threads at once,
  *   as long as no buffer is written by one call while another one uses it.
- * - No memory is allocated. lg_rewrite uses at most 96 KiB of stack, since it
- *   makes the new graph beside the old one; every other call at most 64 KiB.
+ * - No memory is allocated. Each function's Stack line says how much stack it
+ *   uses at most, for any input: measured with the worst blocks that we could
+ *   build, not proved.
  * - Numbers in the blocks are little-endian on every machine.
  */
 #ifndef LEAFGRAPH_H
@@ -20,6 +21,9 @@
 
 #include <stddef.h>
 #include <stdint.h>
+
+/* The version of this header and of the library that it is installed with. */
+#define LEAFGRAPH_VERSION "1.0.0"
 
 #ifdef __cplusplus
 extern "C" {
@@ -34,20 +38,26 @@ enum {
     LG_NO_MATCH = 4,       /* no match from the start number on */
     LG_NO_RESULT = 5,      /* a target attribute has no result, or a
                               projection's index is below 1 */
-    LG_NO_ROOM = 6,        /* more target vertices than Empty and freed slots */
+    LG_NO_ROOM = 6,        /* more target vertices than Empty slots and
+                              removed ones */
     LG_CYCLE = 7           /* the table so made would have a cycle */
+};
+
+enum {
+    LG_MAP_LENGTH = 32,  /* the bytes of a map */
+    LG_NO_SLOT = 65535   /* in a map, past the last source vertex */
 };
 
 /* The number of a reply: bits 0 to 7. Compare this, and not the whole reply,
  * with the constants above. */
 static inline unsigned lg_reply_number(uint64_t reply) {
-    return (unsigned)(reply & 0xff);
+    return reply & 0xff;
 }
 
 /* The place that a refusal names: bits 8 to 39. Zero for now. Bits 40 to 63
  * are zero for now, too. */
 static inline uint32_t lg_reply_place(uint64_t reply) {
-    return (uint32_t)((reply >> 8) & 0xffffffff);
+    return (reply >> 8) & 0xffffffff;
 }
 
 /* Checks a graph block.
@@ -55,6 +65,8 @@ static inline uint32_t lg_reply_place(uint64_t reply) {
  * Reads:   graph_len bytes at graph.
  * Writes:  nothing.
  * Replies: LG_DONE if the bytes are a sound graph block, else LG_BAD_GRAPH.
+ * Threads: any number at once.
+ * Stack:   64 KiB.
  */
 uint64_t lg_check_graph(const uint8_t *graph, size_t graph_len);
 
@@ -63,6 +75,8 @@ uint64_t lg_check_graph(const uint8_t *graph, size_t graph_len);
  * Reads:   rule_len bytes at rule.
  * Writes:  nothing.
  * Replies: LG_DONE if the bytes are a sound rule block, else LG_BAD_RULE.
+ * Threads: any number at once.
+ * Stack:   64 KiB.
  */
 uint64_t lg_check_rule(const uint8_t *rule, size_t rule_len);
 
@@ -79,6 +93,8 @@ uint64_t lg_check_rule(const uint8_t *rule, size_t rule_len);
  * Replies: LG_DONE if there is a match; else the first that applies of
  *          LG_BAD_MAP_LENGTH (map_len is not 32), LG_BAD_GRAPH, LG_BAD_RULE
  *          and LG_NO_MATCH.
+ * Threads: any number at once, each with a map of its own.
+ * Stack:   64 KiB.
  */
 uint64_t lg_find_match(const uint8_t *graph, size_t graph_len,
                        const uint8_t *rule, size_t rule_len,
@@ -102,6 +118,8 @@ uint64_t lg_find_match(const uint8_t *graph, size_t graph_len,
  *          result, or a projection's index is below 1), LG_NO_ROOM (the rule
  *          has more target vertices than there are Empty slots and slots of
  *          removed vertices) and LG_CYCLE (the new graph would have a cycle).
+ * Threads: any number at once, each with a graph and a map of its own.
+ * Stack:   96 KiB, since it makes the new graph beside the old one.
  */
 uint64_t lg_rewrite(uint8_t *graph, size_t graph_len,
                     const uint8_t *rule, size_t rule_len,

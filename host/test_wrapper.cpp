@@ -1,0 +1,329 @@
+// The C++ wrapper: every reply, every kind of buffer, and what it refuses
+// before the library is called.
+
+#include "leafgraph.hpp"
+#include "leafgraph.hpp" // the include guard
+
+#include "blocks.hpp"
+
+#include <cstdio>
+#include <cstring>
+#include <set>
+#include <string>
+#include <string_view>
+#include <thread>
+
+#if __cplusplus > 201703L
+#include <span>
+#endif
+
+using blocks::Block;
+using blocks::Node;
+using blocks::Pattern;
+using blocks::Vertex;
+using leafgraph::Bytes;
+using leafgraph::Code;
+using leafgraph::Map;
+using leafgraph::Reply;
+using leafgraph::WritableBytes;
+
+namespace {
+
+int failures = 0;
+
+void expect(bool holds, const char *what) {
+    if (!holds) {
+        std::printf("does not hold: %s\n", what);
+        ++failures;
+    }
+}
+
+const Vertex a_variable = {blocks::variable, blocks::none, {}, {1, 3, 8, 8, 1}};
+const Pattern a_wildcard = {blocks::wildcard, blocks::none, {}, {}};
+
+Vertex relu_of(std::uint16_t input) {
+    return {blocks::call, blocks::relu, {input}, {}};
+}
+
+Pattern relu_over(std::uint8_t place) {
+    return {blocks::call, blocks::relu, {place}, {}};
+}
+
+// A Variable, a relu of it, and a relu of that, which is the output.
+Block two_relus_graph() {
+    return blocks::graph({a_variable, relu_of(0), relu_of(1)}, {2});
+}
+
+// What the rule that follows makes of it.
+Block one_relu_graph() {
+    return blocks::graph({a_variable, relu_of(0), {blocks::empty, blocks::none, {}, {}}}, {1});
+}
+
+// A relu of a relu becomes one relu.
+Block two_relus_rule() {
+    return blocks::rule({{a_wildcard, relu_over(0), relu_over(1)}, {relu_over(0)},
+                         {2}, {blocks::made(0)}, {}});
+}
+
+// One relu becomes two: with no Empty slot there is no room for it.
+Block longer_rule() {
+    return blocks::rule({{a_wildcard, relu_over(0)}, {relu_over(0), relu_over(blocks::made(0))},
+                         {1}, {blocks::made(1)}, {}});
+}
+
+// Document 01's P10: of gain over gain the attributes are multiplied.
+Block gains_rule() {
+    const Pattern inner = {blocks::call, blocks::gain, {0}, {0, 0, 0}};
+    const Pattern outer = {blocks::call, blocks::gain, {1}, {0, 0, 0}};
+    const Pattern product = {blocks::call, blocks::gain, {0}, {3, 3, 3}};
+    const std::vector<Node> nodes = {{blocks::any, 0, 0}, {blocks::access, 1, 1},
+                                     {blocks::access, 2, 1}, {blocks::multiply, 1, 2}};
+    return blocks::rule({{a_wildcard, inner, outer}, {product}, {2}, {blocks::made(0)}, nodes});
+}
+
+Block gains_graph(std::int32_t attribute) {
+    const Vertex inner = {blocks::call, blocks::gain, {0}, {attribute, 1, 1}};
+    const Vertex outer = {blocks::call, blocks::gain, {1}, {attribute, 1, 1}};
+    return blocks::graph({a_variable, inner, outer}, {2});
+}
+
+// Document 01's P7: the target of both outputs reads what reads the first.
+Block pair_rule() {
+    return blocks::rule({{a_wildcard, relu_over(0), a_wildcard,
+                          {blocks::call, blocks::add, {0, 2}, {}}},
+                         {{blocks::call, blocks::sub, {0, 2}, {}}},
+                         {1, 3}, {blocks::made(0), blocks::made(0)}, {}});
+}
+
+Block pair_graph() {
+    return blocks::graph({a_variable, relu_of(0), {blocks::call, blocks::mean, {1}, {1}},
+                          {blocks::call, blocks::add, {0, 2}, {}}}, {3});
+}
+
+struct Call {
+    Block graph, rule;
+    std::size_t start, map_length;
+    Code code;
+};
+
+// A call for each reply that the library has.
+std::vector<Call> calls() {
+    Block bad_graph = two_relus_graph(), bad_rule = two_relus_rule();
+    bad_graph.pop_back();
+    bad_rule[0] = 'l';
+    return {{two_relus_graph(), two_relus_rule(), 0, 32, Code::done},
+            {bad_graph, bad_rule, 0, 31, Code::bad_map_length},
+            {bad_graph, bad_rule, 0, 32, Code::bad_graph},
+            {two_relus_graph(), bad_rule, 0, 32, Code::bad_rule},
+            {two_relus_graph(), two_relus_rule(), 3, 32, Code::no_match},
+            {two_relus_graph(), two_relus_rule(), SIZE_MAX, 32, Code::no_match},
+            {gains_graph(65536), gains_rule(), 0, 32, Code::no_result},
+            {blocks::graph({a_variable, relu_of(0)}, {1}), longer_rule(), 0, 32, Code::no_room},
+            {pair_graph(), pair_rule(), 0, 32, Code::cycle}};
+}
+
+void test_rewriting_replies() {
+    std::set<Code> seen;
+    for (const Call &call : calls()) {
+        Block graph = call.graph, map(call.map_length, 0xaa);
+        const Block rule = call.rule, map_before = map;
+        const Reply reply = leafgraph::rewrite(graph, rule, call.start, map);
+        expect(reply.code() == call.code, leafgraph::what(call.code));
+        expect(reply.number() == static_cast<unsigned>(call.code), "the number is the code's");
+        expect(reply.place() == 0, "the place is zero for now");
+        expect(reply.done() == (call.code == Code::done), "done is number 0");
+        expect(reply.done() || (graph == call.graph && map == map_before),
+               "a refusal keeps every byte");
+        seen.insert(reply.code());
+    }
+    expect(seen.size() == 8, "each of the library's eight replies was seen");
+}
+
+void test_search_and_checks() {
+    for (const Call &call : calls()) {
+        Block map(call.map_length, 0xaa);
+        const Reply reply = leafgraph::find_match(call.graph, call.rule, call.start, map);
+        const bool found = call.code > Code::no_match || call.code == Code::done;
+        expect(reply.code() == (found ? Code::done : call.code), "a search replies 0 to 4");
+    }
+    const Block graph = two_relus_graph(), rule = two_relus_rule();
+    expect(leafgraph::check_graph(graph).done(), "a sound graph");
+    expect(leafgraph::check_rule(rule).done(), "a sound rule");
+    expect(leafgraph::check_graph(rule).code() == Code::bad_graph, "a rule is no graph");
+    expect(leafgraph::check_rule(graph).code() == Code::bad_rule, "a graph is no rule");
+}
+
+void test_result_of_rewriting() {
+    Block graph = two_relus_graph();
+    Map map;
+    expect(map[0] == 0, "a new map is zero");
+    expect(bool(leafgraph::rewrite(graph, two_relus_rule(), 0, map)), "rewritten");
+    expect(graph == one_relu_graph(), "the new graph");
+    expect(map[0] == 0 && map[1] == 1 && map[2] == 2, "the slots of the match");
+    expect(map[3] == Map::no_slot && map[15] == Map::no_slot, "no slot past the last vertex");
+    expect(map[16] == Map::no_slot && map[SIZE_MAX] == Map::no_slot, "nor past the map");
+    expect(leafgraph::rewrite(graph, two_relus_rule(), 0, map).code() == Code::no_match,
+           "no match is left");
+}
+
+// The same calls through every kind of buffer.
+void test_kinds_of_buffer() {
+    const Block graph = two_relus_graph(), rule = two_relus_rule();
+    std::uint8_t array[32] = {};
+    std::array<std::byte, 32> map = {};
+    std::array<std::uint8_t, 168> table = {};
+    std::copy(graph.begin(), graph.end(), table.begin());
+    std::byte rule_bytes[80];
+    std::memcpy(rule_bytes, rule.data(), sizeof rule_bytes);
+    const std::string text(rule.begin(), rule.end());
+    expect(table.size() == graph.size() && sizeof rule_bytes == rule.size(), "the lengths");
+    expect(leafgraph::find_match(table, text, 0, array).done(), "std::array, string, array");
+    expect(leafgraph::find_match(graph, std::string_view(text), 0, map).done(), "string_view");
+    expect(std::memcmp(array, map.data(), sizeof array) == 0, "the same map");
+    expect(leafgraph::check_rule({text.data(), text.size()}).done(), "pointer and length");
+    expect(leafgraph::rewrite({table.data(), table.size()}, rule_bytes, 0,
+                              {map.data(), map.size()}).done(), "pointers and lengths");
+    expect(Block(table.begin(), table.end()) == one_relu_graph(), "the array was rewritten");
+#if __cplusplus > 201703L
+    Block copy = graph;
+    expect(leafgraph::rewrite(std::span(copy), std::span<const std::uint8_t>(rule), 0,
+                              std::span(map)).done(), "std::span");
+    expect(copy == one_relu_graph(), "the span was rewritten");
+#endif
+}
+
+void test_empty_buffers() {
+    Block graph = two_relus_graph();
+    const Block rule = two_relus_rule();
+    Map map;
+    expect(leafgraph::check_graph({nullptr, 0}).code() == Code::bad_graph, "null graph");
+    expect(leafgraph::check_rule(Bytes()).code() == Code::bad_rule, "no rule");
+    expect(leafgraph::check_graph(Block()).code() == Code::bad_graph, "an empty vector");
+    expect(leafgraph::find_match({nullptr, 0}, rule, 0, map).code() == Code::bad_graph, "search");
+    expect(leafgraph::find_match(graph, {nullptr, 0}, 0, map).code() == Code::bad_rule, "search");
+    expect(leafgraph::rewrite(graph, rule, 0, {nullptr, 0}).code() == Code::bad_map_length,
+           "a null map");
+    expect(leafgraph::detail::lent(Bytes()).data() != nullptr, "the library never gets null");
+    expect(leafgraph::detail::lent(WritableBytes()).data() != nullptr, "nor to write to");
+    expect(leafgraph::rewrite(WritableBytes(), rule, 0, map).code() == Code::bad_graph,
+           "a null graph");
+}
+
+void test_null_with_a_length() {
+    Block graph = two_relus_graph();
+    const Block rule = two_relus_rule(), before = graph;
+    Map map;
+    const Bytes null = {nullptr, 1};
+    const WritableBytes writable_null = {nullptr, 32};
+    expect(leafgraph::check_graph(null).code() == Code::null_buffer, "graph to check");
+    expect(leafgraph::check_rule(null).code() == Code::null_buffer, "rule to check");
+    expect(leafgraph::find_match(null, rule, 0, map).code() == Code::null_buffer, "graph");
+    expect(leafgraph::find_match(graph, null, 0, map).code() == Code::null_buffer, "rule");
+    expect(leafgraph::find_match(graph, rule, 0, writable_null).code() == Code::null_buffer, "map");
+    expect(leafgraph::rewrite(writable_null, rule, 0, map).code() == Code::null_buffer, "graph");
+    expect(leafgraph::rewrite(graph, null, 0, map).code() == Code::null_buffer, "rule");
+    expect(leafgraph::rewrite(graph, rule, 0, writable_null).code() == Code::null_buffer, "map");
+    expect(graph == before, "the graph is as it came");
+}
+
+// Both calls with parts of one block: graph, rule and map at these offsets.
+void expect_overlap(std::size_t graph_at, std::size_t rule_at, std::size_t map_at, bool overlap) {
+    const Block graph = two_relus_graph(), rule = two_relus_rule();
+    Block all(400, 0xaa);
+    const auto at = [&](std::size_t offset) { return all.data() + offset; };
+    std::memcpy(at(map_at), Block(32, 0xaa).data(), 32);
+    std::memcpy(at(rule_at), rule.data(), rule.size());
+    std::memcpy(at(graph_at), graph.data(), graph.size());
+    const Block before = all;
+    const Reply found = leafgraph::find_match({at(graph_at), graph.size()},
+                                              {at(rule_at), rule.size()}, 0, {at(map_at), 32});
+    expect((found.code() == Code::overlap) == overlap, "overlap in a search");
+    expect(overlap ? all == before : found.done(), "nothing was touched, or it is found");
+    const Reply reply = leafgraph::rewrite({at(graph_at), graph.size()},
+                                           {at(rule_at), rule.size()}, 0, {at(map_at), 32});
+    expect((reply.code() == Code::overlap) == overlap, "overlap in a rewriting");
+    expect(overlap ? all == before : reply.done(), "nothing was touched, or it is done");
+}
+
+void test_overlap() {
+    const std::size_t graph = two_relus_graph().size(), rule = two_relus_rule().size();
+    expect_overlap(0, graph, graph + rule, false);
+    expect_overlap(rule + 32, 32, 0, false);
+    expect_overlap(0, graph - 1, graph + rule, true);
+    expect_overlap(0, graph, graph + rule - 1, true);
+    expect_overlap(0, 250, graph - 1, true);
+    expect_overlap(31, 250, 0, true);
+    expect_overlap(79, 0, 300, true);
+    expect_overlap(0, 200, 70, true);
+    expect_overlap(32, 200, 0, false);
+    Block block = two_relus_graph();
+    const Block rule_block = two_relus_rule();
+    expect(leafgraph::rewrite(block, rule_block, 0, {block.data() + 10, 0}).code()
+               == Code::bad_map_length, "an empty buffer overlaps nothing");
+}
+
+void test_words() {
+    std::set<std::string_view> texts;
+    for (const Code code : {Code::done, Code::bad_map_length, Code::bad_graph, Code::bad_rule,
+                            Code::no_match, Code::no_result, Code::no_room, Code::cycle,
+                            Code::overlap, Code::null_buffer}) {
+        texts.insert(leafgraph::what(code));
+        expect(Reply(code).what() == std::string_view(leafgraph::what(code)), "the reply's words");
+    }
+    expect(texts.size() == 10, "each code has words of its own");
+    expect(texts.count(leafgraph::what(static_cast<Code>(200))) == 0, "an unknown number too");
+}
+
+void test_packed_replies() {
+    constexpr std::uint64_t number = 0xffffff1234567804;
+    constexpr Reply packed(number);
+    static_assert(packed.code() == Code::no_match && packed.place() == 0x12345678);
+    expect(packed.number() == lg_reply_number(number), "the number as the C header reads it");
+    expect(packed.place() == lg_reply_place(number), "the place as the C header reads it");
+    static_assert(packed != Reply(Code::no_match) && Reply(Code::done) == Reply(std::uint64_t{0}));
+    static_assert(std::is_convertible_v<WritableBytes, Bytes>);
+    static_assert(!std::is_convertible_v<Bytes, WritableBytes>);
+    static_assert(!std::is_convertible_v<const Block &, WritableBytes>);
+    static_assert(!std::is_convertible_v<Block, WritableBytes>, "what it writes would be lost");
+    static_assert(!std::is_convertible_v<std::vector<int>, Bytes>);
+    static_assert(!std::is_convertible_v<Reply, bool>, "only where a condition is asked");
+    static_assert(noexcept(leafgraph::rewrite(WritableBytes(), Bytes(), 0, WritableBytes())));
+}
+
+// One rule lent to all, and a graph and a map for each thread.
+void test_threads() {
+    const Block rule = two_relus_rule(), before = two_relus_graph(), after = one_relu_graph();
+    std::array<int, 4> wrong = {};
+    std::vector<std::thread> threads;
+    for (int &count : wrong) {
+        threads.emplace_back([&] {
+            for (int time = 0; time < 2000; ++time) {
+                Block graph = before;
+                Map map;
+                const bool done = leafgraph::rewrite(graph, rule, 0, map).done();
+                count += done && graph == after ? 0 : 1;
+            }
+        });
+    }
+    for (std::thread &thread : threads) {
+        thread.join();
+    }
+    expect(wrong == std::array<int, 4>{}, "threads do not disturb each other");
+}
+
+} // namespace
+
+int main() {
+    test_rewriting_replies();
+    test_search_and_checks();
+    test_result_of_rewriting();
+    test_kinds_of_buffer();
+    test_empty_buffers();
+    test_null_with_a_length();
+    test_overlap();
+    test_words();
+    test_packed_replies();
+    test_threads();
+    std::printf("wrapper test in C++%ld: %d failed\n", __cplusplus / 100 % 100, failures);
+    return failures == 0 ? 0 : 1;
+}

@@ -1,0 +1,59 @@
+# The C header and the C++ wrapper, tried from C and C++.
+
+WRAPPER_TEST := host/test_wrapper.cpp host/blocks.hpp $(HEADERS)
+BUILD_WRAPPER_TEST = $(CXX) $(CXX_WARNINGS) $(CXXFLAGS) -Iinclude -o $@ $< $(ARCHIVE) -lpthread
+SANITIZERS := -g -fsanitize=address,undefined -fno-sanitize-recover=all
+
+.PHONY: host-tests wrapper-sanitized wrapper-valgrind
+
+host-tests: build/test_header_c build/test_header_cpp build/test_stack \
+		build/test_wrapper_17 build/test_wrapper_20
+	build/test_header_c
+	build/test_header_cpp
+	build/test_stack
+	build/test_wrapper_17
+	build/test_wrapper_20
+	$(MAKE) wrapper-sanitized
+	$(MAKE) wrapper-valgrind
+
+build/test_header_c: host/test_header.c host/test_blocks.h include/leafgraph.h $(ARCHIVE) | build
+	$(CC) -std=c99 $(WARNINGS) $(CFLAGS) -Iinclude -o $@ $< $(ARCHIVE)
+
+build/test_header_cpp: host/test_header.cpp host/test_blocks.h include/leafgraph.h $(ARCHIVE) | build
+	$(CXX) -std=c++11 $(WARNINGS) $(CXXFLAGS) -Iinclude -o $@ $< $(ARCHIVE)
+
+# Measures a stack, so it needs threads.
+build/test_stack: host/test_stack.c include/leafgraph.h $(ARCHIVE) | build
+	$(CC) -std=c11 $(WARNINGS) $(CFLAGS) -Iinclude -o $@ $< $(ARCHIVE) -lpthread
+
+build/test_wrapper_17: CXXFLAGS += -std=c++17 -fno-exceptions -fno-rtti
+build/test_wrapper_17: $(WRAPPER_TEST) $(ARCHIVE) | build
+	$(BUILD_WRAPPER_TEST)
+
+# With std::span.
+build/test_wrapper_20: CXXFLAGS += -std=c++20
+build/test_wrapper_20: $(WRAPPER_TEST) $(ARCHIVE) | build
+	$(BUILD_WRAPPER_TEST)
+
+build/test_wrapper_sanitized: CXXFLAGS += -std=c++17 $(SANITIZERS)
+build/test_wrapper_sanitized: $(WRAPPER_TEST) $(ARCHIVE) | build
+	$(BUILD_WRAPPER_TEST)
+
+# The sanitizers see the wrapper and its test. The archive's own code is
+# compiled without them.
+wrapper-sanitized: | build
+	@if echo 'int main() { return 0; }' \
+			| $(CXX) $(SANITIZERS) -x c++ -o build/sanitizers - 2> /dev/null; then \
+		$(MAKE) build/test_wrapper_sanitized && build/test_wrapper_sanitized; \
+	else \
+		echo "sanitizers: $(CXX) has no runtime for them here, so this test is left out"; \
+	fi
+
+# Valgrind sees every load and store, also the archive's: the buffers are on
+# the heap, with their exact lengths.
+wrapper-valgrind: build/test_wrapper_17
+	@if command -v valgrind > /dev/null; then \
+		valgrind -q --error-exitcode=1 build/test_wrapper_17; \
+	else \
+		echo "valgrind: not on this machine, so this test is left out"; \
+	fi
