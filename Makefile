@@ -26,6 +26,7 @@ HEADERS := include/leafgraph.h include/leafgraph.hpp
 RT_LOG := build/rt-ci.log
 
 include make/host.mk
+include make/tool.mk
 include make/reference.mk
 
 .PHONY: help test tests-beside clean
@@ -33,6 +34,7 @@ include make/reference.mk
 help:
 	@echo 'make test              the gate: every proof, every wrong program, every test'
 	@echo 'make tests-beside      every test that is no proof'
+	@echo 'make tool              the command-line tool, build/leafgraph'
 	@echo 'make benchmark         the speed beside the second program'"'"'s, as a table'
 	@echo 'make benchmark-report  the same, into docs/PERFORMANCE.md with its plots'
 	@echo 'make clean             remove build/ and target/'
@@ -56,6 +58,7 @@ test:
 # side wants.
 tests-beside: $(ARCHIVE)
 	$(MAKE) host-tests
+	$(MAKE) tool-tests
 	$(MAKE) comparison
 
 # Anew when a source is newer than the archive.

@@ -1,0 +1,154 @@
+#include "commands.hpp"
+
+#include <algorithm>
+#include <string>
+
+#include "blocks.hpp"
+#include "dot.hpp"
+#include "failure.hpp"
+#include "graphviz.hpp"
+#include "input.hpp"
+#include "leafgraph.hpp"
+#include "listing.hpp"
+#include "names.hpp"
+#include "output.hpp"
+#include "refusal.hpp"
+#include "rewriting.hpp"
+#include "rule_text.hpp"
+#include "text.hpp"
+
+namespace leafgraph::tool {
+namespace {
+
+Operators operators(const CommandLine &line) {
+    return line.names ? Operators::as_names : Operators::as_numbers;
+}
+
+void check(const CommandLine &line) {
+    const Input input = read_graph_file(line.files[0]);
+    want_sound_graph(input);
+    const Graph graph = read_graph(input.bytes);
+    const auto empty = std::count_if(graph.slots.begin(), graph.slots.end(), [](const Slot &slot) {
+        return slot.kind == Kind::empty;
+    });
+    const std::size_t vertices = graph.slots.size() - static_cast<std::size_t>(empty);
+    print(printable(input.name) + ": sound graph, "
+          + counted(graph.slots.size(), "slot", "slots") + ", "
+          + counted(vertices, "vertex", "vertices") + ", "
+          + counted(graph.outputs.size(), "output", "outputs") + "\n");
+}
+
+void check_rule(const CommandLine &line) {
+    const Input input = read_rule_file(line.files[0]);
+    want_sound_rule(input);
+    const Rule rule = read_rule(input.bytes);
+    print(printable(input.name) + ": sound rule, "
+          + counted(rule.source.size(), "source vertex", "source vertices") + ", "
+          + counted(rule.target.size(), "target vertex", "target vertices") + ", "
+          + counted(rule.source_outputs.size(), "output", "outputs") + ", "
+          + counted(rule.nodes.size(), "expression node", "expression nodes") + "\n");
+}
+
+// Finds the least match, or throws the refusal.
+Match find(const Input &graph, const Input &rule, std::size_t start) {
+    Map slots;
+    want_done(find_match(graph.bytes, rule.bytes, start, slots), graph, rule);
+    return {read_rule(rule.bytes), start, slots};
+}
+
+void match(const CommandLine &line) {
+    const Input graph_input = read_graph_file(line.files[0]);
+    const Input rule_input = read_rule_file(line.files[1]);
+    const Match match = find(graph_input, rule_input, line.start);
+    const Graph graph = read_graph(graph_input.bytes);
+    std::string text = "match from start " + std::to_string(line.start) + "\n";
+    for (std::size_t number = 0; number < match.rule.source.size(); ++number) {
+        const Pattern &vertex = match.rule.source[number];
+        const Slot &slot = graph.slots.at(match.slots[number]);
+        text += "source " + std::to_string(number) + " "
+                + vertex_words(vertex.kind, vertex.op, Operators::as_names) + " -> slot "
+                + std::to_string(match.slots[number]) + " "
+                + vertex_words(slot.kind, slot.op, Operators::as_names) + "\n";
+    }
+    print(text);
+}
+
+void rewrite(const CommandLine &line) {
+    Input graph = read_graph_file(line.files[0]);
+    const Input rule = read_rule_file(line.files[1]);
+    const std::string report = line.all ? rewrite_all(graph, rule, line.start, line.max)
+                                        : rewrite_once(graph, rule, line.start);
+    if (!line.out) {
+        print(report + "\n" + graph_listing(read_graph(graph.bytes), operators(line)));
+        return;
+    }
+    write_output(*line.out, graph.bytes);
+    if (*line.out == "-") {
+        // Standard output has the block, and nothing else.
+        say(report);
+    } else {
+        print(report + "\n");
+    }
+}
+
+// Whether a file starts with these three letters.
+bool starts_with(const Input &input, const std::string &mark) {
+    return input.bytes.size() >= mark.size()
+           && std::equal(mark.begin(), mark.end(), input.bytes.begin());
+}
+
+void show(const CommandLine &line) {
+    const Input input = read_any_file(line.files[0]);
+    if (starts_with(input, "LGT")) {
+        want_sound_graph(input);
+        print(graph_listing(read_graph(input.bytes), operators(line)));
+    } else if (starts_with(input, "LGR")) {
+        want_sound_rule(input);
+        print(rule_text(read_rule(input.bytes), operators(line)));
+    } else {
+        throw Failure(Status::refused,
+                      {input.name + ": neither a graph block (LGT) nor a rule block (LGR)"});
+    }
+}
+
+// The drawing of the graph, with the match of the rule if there is a rule.
+std::string drawing(const CommandLine &line) {
+    const Input graph = read_graph_file(line.files[0]);
+    if (line.files.size() == 1) {
+        want_sound_graph(graph);
+        return dot_text(read_graph(graph.bytes), nullptr);
+    }
+    const Match match = find(graph, read_rule_file(line.files[1]), line.start);
+    return dot_text(read_graph(graph.bytes), &match);
+}
+
+void dot(const CommandLine &line) {
+    const std::string text = drawing(line);
+    const std::string out = line.out.value_or("-");
+    if (line.svg) {
+        write_output(out, svg_of(text));
+    } else {
+        write_output(out, text);
+    }
+}
+
+} // namespace
+
+void run_command(const CommandLine &line) {
+    switch (line.command) {
+    case Command::check:
+        return check(line);
+    case Command::check_rule:
+        return check_rule(line);
+    case Command::match:
+        return match(line);
+    case Command::rewrite:
+        return rewrite(line);
+    case Command::show:
+        return show(line);
+    case Command::dot:
+        return dot(line);
+    }
+}
+
+} // namespace leafgraph::tool

@@ -1,0 +1,100 @@
+#include "help.hpp"
+
+namespace leafgraph::tool {
+namespace {
+
+const char *const general =
+    R"(Checks graphs and rewriting rules, finds matches, and rewrites graphs.
+
+usage: leafgraph COMMAND FILE... [OPTION...]
+
+  check GRAPH         say whether a file is a sound graph block
+  check-rule RULE     say whether a file is a sound rule block
+  match GRAPH RULE    find the least match of a rule in a graph
+  rewrite GRAPH RULE  rewrite a graph where the rule matches
+  show FILE           print a graph or a rule as text
+  dot GRAPH [RULE]    draw a graph, and where a rule matches it
+
+  leafgraph COMMAND --help  says more about a command
+  leafgraph --version       prints the version
+
+A file '-' is standard input. Options stand before or after the files; '--' ends
+them. The exit status is 0 if all is done, 1 if the library refuses, and 2 for
+bad usage and for a file that can't be read or written.
+)";
+
+const char *const check = R"(usage: leafgraph check GRAPH
+
+Says whether GRAPH is a sound graph block, and how much is in it.
+)";
+
+const char *const check_rule = R"(usage: leafgraph check-rule RULE
+
+Says whether RULE is a sound rule block, and how much is in it.
+)";
+
+const char *const match = R"(usage: leafgraph match GRAPH RULE [--start S]
+
+Finds the least match of RULE in GRAPH, and prints which slot each source vertex
+of the rule matches.
+
+  --start S  only matches whose first output is slot S or a later one (0)
+)";
+
+const char *const rewrite =
+    R"(usage: leafgraph rewrite GRAPH RULE [--start S] [--all [--max N]] [-o OUT | --names]
+
+Rewrites GRAPH where RULE has its least match, and prints the new graph as text.
+The file GRAPH is not changed, unless OUT is the same file.
+
+  --start S  only matches whose first output is slot S or a later one (0)
+  --all      rewrite again and again until no match is left
+  --max N    with --all: refuse if there is still a match after N times (4096)
+  -o OUT     write the new block to OUT, '-' for standard output, and no text
+  --names    print operators by name
+
+OUT is replaced whole or not at all. If anything is refused, it is not written.
+)";
+
+const char *const show = R"(usage: leafgraph show FILE [--names]
+
+Prints a sound graph or rule as text. Inputs stand in [], attributes in {}.
+
+  --names  print operators by name
+)";
+
+const char *const dot = R"(usage: leafgraph dot GRAPH [RULE [--start S]] [--svg] [-o OUT]
+
+Prints GRAPH as a drawing in the language of Graphviz. With RULE, the vertices of
+its least match are coloured.
+
+  --start S  only matches whose first output is slot S or a later one (0)
+  --svg      have Graphviz' dot, if it is installed, make an SVG file of it
+  -o OUT     write to OUT, which is replaced whole or not at all
+)";
+
+} // namespace
+
+std::string general_help() {
+    return general;
+}
+
+std::string command_help(Command command) {
+    switch (command) {
+    case Command::check:
+        return check;
+    case Command::check_rule:
+        return check_rule;
+    case Command::match:
+        return match;
+    case Command::rewrite:
+        return rewrite;
+    case Command::show:
+        return show;
+    case Command::dot:
+        return dot;
+    }
+    return general;
+}
+
+} // namespace leafgraph::tool

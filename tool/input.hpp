@@ -1,0 +1,26 @@
+// Reading the files that a command is given.
+#ifndef LEAFGRAPH_TOOL_INPUT_HPP
+#define LEAFGRAPH_TOOL_INPUT_HPP
+
+#include <cstdint>
+#include <string>
+#include <vector>
+
+namespace leafgraph::tool {
+
+// A file as it was read.
+struct Input {
+    std::string name; // for messages
+    std::vector<std::uint8_t> bytes;
+};
+
+// Reads a file, or standard input for "-". Of a file that is longer than any
+// sound block it reads one byte more than that, which is enough for the library
+// to refuse it.
+Input read_graph_file(const std::string &path);
+Input read_rule_file(const std::string &path);
+Input read_any_file(const std::string &path);
+
+} // namespace leafgraph::tool
+
+#endif // LEAFGRAPH_TOOL_INPUT_HPP

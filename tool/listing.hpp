@@ -1,0 +1,24 @@
+// A graph as text: a line for each vertex.
+#ifndef LEAFGRAPH_TOOL_LISTING_HPP
+#define LEAFGRAPH_TOOL_LISTING_HPP
+
+#include <string>
+
+#include "blocks.hpp"
+#include "names.hpp"
+
+namespace leafgraph::tool {
+
+// For instance, with operators as numbers:
+//
+//     graph 3
+//     0 variable [] {1 3 8 8 1}
+//     1 call 7 [0] {}
+//     out 1
+//
+// Inputs stand in [], attributes in {}; Empty slots have no line.
+std::string graph_listing(const Graph &graph, Operators operators);
+
+} // namespace leafgraph::tool
+
+#endif // LEAFGRAPH_TOOL_LISTING_HPP

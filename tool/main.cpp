@@ -1,0 +1,63 @@
+// leafgraph: the library's operations on files.
+//
+// Where to find what, in the order of a run:
+//
+//   command_line  what the user asks for        help       what --help prints
+//   commands      what each command does        failure    what ends one early
+//   input         files that are read           output     files that are written
+//   blocks        what a sound block says       refusal    the library's refusals
+//   rewriting     once, or until none is left   names      of kinds and operators
+//   listing       a graph as text               rule_text  a rule as text
+//   dot           a graph as a drawing          graphviz   the program that draws
+//
+// descriptor has the system calls that input, output and graphviz share, text
+// what is printed in several places.
+#include <exception>
+#include <string>
+#include <vector>
+
+#include "command_line.hpp"
+#include "commands.hpp"
+#include "failure.hpp"
+#include "help.hpp"
+#include "leafgraph.hpp"
+#include "output.hpp"
+
+namespace leafgraph::tool {
+namespace {
+
+void fulfil(const Request &request) {
+    switch (request.wish) {
+    case Request::Wish::run:
+        return run_command(*request.line);
+    case Request::Wish::help:
+        return print(request.about ? command_help(*request.about) : general_help());
+    case Request::Wish::version:
+        return print(std::string("leafgraph ") + LEAFGRAPH_VERSION + "\n");
+    }
+}
+
+// All that can go wrong ends here, as lines on standard error and a status.
+Status run(int argc, char **argv) noexcept {
+    try {
+        const std::vector<std::string> words(argv + (argc > 0 ? 1 : 0), argv + argc);
+        fulfil(read_command_line(words));
+        return Status::done;
+    } catch (const Failure &failure) {
+        for (const std::string &line : failure.lines()) {
+            say(line);
+        }
+        return failure.status();
+    } catch (const std::exception &error) {
+        // No memory left, for instance.
+        say(error.what());
+        return Status::trouble;
+    }
+}
+
+} // namespace
+} // namespace leafgraph::tool
+
+int main(int argc, char **argv) {
+    return static_cast<int>(leafgraph::tool::run(argc, argv));
+}

@@ -1,0 +1,23 @@
+// Refusals of the library, in words.
+#ifndef LEAFGRAPH_TOOL_REFUSAL_HPP
+#define LEAFGRAPH_TOOL_REFUSAL_HPP
+
+#include <string>
+
+#include "input.hpp"
+#include "leafgraph.hpp"
+
+namespace leafgraph::tool {
+
+// One line about a reply that isn't done. It names the file that the reply is
+// about, where it is about one: the graph with reply 2, the rule with reply 3.
+std::string refusal_line(Reply reply, const Input &graph, const Input &rule);
+
+// Each throws a refusal unless the reply is done.
+void want_done(Reply reply, const Input &graph, const Input &rule);
+void want_sound_graph(const Input &graph);
+void want_sound_rule(const Input &rule);
+
+} // namespace leafgraph::tool
+
+#endif // LEAFGRAPH_TOOL_REFUSAL_HPP
