@@ -6,7 +6,7 @@
 SHELL := bash
 .SHELLFLAGS := -euo pipefail -c
 MAKEFLAGS += --no-print-directory
-.DEFAULT_GOAL := help
+.DEFAULT_GOAL := demo
 .DELETE_ON_ERROR:
 
 CC ?= cc
@@ -27,16 +27,19 @@ RT_LOG := build/rt-ci.log
 
 include make/host.mk
 include make/tool.mk
+include make/examples.mk
 include make/reference.mk
 
 .PHONY: help test tests-beside clean
 
 help:
+	@echo 'make demo              rewrite the leaf pipeline, and show that its number stays'
 	@echo 'make test              the gate: every proof, every wrong program, every test'
 	@echo 'make tests-beside      every test that is no proof'
 	@echo 'make tool              the command-line tool, build/leafgraph'
 	@echo 'make benchmark         the speed beside the second program'"'"'s, as a table'
 	@echo 'make benchmark-report  the same, into docs/PERFORMANCE.md with its plots'
+	@echo 'make blocks            the example blocks anew from their sources'
 	@echo 'make clean             remove build/ and target/'
 
 # The gate. The order is fixed: `rt ci` clears target/, so the archive is made
@@ -58,6 +61,7 @@ test:
 # side wants.
 tests-beside: $(ARCHIVE)
 	$(MAKE) host-tests
+	$(MAKE) examples-tests
 	$(MAKE) tool-tests
 	$(MAKE) comparison
 

@@ -1,0 +1,93 @@
+#include "graph.hpp"
+
+#include "tool/names.hpp"
+
+#include <algorithm>
+#include <fstream>
+#include <iterator>
+#include <stdexcept>
+
+namespace demo {
+
+namespace {
+
+std::string name_of(const Slot &slot) {
+    return slot.kind == Kind::call ? leafgraph::tool::operator_name(slot.op)
+                                   : leafgraph::tool::kind_word(slot.kind);
+}
+
+template <class Numbers>
+std::string joined(const Numbers &numbers, const char *separator) {
+    std::string text;
+    for (const auto number : numbers) {
+        text += (text.empty() ? "" : separator) + std::to_string(number);
+    }
+    return text;
+}
+
+} // namespace
+
+Block read_file(const std::string &path) {
+    std::ifstream file(path, std::ios::binary);
+    if (!file) {
+        throw std::runtime_error("cannot read " + path);
+    }
+    return Block(std::istreambuf_iterator<char>(file), {});
+}
+
+void put_input(Block &block, std::size_t slot, std::size_t place, std::size_t named) {
+    // A header of 24 bytes, records of 48, inputs from byte 4 of a record on.
+    const std::size_t at = 24 + 48 * slot + 4 + 2 * place;
+    block.at(at) = static_cast<std::uint8_t>(named % 256);
+    block.at(at + 1) = static_cast<std::uint8_t>(named / 256);
+}
+
+bool is_call(const Slot &slot, Operator op) {
+    return slot.kind == Kind::call && slot.op == static_cast<unsigned>(op);
+}
+
+std::vector<std::size_t> calls(const Graph &graph, Operator op) {
+    std::vector<std::size_t> found;
+    for (std::size_t slot = 0; slot < graph.slots.size(); slot++) {
+        if (is_call(graph.slots[slot], op)) {
+            found.push_back(slot);
+        }
+    }
+    return found;
+}
+
+std::vector<bool> leading_to(const Graph &graph, std::size_t slot) {
+    std::vector<bool> leads(graph.slots.size(), false);
+    std::vector<std::size_t> open = {slot};
+    while (!open.empty()) {
+        const std::size_t next = open.back();
+        open.pop_back();
+        if (!leads[next]) {
+            leads[next] = true;
+            const auto &inputs = graph.slots[next].inputs;
+            open.insert(open.end(), inputs.begin(), inputs.end());
+        }
+    }
+    return leads;
+}
+
+std::size_t uses(const Graph &graph, std::size_t slot) {
+    auto count = std::count(graph.outputs.begin(), graph.outputs.end(), slot);
+    for (const Slot &reader : graph.slots) {
+        count += std::count(reader.inputs.begin(), reader.inputs.end(), slot);
+    }
+    return static_cast<std::size_t>(count);
+}
+
+std::string in_words(const Slot &slot) {
+    std::string text = name_of(slot);
+    if (!slot.inputs.empty()) {
+        text += "(" + joined(slot.inputs, ", ") + ")";
+    }
+    if (!slot.attributes.empty()) {
+        text += " {" + joined(slot.attributes, " ") + "}";
+    }
+    return text;
+}
+
+} // namespace demo

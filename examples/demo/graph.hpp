@@ -1,0 +1,53 @@
+// Blocks as files, and questions about the graph that a block holds.
+#ifndef LEAFGRAPH_DEMO_GRAPH_HPP
+#define LEAFGRAPH_DEMO_GRAPH_HPP
+
+#include "tool/blocks.hpp"
+
+#include <cstddef>
+#include <cstdint>
+#include <string>
+#include <vector>
+
+namespace demo {
+
+using leafgraph::tool::Graph;
+using leafgraph::tool::Kind;
+using leafgraph::tool::Slot;
+using Block = std::vector<std::uint8_t>;
+
+// The operators that the leaf pipeline uses, by document 01's numbers.
+enum class Operator : unsigned {
+    conv2d = 4,
+    bias_add = 5,
+    batch_norm = 6,
+    relu = 7,
+    gain = 10,
+    vivid = 11,
+    mean = 12,
+    cast = 14
+};
+
+// The bytes of a file. Throws std::runtime_error where it can't be read.
+Block read_file(const std::string &path);
+
+// Writes into a sound block that input place `place` of this slot names `named`.
+void put_input(Block &block, std::size_t slot, std::size_t place, std::size_t named);
+
+bool is_call(const Slot &slot, Operator op);
+
+// The slots of all vertices with this operator, ascending.
+std::vector<std::size_t> calls(const Graph &graph, Operator op);
+
+// For each slot, whether there is a path from it to this one; from itself, too.
+std::vector<bool> leading_to(const Graph &graph, std::size_t slot);
+
+// How many input places and outputs name this slot.
+std::size_t uses(const Graph &graph, std::size_t slot);
+
+// A vertex in words, such as `gain(10) {3 2 4}`.
+std::string in_words(const Slot &slot);
+
+} // namespace demo
+
+#endif // LEAFGRAPH_DEMO_GRAPH_HPP

@@ -1,0 +1,274 @@
+// Rewrites the leaf pipeline by five rules and shows that the number, which is
+// measured in one of its branches, stays what it was.
+//
+// Usage: leaf_demo FOLDER, with the folder of the blocks. The exit status is 1 if
+// anything is not as expected.
+
+#include "demo/graph.hpp"
+#include "demo/leaf.hpp"
+#include "demo/listing.hpp"
+#include "demo/meaning.hpp"
+#include "leafgraph.hpp"
+
+#include <array>
+#include <cfenv>
+#include <cstddef>
+#include <cstdio>
+#include <exception>
+#include <stdexcept>
+#include <string>
+#include <utility>
+#include <vector>
+
+namespace {
+
+using namespace demo;
+
+// An order in which each rule applies: gain_over_gain comes after the merge, since
+// it would change one of the two stages that look alike.
+constexpr std::array<const char *, 5> rule_names = {
+    "conv2d_batch_norm", "relu_over_relu", "shared_stage_merge", "gain_over_gain",
+    "identity_removal"};
+constexpr std::size_t times_expected = 1, times_at_most = 100;
+
+// Counts what was tested, and says what is not as expected.
+class Expectations {
+public:
+    void expect(bool holds, const std::string &what) {
+        tested_++;
+        if (!holds) {
+            failed_++;
+            std::printf("NOT AS EXPECTED: %s\n", what.c_str());
+        }
+    }
+
+    bool summed_up() const {
+        if (failed_ == 0) {
+            std::printf("All %zu things that were tested on the way are as expected.\n", tested_);
+        } else {
+            std::printf("%zu of %zu things tested are NOT as expected.\n", failed_, tested_);
+        }
+        return failed_ == 0;
+    }
+
+private:
+    std::size_t tested_ = 0, failed_ = 0;
+};
+
+// A pipeline and what comes out of it for the made-up photograph.
+struct Pipeline {
+    Block block;
+    Graph graph;
+    Tensor picture;
+    Tensor measured;
+    bool rounded; // whether some operation had to round
+};
+
+Pipeline run(Block block) {
+    const leafgraph::Reply reply = leafgraph::check_graph(block);
+    if (!reply) {
+        throw std::runtime_error(std::string("the pipeline is refused: ") + reply.what());
+    }
+    Graph graph = leafgraph::tool::read_graph(block);
+    if (graph.outputs.size() != 2) {
+        throw std::runtime_error("the pipeline has not two outputs");
+    }
+    const Variables variables = leaf_variables();
+    std::feclearexcept(FE_INEXACT);
+    Tensor picture = result_of(graph, graph.outputs[screen], variables);
+    Tensor measured = result_of(graph, graph.outputs[number], variables);
+    const bool rounded = std::fetestexcept(FE_INEXACT) != 0;
+    return {std::move(block), std::move(graph), std::move(picture), std::move(measured), rounded};
+}
+
+bool same_results(const Pipeline &one, const Pipeline &other) {
+    return one.picture == other.picture && one.measured == other.measured;
+}
+
+double number_of(const Pipeline &pipeline) {
+    return pipeline.measured.values.at(0);
+}
+
+// ---- the rules
+
+struct Rule {
+    std::string name;
+    Block block;
+};
+
+Rule read_rule(const std::string &folder, const std::string &name) {
+    Rule rule{name, read_file(folder + "/" + name + ".lgr")};
+    const leafgraph::Reply reply = leafgraph::check_rule(rule.block);
+    if (!reply) {
+        throw std::runtime_error(name + " is refused: " + reply.what());
+    }
+    return rule;
+}
+
+std::vector<std::size_t> slots_of(const leafgraph::Map &map) {
+    std::vector<std::size_t> slots;
+    for (std::size_t vertex = 0; map[vertex] != leafgraph::Map::no_slot; vertex++) {
+        slots.push_back(map[vertex]);
+    }
+    return slots;
+}
+
+// Rewrites by a rule until it matches no more, and says where it did.
+Pipeline rewritten(const Pipeline &before, const Rule &rule, Expectations &expectations) {
+    Block block = before.block;
+    leafgraph::Map map;
+    leafgraph::Reply reply(leafgraph::Code::done);
+    std::string matched;
+    std::size_t times = 0;
+    while (times < times_at_most && (reply = leafgraph::rewrite(block, rule.block, 0, map))) {
+        matched += (times == 0 ? ", at slots" : ", then") + listed(slots_of(map));
+        times++;
+    }
+    Pipeline after = run(std::move(block));
+    const bool kept = same_results(before, after);
+    std::printf("  %-18s  applied %zu time%s%s; the results %s.\n", rule.name.c_str(),
+                times, times == 1 ? "" : "s", matched.c_str(), kept ? "are the same" : "CHANGED");
+    expectations.expect(times == times_expected, rule.name + " does not apply once");
+    expectations.expect(reply.code() == leafgraph::Code::no_match,
+                        rule.name + " ends with: " + reply.what());
+    expectations.expect(kept, rule.name + " changes a result");
+    expectations.expect(!after.rounded, "an operation had to round");
+    return after;
+}
+
+// One gain over another is left: the one below it has a second reader.
+void show_gain_that_stays(const Graph &graph, const Rule &gain_over_gain, const Block &block,
+                          Expectations &expectations) {
+    leafgraph::Map map;
+    const leafgraph::Reply reply = leafgraph::find_match(block, gain_over_gain.block, 0, map);
+    std::size_t pairs = 0;
+    for (const std::size_t upper : calls(graph, Operator::gain)) {
+        const std::size_t lower = graph.slots[upper].inputs[0];
+        if (is_call(graph.slots[lower], Operator::gain)) {
+            pairs++;
+            expectations.expect(uses(graph, lower) > 1, "a gain that could go is left");
+            expectations.expect(leading_to(graph, graph.outputs[number])[lower],
+                                "the number does not read the gain that is left");
+            std::printf("\n  Slot %zu is a gain over the gain in slot %zu, too. But the number "
+                        "reads slot %zu as well,\n  so %s does not match there: %s.\n\n",
+                        upper, lower, lower, gain_over_gain.name.c_str(), reply.what());
+        }
+    }
+    expectations.expect(pairs == 1, "not one gain over a shared gain is left");
+    expectations.expect(reply.code() == leafgraph::Code::no_match, "a shared gain would be taken");
+}
+
+Pipeline rewritten_by_all(const std::string &folder, const Pipeline &before,
+                          Expectations &expectations) {
+    std::printf("Five rules, each applied until it matches no more. The slots are those that its "
+                "source\nvertices matched, in order.\n\n");
+    Pipeline now = before;
+    for (const char *name : rule_names) {
+        now = rewritten(now, read_rule(folder, name), expectations);
+    }
+    show_gain_that_stays(now.graph, read_rule(folder, "gain_over_gain"), now.block, expectations);
+    return now;
+}
+
+// ---- what came of it
+
+void show_results(const Pipeline &before, const Pipeline &after, Expectations &expectations) {
+    const bool same_number = before.measured == after.measured;
+    const bool same_picture = before.picture == after.picture;
+    const bool exact = !before.rounded && !after.rounded;
+    std::printf("Both pipelines, run on a made-up photograph of a pale leaf (%s operation had to "
+                "round):\n\n",
+                exact ? "no" : "SOME");
+    std::printf("  The number, the mean green: %.10g before, %.10g after: %s.\n", number_of(before),
+                number_of(after), same_number ? "equal" : "NOT equal");
+    std::printf("  The picture for the screen: %zu values, each of them %s.\n\n",
+                before.picture.values.size(), same_picture ? "equal" : "NOT equal");
+    expectations.expect(exact, "an operation had to round");
+    expectations.expect(same_number, "the number changed");
+    expectations.expect(same_picture, "the picture changed");
+    expectations.expect(stages(after.graph, true).size() < stages(before.graph, true).size(),
+                        "there are no fewer stages to run");
+}
+
+// How many stages that boost greens have a path to the number.
+std::size_t boosts_above_number(const Graph &graph) {
+    const std::vector<bool> leads = leading_to(graph, graph.outputs[number]);
+    std::size_t count = 0;
+    for (const std::size_t slot : calls(graph, Operator::vivid)) {
+        count += leads[slot] ? 1 : 0;
+    }
+    return count;
+}
+
+void show_boosts(const Pipeline &before, const Pipeline &after, Expectations &expectations) {
+    const std::size_t there_before = calls(before.graph, Operator::vivid).size();
+    const std::size_t there_after = calls(after.graph, Operator::vivid).size();
+    const std::size_t above_before = boosts_above_number(before.graph);
+    const std::size_t above_after = boosts_above_number(after.graph);
+    std::printf("Vivid stages in the pipeline: %zu before, %zu after.\n"
+                "Of them on a path to the number: %zu before, %zu after.\n\n",
+                there_before, there_after, above_before, above_after);
+    expectations.expect(there_before == 1 && there_after == 1, "not one vivid stage is there");
+    expectations.expect(above_before == 0 && above_after == 0,
+                        "the number is taken after a boost");
+}
+
+// The predecessor's fault: one reader too many is moved, and the number is read
+// after the boost.
+void show_fault(const Pipeline &after, Expectations &expectations) {
+    const std::size_t boost = calls(after.graph, Operator::vivid).at(0);
+    const std::size_t mean = after.graph.outputs[number];
+    Block block = after.block;
+    put_input(block, mean, 0, boost);
+    const Pipeline faulty = run(std::move(block));
+    const double right = number_of(after), wrong = number_of(faulty);
+    std::printf("What the predecessor did: it merged two stages and moved one reader too many. "
+                "Were slot %zu\nto read slot %zu, the graph block would still be sound: no check "
+                "of the block alone could tell.\n\n",
+                mean, boost);
+    std::printf("  Vivid stages on a path to the number: %zu.\n",
+                boosts_above_number(faulty.graph));
+    std::printf("  The number: %.10g instead of %.10g, so the pale leaf reads %.10g %% greener "
+                "than it is.\n\n",
+                wrong, right, 100 * (wrong - right) / right);
+    expectations.expect(boosts_above_number(faulty.graph) == 1, "the fault shows no boost");
+    expectations.expect(wrong > right, "the fault makes no leaf greener");
+}
+
+void show_proof() {
+    std::printf("What is shown here on one photograph is proved for every graph, rule and start, "
+                "whatever the\noperators mean, where the rule itself keeps its outputs' results: "
+                "demand-3 in\ncrates/answers/proofs/Demands.antt.\n");
+}
+
+bool demonstrated(const std::string &folder) {
+    Expectations expectations;
+    std::printf("The leaf pipeline in small: the photograph of a leaf goes in, a picture for the "
+                "screen and a\nnumber come out. The number, the mean green, decides how much "
+                "nitrogen is ordered. It must\nnever be taken after the stage vivid, which boosts "
+                "greens for the screen.\n\n");
+    const Pipeline before = run(read_file(folder + "/leaf_pipeline.lgt"));
+    show_graph("before", before.graph);
+    const Pipeline after = rewritten_by_all(folder, before, expectations);
+    show_graph("after", after.graph);
+    show_results(before, after, expectations);
+    show_boosts(before, after, expectations);
+    show_fault(after, expectations);
+    show_proof();
+    return expectations.summed_up();
+}
+
+} // namespace
+
+int main(int count, char **arguments) {
+    if (count != 2) {
+        std::fprintf(stderr, "usage: leaf_demo FOLDER\n");
+        return 1;
+    }
+    try {
+        return demonstrated(arguments[1]) ? 0 : 1;
+    } catch (const std::exception &fault) {
+        std::printf("NOT AS EXPECTED: %s\n", fault.what());
+        return 1;
+    }
+}
