@@ -26,6 +26,7 @@ HEADERS := include/leafgraph.h include/leafgraph.hpp
 RT_LOG := build/rt-ci.log
 
 include make/host.mk
+include make/package.mk
 include make/tool.mk
 include make/examples.mk
 include make/reference.mk
@@ -37,6 +38,7 @@ help:
 	@echo 'make test              the gate: every proof, every wrong program, every test'
 	@echo 'make tests-beside      every test that is no proof'
 	@echo 'make tool              the command-line tool, build/leafgraph'
+	@echo 'make install           library, headers, tool and package files, below PREFIX=/usr/local'
 	@echo 'make benchmark         the speed beside the second program'"'"'s, as a table'
 	@echo 'make benchmark-report  the same, into docs/PERFORMANCE.md with its plots'
 	@echo 'make blocks            the example blocks anew from their sources'
@@ -61,6 +63,7 @@ test:
 # side wants.
 tests-beside: $(ARCHIVE)
 	$(MAKE) host-tests
+	$(MAKE) package-tests
 	$(MAKE) examples-tests
 	$(MAKE) tool-tests
 	$(MAKE) comparison

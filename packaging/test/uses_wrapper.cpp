@@ -1,0 +1,11 @@
+// Built against the installed package alone.
+
+#include <leafgraph.hpp>
+
+#include <cstdio>
+
+int main() {
+    const leafgraph::Reply reply = leafgraph::check_graph({nullptr, 0});
+    std::printf("leafgraph %s from C++: %s\n", LEAFGRAPH_VERSION, reply.what());
+    return reply.code() == leafgraph::Code::bad_graph ? 0 : 1;
+}
