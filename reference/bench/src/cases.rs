@@ -3,13 +3,10 @@
 
 use std::hint::black_box;
 
-use leafgraph_reference::blocks::{
-    access_node, add, any_node, call, call_pattern, chain, operation_node, p7_rule, relu, rr,
-    target_place, variable, wildcard, GraphParts, RuleParts,
-};
-use leafgraph_reference::operators::{GAIN, MEAN, RELU};
-use leafgraph_reference::rule::{PLUS, TIMES};
+use leafgraph_reference::blocks::{chain, p7_rule, rr, GraphParts, RuleParts};
 use leafgraph_reference::MAP_LENGTH;
+
+use crate::graphs::{double_relus, gain_and_mean, gains_and_means, pairs};
 
 /// What a call leaves; the checks leave the map as it was.
 #[derive(Debug, PartialEq, Eq)]
@@ -32,57 +29,57 @@ pub struct Case {
     pub second: Program,
 }
 
-const SIZES: [u16; 3] = [64, 256, 512];
+const SIZES: [u16; 6] = [16, 32, 64, 128, 256, 512];
 const FOUND: u64 = 0;
 const NONE: u64 = 4;
 
+/// The graph of a row by its number of slots, and the row's rule.
+type Graph = fn(u16) -> GraphParts;
+type Rule = fn() -> RuleParts;
+
+const SEARCHES: [(&str, u64, Graph, Rule); 6] = [
+    ("match: 1 output, last slot", FOUND, |slots| double_relus(slots, true), rr),
+    ("match: 1 output, none", NONE, |slots| double_relus(slots, false), rr),
+    ("match: 2 outputs, last pair", FOUND, |slots| pairs(slots, true), p7_rule),
+    ("match: 2 outputs, none", NONE, |slots| pairs(slots, false), p7_rule),
+    ("match: attributes, last pair", FOUND, |slots| gains_and_means(slots, true), gain_and_mean),
+    ("match: attributes, none", NONE, |slots| gains_and_means(slots, false), gain_and_mean),
+];
+
+const REWRITINGS: [(&str, u64, Graph, Rule, Course); 3] = [
+    ("rewrite: 1 output, last slot", FOUND, |slots| double_relus(slots, true), rr, once),
+    ("rewrite: 2 outputs, last pair", FOUND, |slots| pairs(slots, true), p7_rule, once),
+    ("rewrite: to the end", NONE, chain, rr, to_the_end),
+];
+
 /// All searches start at 0.
 pub fn searches() -> Vec<Case> {
-    let mut cases = vec![];
-    for slots in SIZES {
-        cases.push(search("1 output, last slot", FOUND, double_relus(slots, true), rr()));
-        cases.push(search("1 output, none", NONE, double_relus(slots, false), rr()));
-        cases.push(search("2 outputs, last pair", FOUND, pairs(slots, true), p7_rule()));
-        cases.push(search("2 outputs, none", NONE, pairs(slots, false), p7_rule()));
-        let (graph, rule) = (gains_and_means(slots, true), gain_and_mean());
-        cases.push(search("2 outputs, last by attributes", FOUND, graph, rule));
-        let (graph, rule) = (gains_and_means(slots, false), gain_and_mean());
-        cases.push(search("2 outputs, none by attributes", NONE, graph, rule));
-    }
-    cases
+    let of_all_sizes = |(name, reply, graph, rule): (_, _, Graph, Rule)| {
+        SIZES.map(|slots| search(name, reply, graph(slots), rule()))
+    };
+    SEARCHES.into_iter().flat_map(of_all_sizes).collect()
 }
 
 /// All rewritings start at 0. Each timed call copies the graph first, in both
 /// programs alike.
 pub fn rewritings() -> Vec<Case> {
-    let mut cases = vec![];
-    for slots in SIZES {
-        let (one, two) = (double_relus(slots, true), pairs(slots, true));
-        cases.push(rewriting("rewrite, 1 output, last slot", FOUND, one, rr(), once));
-        cases.push(rewriting("rewrite, 2 outputs, last pair", FOUND, two, p7_rule(), once));
-        cases.push(rewriting("rewrite to the end", NONE, chain(slots), rr(), to_the_end));
-    }
-    cases
+    let of_all_sizes = |(name, reply, graph, rule, course): (_, _, Graph, Rule, _)| {
+        SIZES.map(|slots| rewriting(name, reply, graph(slots), rule(), course))
+    };
+    REWRITINGS.into_iter().flat_map(of_all_sizes).collect()
 }
 
 pub fn checks() -> Vec<Case> {
-    let (graph, rule) = (chain(512), rr());
-    vec![
-        check(
-            "check graph",
-            Some(graph.slots.len()),
-            graph.block(),
-            leafgraph_proved::check_graph,
-            leafgraph_reference::check_graph,
-        ),
-        check(
-            "check rule (RR)",
-            None,
-            rule.block(),
-            leafgraph_proved::check_rule,
-            leafgraph_reference::check_rule,
-        ),
-    ]
+    let mut cases: Vec<Case> = SIZES
+        .map(|slots| {
+            let proved = leafgraph_proved::check_graph;
+            let second = leafgraph_reference::check_graph;
+            check("check graph: a chain", Some(slots.into()), chain(slots).block(), proved, second)
+        })
+        .into();
+    let (proved, second) = (leafgraph_proved::check_rule, leafgraph_reference::check_rule);
+    cases.push(check("check rule: RR", None, rr().block(), proved, second));
+    cases
 }
 
 type FindMatch = fn(&[u8], &[u8], usize, &mut [u8]) -> u64;
@@ -164,71 +161,4 @@ fn check(
         Box::new(move |_| Answer { reply: check(black_box(&block)), map: [0; MAP_LENGTH] })
     };
     Case { name, slots, reply: 0, proved: program(proved), second: program(second) }
-}
-
-/// For RR: every slot but the first has its kind and operator, and only the
-/// last one reads another relu.
-fn double_relus(slots: u16, found: bool) -> GraphParts {
-    let mut table = vec![variable()];
-    table.resize(slots.into(), relu(0));
-    if found {
-        table[usize::from(slots) - 1] = relu(slots - 2);
-    }
-    GraphParts::new(table, &[slots - 1])
-}
-
-/// For P7's rule, relu(x) and add(x,y): every relu is a first image that
-/// passes, and no add goes with it, since the wildcards would share a slot.
-/// The one match has the greatest pair that there is.
-fn pairs(slots: u16, found: bool) -> GraphParts {
-    let mut table = vec![variable(), variable()];
-    while table.len() < slots.into() {
-        table.push(if table.len() % 2 == 0 { add(0, 0) } else { relu(0) });
-    }
-    if found {
-        let last = usize::from(slots) - 1;
-        (table[last - 1], table[last]) = (add(1, 0), relu(1));
-    }
-    GraphParts::new(table, &[slots - 1])
-}
-
-/// gain(x) with any attributes and mean(x) with the first of them times the
-/// second plus the third.
-fn gain_and_mean() -> RuleParts {
-    let nodes = vec![
-        any_node(),
-        access_node(1, 1),
-        access_node(1, 2),
-        operation_node(TIMES, 1, 2),
-        access_node(1, 3),
-        operation_node(PLUS, 3, 4),
-    ];
-    RuleParts {
-        source: vec![
-            wildcard(),
-            call_pattern(GAIN, &[0], &[0, 0, 0]),
-            call_pattern(MEAN, &[0], &[5]),
-        ],
-        target: vec![call_pattern(RELU, &[0], &[])],
-        source_outputs: vec![1, 2],
-        target_outputs: vec![target_place(0); 2],
-        nodes,
-    }
-}
-
-/// For that rule: every pair of a gain and a mean suits but for the mean's
-/// attribute. The one match has the greatest pair that there is.
-fn gains_and_means(slots: u16, found: bool) -> GraphParts {
-    let mut table = vec![variable(), variable()];
-    while table.len() < slots.into() {
-        let number = table.len() as i32;
-        let is_mean = number % 2 == 0;
-        let gain = call(GAIN, &[0], &[number, 3, 1]);
-        table.push(if is_mean { call(MEAN, &[0], &[-1]) } else { gain });
-    }
-    if found {
-        let last = usize::from(slots) - 1;
-        table[last - 1] = call(MEAN, &[0], &[3 * last as i32 + 1]);
-    }
-    GraphParts::new(table, &[slots - 1])
 }

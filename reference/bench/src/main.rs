@@ -1,34 +1,79 @@
 //! Times the proved library against the second program on the same blocks.
 //!
-//! One run prints a table. The figures are those of this machine at this
-//! moment; what can be compared from run to run is the ratio. Nothing here
-//! fails because of a figure.
+//!     benchmark [--csv FILE]
+//!
+//! One run prints a table, and writes it to the file as CSV where one is
+//! given. The figures are those of this machine at this moment; what can be
+//! compared from run to run is the ratio. Nothing here fails because of a
+//! figure.
 
 mod cases;
+mod graphs;
+mod machine;
+mod report;
 mod timing;
 
+use std::path::PathBuf;
+use std::process::exit;
+
 use cases::{checks, rewritings, searches, Case};
+use report::{print_table, write_csv, Row};
 use timing::best_of_each;
 
+/// The rounds of a row are spread over the whole run: what slows the machine
+/// down for a second does not fall on one row alone.
+const PASSES: usize = 4;
+
 fn main() {
-    println!("{:30}{:>8}{:>14}{:>14}{:>9}", "call", "slots", "proved ns", "second ns", "ratio");
-    for case in searches().iter().chain(&rewritings()).chain(&checks()) {
-        let (proved, second) = figures(case);
-        let ratio = proved / second;
-        let slots = case.slots.map_or("-".to_string(), |slots| slots.to_string());
-        println!("{:30}{slots:>8}{proved:>14.0}{second:>14.0}{ratio:>9.2}", case.name);
+    let csv = csv_file();
+    let rows = timed();
+    print_table(&rows);
+    if let Some(file) = csv {
+        if let Err(error) = write_csv(&file, &rows) {
+            eprintln!("benchmark: {}: {error}", file.display());
+            exit(1);
+        }
     }
-    println!("ratio: the proved library's time over the second program's, best of several rounds");
 }
 
-/// Nanoseconds for a call of each program, once both have given the answer
-/// that the row is about.
-fn figures(case: &Case) -> (f64, f64) {
+/// The file that the rows are to be written to, if one is given.
+fn csv_file() -> Option<PathBuf> {
+    let mut arguments = std::env::args_os().skip(1);
+    match (arguments.next(), arguments.next(), arguments.next()) {
+        (None, _, _) => None,
+        (Some(option), Some(file), None) if option == "--csv" => Some(file.into()),
+        _ => {
+            eprintln!("usage: benchmark [--csv FILE]");
+            exit(2);
+        }
+    }
+}
+
+/// All rows, each with the best of all passes.
+fn timed() -> Vec<Row> {
+    let cases: Vec<Case> = checks().into_iter().chain(searches()).chain(rewritings()).collect();
+    let mut rows: Vec<Row> = cases.iter().map(first_row).collect();
+    for pass in 1..=PASSES {
+        eprintln!("pass {pass} of {PASSES}");
+        for (case, row) in cases.iter().zip(&mut rows) {
+            let (mut one, mut other) = (vec![], vec![]);
+            let (proved, second) =
+                best_of_each(&mut || (case.proved)(&mut one), &mut || (case.second)(&mut other));
+            row.proved = row.proved.min(proved);
+            row.second = row.second.min(second);
+        }
+    }
+    rows
+}
+
+/// A row without figures, once both programs have given the answer that it is
+/// about.
+fn first_row(case: &Case) -> Row {
     let (mut one, mut other) = (vec![], vec![]);
     let (proved, second) = ((case.proved)(&mut one), (case.second)(&mut other));
     let row = format!("{}, {:?} slots", case.name, case.slots);
     assert_eq!(proved, second, "the programs differ: {row}");
     assert!(one == other, "the programs leave different tables: {row}");
     assert_eq!(second.reply, case.reply, "another reply: {row}");
-    best_of_each(&mut || (case.proved)(&mut one), &mut || (case.second)(&mut other))
+    Row { call: case.name, slots: case.slots, proved: f64::INFINITY, second: f64::INFINITY }
 }

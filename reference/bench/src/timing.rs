@@ -3,21 +3,31 @@
 
 use std::hint::black_box;
 
-/// Many short batches: on a busy machine some of them run undisturbed.
+/// Many short batches in each pass: on a busy machine some of them run
+/// undisturbed.
 const ROUNDS: usize = 60;
 /// A batch takes at least this many nanoseconds, far more than reading the
 /// clock.
 const BATCH: i64 = 300_000;
 
-/// Nanoseconds for each of the two calls, the best of all rounds.
+/// How many rounds are passed over before one counts. The clock of a virtual
+/// machine may jump, and then a round seems to take no time.
+const PASSED_OVER: usize = 5;
+
+/// Nanoseconds for each of the two calls, the best of all rounds but a few.
 pub fn best_of_each<A>(one: &mut impl FnMut() -> A, other: &mut impl FnMut() -> A) -> (f64, f64) {
     let repeats = (repeats(one), repeats(other));
-    let mut best = (f64::INFINITY, f64::INFINITY);
-    for _ in 0..ROUNDS {
-        best.0 = best.0.min(nanoseconds(one, repeats.0));
-        best.1 = best.1.min(nanoseconds(other, repeats.1));
+    let (mut first, mut second) = ([0.0; ROUNDS], [0.0; ROUNDS]);
+    for round in 0..ROUNDS {
+        first[round] = nanoseconds(one, repeats.0);
+        second[round] = nanoseconds(other, repeats.1);
     }
-    best
+    (nearly_best(first), nearly_best(second))
+}
+
+fn nearly_best(mut rounds: [f64; ROUNDS]) -> f64 {
+    rounds.sort_by(f64::total_cmp);
+    rounds[PASSED_OVER]
 }
 
 /// How many calls make a batch.

@@ -1,0 +1,76 @@
+//! The graphs and the rule that are made for the rows; the others are the
+//! second program's own examples.
+
+use leafgraph_reference::blocks::{
+    access_node, add, any_node, call, call_pattern, operation_node, relu, target_place, variable,
+    wildcard, GraphParts, RuleParts,
+};
+use leafgraph_reference::operators::{GAIN, MEAN, RELU};
+use leafgraph_reference::rule::{PLUS, TIMES};
+
+/// For RR: every slot but the first has its kind and operator, and only the
+/// last one reads another relu.
+pub fn double_relus(slots: u16, found: bool) -> GraphParts {
+    let mut table = vec![variable()];
+    table.resize(slots.into(), relu(0));
+    if found {
+        table[usize::from(slots) - 1] = relu(slots - 2);
+    }
+    GraphParts::new(table, &[slots - 1])
+}
+
+/// For P7's rule, relu(x) and add(x,y): every relu is a first image that
+/// passes, and no add goes with it, since the wildcards would share a slot.
+/// The one match has the greatest pair that there is.
+pub fn pairs(slots: u16, found: bool) -> GraphParts {
+    let mut table = vec![variable(), variable()];
+    while table.len() < slots.into() {
+        table.push(if table.len() % 2 == 0 { add(0, 0) } else { relu(0) });
+    }
+    if found {
+        let last = usize::from(slots) - 1;
+        (table[last - 1], table[last]) = (add(1, 0), relu(1));
+    }
+    GraphParts::new(table, &[slots - 1])
+}
+
+/// gain(x) with any attributes and mean(x) with the first of them times the
+/// second plus the third.
+pub fn gain_and_mean() -> RuleParts {
+    let nodes = vec![
+        any_node(),
+        access_node(1, 1),
+        access_node(1, 2),
+        operation_node(TIMES, 1, 2),
+        access_node(1, 3),
+        operation_node(PLUS, 3, 4),
+    ];
+    RuleParts {
+        source: vec![
+            wildcard(),
+            call_pattern(GAIN, &[0], &[0, 0, 0]),
+            call_pattern(MEAN, &[0], &[5]),
+        ],
+        target: vec![call_pattern(RELU, &[0], &[])],
+        source_outputs: vec![1, 2],
+        target_outputs: vec![target_place(0); 2],
+        nodes,
+    }
+}
+
+/// For that rule: every pair of a gain and a mean suits but for the mean's
+/// attribute. The one match has the greatest pair that there is.
+pub fn gains_and_means(slots: u16, found: bool) -> GraphParts {
+    let mut table = vec![variable(), variable()];
+    while table.len() < slots.into() {
+        let number = table.len() as i32;
+        let is_mean = number % 2 == 0;
+        let gain = call(GAIN, &[0], &[number, 3, 1]);
+        table.push(if is_mean { call(MEAN, &[0], &[-1]) } else { gain });
+    }
+    if found {
+        let last = usize::from(slots) - 1;
+        table[last - 1] = call(MEAN, &[0], &[3 * last as i32 + 1]);
+    }
+    GraphParts::new(table, &[slots - 1])
+}
