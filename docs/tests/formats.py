@@ -1,0 +1,77 @@
+#!/usr/bin/env python3
+"""Holds what docs/FORMATS.md shows against the library, by way of the tool.
+
+    formats.py TOOL
+
+Each block of the page must be sound and be shown as the page shows it, and the
+rewriting of E1 by RR must have the page's map and leave the page's bytes. Exit
+status 1 if one does not.
+"""
+
+import re
+import subprocess
+import sys
+import tempfile
+from pathlib import Path
+
+sys.dont_write_bytecode = True  # no __pycache__ beside the documents
+
+from extract_formats import PAGE, Fault, files_of  # noqa: E402
+
+
+def run(tool, *words):
+    """What the tool writes; it must succeed."""
+    done = subprocess.run([tool, *map(str, words)], capture_output=True, check=False)
+    if done.returncode != 0:
+        raise Fault(f"{' '.join(map(str, words))}: {done.stderr.decode().strip()}")
+    return done.stdout
+
+
+def same(what, got, expected):
+    if got != expected:
+        raise Fault(f"{what} is not what the page shows")
+    return 1
+
+
+def blocks_hold(tool, folder, files):
+    """Every block that has a text is sound, and is shown as that text."""
+    count = 0
+    for name in sorted(files):
+        if name.endswith(".txt"):
+            block = folder / (name[:-4] + ".bin")
+            run(tool, "check-rule" if name.endswith("-rule.txt") else "check", block)
+            count += same(f"what show prints of {name[:-4]}", run(tool, "show", block), files[name])
+    return count
+
+
+def rewriting_holds(tool, folder, files):
+    """RR on E1 from 0: the map, and the block that it leaves."""
+    graph, rule = folder / "e1-graph.bin", folder / "rr-rule.bin"
+    said = run(tool, "match", graph, rule).decode()
+    slots = [int(slot) for slot in re.findall(r"-> slot (\d+)", said)]
+    images = slots + [65535] * (16 - len(slots))
+    count = same("the map", b"".join(n.to_bytes(2, "little") for n in images), files["p1-map.bin"])
+    return count + same("the new graph", run(tool, "rewrite", graph, rule, "-o", "-"), files["p1-graph.bin"])
+
+
+def main(arguments):
+    if len(arguments) != 1:
+        print("usage: formats.py TOOL", file=sys.stderr)
+        return 2
+    try:
+        files = files_of(PAGE.read_text(encoding="utf-8"))
+        with tempfile.TemporaryDirectory() as name:
+            folder = Path(name)
+            for file, content in files.items():
+                (folder / file).write_bytes(content)
+            tool = str(Path(arguments[0]).resolve())
+            count = blocks_hold(tool, folder, files) + rewriting_holds(tool, folder, files)
+    except (Fault, KeyError, ValueError, IndexError) as fault:
+        print(f"{PAGE.name}: {fault}", file=sys.stderr)
+        return 1
+    print(f"formats: {count} things of {PAGE.name} are as it shows them")
+    return 0
+
+
+if __name__ == "__main__":
+    sys.exit(main(sys.argv[1:]))
