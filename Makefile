@@ -30,6 +30,7 @@ include make/package.mk
 include make/tool.mk
 include make/examples.mk
 include make/reference.mk
+include make/fuzz.mk
 
 .PHONY: help test tests-beside clean
 
@@ -41,6 +42,7 @@ help:
 	@echo 'make install           library, headers, tool and package files, below PREFIX=/usr/local'
 	@echo 'make benchmark         the speed beside the second program'"'"'s, as a table'
 	@echo 'make benchmark-report  the same, into docs/PERFORMANCE.md with its plots'
+	@echo 'make fuzz              look for a difference for SECONDS=60'
 	@echo 'make blocks            the example blocks anew from their sources'
 	@echo 'make clean             remove build/ and target/'
 
@@ -66,6 +68,7 @@ tests-beside: $(ARCHIVE)
 	$(MAKE) package-tests
 	$(MAKE) examples-tests
 	$(MAKE) tool-tests
+	$(MAKE) fuzz-replay
 	$(MAKE) comparison
 
 # Anew when a source is newer than the archive.

@@ -1,12 +1,12 @@
 //! The two checks on random blocks.
 
+use leafgraph_proved::guarded::{Guarded, SHIFTS};
 use leafgraph_reference::generate::{
     damaged_graph, damaged_rule, noise, noise_with_graph_header, noise_with_rule_header,
     sound_graph, sound_rule,
 };
 use leafgraph_reference::random::Random;
 
-use crate::lent::Lent;
 use crate::tally::{Call, Tally, CHANGED};
 
 /// One of the checks in both programs, with the blocks to try it on.
@@ -54,8 +54,8 @@ pub fn run(random: &mut Random, calls: u64) -> Vec<Tally> {
 impl Check {
     fn call(&self, random: &mut Random, tally: &mut Tally) {
         let (origin, block) = self.block(random);
-        let lent = Lent::new(random, &block);
-        let proved = (self.proved)(lent.block());
+        let lent = Guarded::new(&block, random.below(SHIFTS));
+        let proved = (self.proved)(lent.bytes());
         let faults = if lent.holds(&block) { vec![] } else { vec![CHANGED] };
         tally.record(Call {
             origin,

@@ -10,7 +10,6 @@
 mod arguments;
 mod checks;
 mod classes;
-mod lent;
 mod matching;
 mod rewriting;
 mod rewriting_classes;

@@ -1,11 +1,11 @@
 //! Finding a match, on graphs and rules that were mostly cut out of them.
 
+use leafgraph_proved::guarded::{Guarded, SHIFTS};
 use leafgraph_reference::generate::search_case;
 use leafgraph_reference::random::Random;
 
 use crate::arguments::Arguments;
 use crate::classes::{count_classes, CLASSES};
-use crate::lent::Lent;
 use crate::tally::{Call, Tally, CHANGED};
 
 pub fn run(random: &mut Random, calls: u64) -> Vec<Tally> {
@@ -19,11 +19,11 @@ pub fn run(random: &mut Random, calls: u64) -> Vec<Tally> {
 
 impl Arguments {
     fn find(&self, random: &mut Random, tally: &mut Tally) {
-        let graph = Lent::new(random, &self.graph);
-        let rule = Lent::new(random, &self.rule);
-        let mut map = Lent::new(random, &self.map);
+        let graph = Guarded::new(&self.graph, random.below(SHIFTS));
+        let rule = Guarded::new(&self.rule, random.below(SHIFTS));
+        let mut map = Guarded::new(&self.map, random.below(SHIFTS));
         let proved =
-            leafgraph_proved::find_match(graph.block(), rule.block(), self.start, map.block_mut());
+            leafgraph_proved::find_match(graph.bytes(), rule.bytes(), self.start, map.lend());
         let mut expected = self.map.clone();
         let reference =
             leafgraph_reference::find_match(&self.graph, &self.rule, self.start, &mut expected);
@@ -39,7 +39,7 @@ impl Arguments {
                 ("graph", &self.graph),
                 ("rule", &self.rule),
                 ("map before", &self.map),
-                ("map after, proved", map.block()),
+                ("map after, proved", map.bytes()),
                 ("map after, reference", &expected),
             ],
         });

@@ -1,6 +1,7 @@
 //! Rewriting, on matches that were cut out of graphs or put into them, and on
 //! one graph again and again.
 
+use leafgraph_proved::guarded::{Guarded, SHIFTS};
 use leafgraph_reference::generate::rewriting_case;
 use leafgraph_reference::graph::Graph;
 use leafgraph_reference::matching::Images;
@@ -10,7 +11,6 @@ use leafgraph_reference::results::{Accepted, Verdict};
 use leafgraph_reference::rule::Rule;
 
 use crate::arguments::Arguments;
-use crate::lent::Lent;
 use crate::rewriting_classes::{count_classes, CLASSES};
 use crate::sequences;
 use crate::tally::{Call, Tally, CHANGED};
@@ -56,11 +56,10 @@ pub fn run(random: &mut Random, calls: u64) -> Vec<Tally> {
 impl Arguments {
     /// Calls both programs and records what is not as it should be.
     pub fn rewrite(&self, random: &mut Random, tally: &mut Tally) -> Outcome {
-        let mut graph = Lent::new(random, &self.graph);
-        let rule = Lent::new(random, &self.rule);
-        let mut map = Lent::new(random, &self.map);
-        let proved =
-            leafgraph_proved::rewrite(graph.block_mut(), rule.block(), self.start, map.block_mut());
+        let mut graph = Guarded::new(&self.graph, random.below(SHIFTS));
+        let rule = Guarded::new(&self.rule, random.below(SHIFTS));
+        let mut map = Guarded::new(&self.map, random.below(SHIFTS));
+        let proved = leafgraph_proved::rewrite(graph.lend(), rule.bytes(), self.start, map.lend());
         let outcome = self.outcome(random);
         let mut faults = outcome.faults();
         if !(graph.holds(&outcome.graph) && rule.holds(&self.rule) && map.holds(&outcome.map)) {
@@ -76,9 +75,9 @@ impl Arguments {
                 ("graph before", &self.graph),
                 ("rule", &self.rule),
                 ("map before", &self.map),
-                ("graph after, proved", graph.block()),
+                ("graph after, proved", graph.bytes()),
                 ("graph after, reference", &outcome.graph),
-                ("map after, proved", map.block()),
+                ("map after, proved", map.bytes()),
                 ("map after, reference", &outcome.map),
             ],
         });

@@ -1,6 +1,8 @@
 //! The proved library, through its C entry points. These declarations must be
 //! those of include/leafgraph.h.
 
+pub mod guarded;
+
 extern "C" {
     fn lg_check_graph(graph: *const u8, graph_len: usize) -> u64;
     fn lg_check_rule(rule: *const u8, rule_len: usize) -> u64;

@@ -1,0 +1,295 @@
+//! Writes the inputs that fuzzing starts from into a folder, as files whose
+//! names begin with `seed-`: document 01's examples and small random cases of
+//! every reply. The same files each time.
+//!
+//!     fuzz_seeds FOLDER [CASES]
+//!
+//! CASES of each reply and of each other sort, for libFuzzer to choose from; a
+//! few without it.
+
+use std::collections::BTreeMap;
+use std::env;
+use std::fs;
+use std::io;
+use std::path::Path;
+use std::process::ExitCode;
+
+use leafgraph_fuzz::input::{
+    Control, CUT_AT_MARK, GRAPH_LENGTH, GRAPH_RECORDS, LOWER_INPUTS, MAP, RULE_LENGTH,
+    RULE_RECORDS, START,
+};
+use leafgraph_reference::blocks::{
+    add, call, call_pattern, chain, constant, constant_node, e1, operation_node, p10_graph,
+    p10_rule, p7_graph, p7_rule, p8_graph, pattern, relu, reversed_chain, rr, target_place,
+    variable, wildcard, GraphParts, PatternParts, RuleParts,
+};
+use leafgraph_reference::generate::{
+    damaged_graph_of, damaged_rule_of, noise, rewriting_case, search_case, sequence, Case,
+};
+use leafgraph_reference::graph;
+use leafgraph_reference::operators::{ADD, CONST, MEAN, RELU, TUPLE};
+use leafgraph_reference::random::Random;
+use leafgraph_reference::rule::{Rule, DIVIDE, REMAINDER};
+use leafgraph_reference::{rewrite, MAP_LENGTH};
+
+/// What the corpus is drawn from.
+const SEED: u64 = 20;
+/// The longest random case that is kept: small inputs are mutated better.
+const LONGEST: usize = 900;
+/// So many cases of each reply to a rewriting, and of each other sort.
+const CASES: usize = 6;
+/// Cut and lengths are repaired, but no record: cases as they were made, ready
+/// for mutations.
+const LENGTHS: u8 = CUT_AT_MARK | MAP | GRAPH_LENGTH | RULE_LENGTH;
+/// Records are repaired, too. Their slots may stand in any order.
+const RECORDS: u8 = GRAPH_RECORDS | RULE_RECORDS;
+
+fn main() -> ExitCode {
+    let words: Vec<String> = env::args().skip(1).collect();
+    let (folder, cases) = match words.as_slice() {
+        [folder] => (folder, Ok(CASES)),
+        [folder, cases] => (folder, cases.parse()),
+        _ => (&String::new(), "".parse()),
+    };
+    let Ok(cases) = cases else {
+        eprintln!("usage: fuzz_seeds FOLDER [CASES]");
+        return ExitCode::from(2);
+    };
+    let mut seeds = Seeds { random: Random::new(SEED), files: BTreeMap::new() };
+    seeds.add_paper_examples();
+    seeds.add_sizes();
+    seeds.add_rewritings(cases);
+    seeds.add_redirected_inputs(cases);
+    seeds.add_others(cases);
+    match seeds.write(Path::new(folder)) {
+        Ok(()) => ExitCode::SUCCESS,
+        Err(error) => {
+            eprintln!("{folder}: {error}");
+            ExitCode::FAILURE
+        }
+    }
+}
+
+struct Seeds {
+    random: Random,
+    /// Inputs by the names of their files.
+    files: BTreeMap<String, Vec<u8>>,
+}
+
+impl Seeds {
+    fn add(&mut self, name: &str, control: Control, graph: &[u8], rule: &[u8]) {
+        let name = format!("seed-{:03}-{name}", self.files.len());
+        self.files.insert(name, control.input_bytes(graph, rule));
+    }
+
+    /// With these repairs, a map of the right length and a few further steps.
+    fn control(&mut self, repairs: u8, start: usize) -> Control {
+        Control {
+            repairs,
+            map_length: MAP_LENGTH as u8,
+            map_byte: self.random.byte(),
+            steps_and_shifts: self.random.byte(),
+            start: start as u64,
+        }
+    }
+
+    fn add_paper_examples(&mut self) {
+        for (name, graph, rule, start) in paper_examples() {
+            let control = self.control(LENGTHS | RECORDS, start);
+            self.add(name, control, &graph.block(), &rule.block());
+        }
+    }
+
+    /// "N of 0, 1, 512, 513; one byte short or long"; no map, a map too short
+    /// and one too long; nothing at all.
+    fn add_sizes(&mut self) {
+        let rule = rr().block();
+        for (name, graph) in [
+            ("n-0", chain(0)),
+            ("n-1", chain(1)),
+            ("n-512", chain(512)),
+            ("n-512-reversed", reversed_chain(512)),
+            ("n-513", chain(513)),
+        ] {
+            let control = self.control(MAP, 0);
+            self.add(name, control, &graph.block(), &rule);
+        }
+        let graph = e1().block();
+        let long = |block: &[u8]| [block, &[0]].concat();
+        let control = self.control(0, 0);
+        self.add("graph-short", control, &graph[..graph.len() - 1], &rule);
+        self.add("graph-long", control, &long(&graph), &rule);
+        self.add("rule-short", control, &graph, &rule[..rule.len() - 1]);
+        self.add("rule-long", control, &graph, &long(&rule));
+        self.add("no-blocks", control, &[], &[]);
+        for map_length in [0, 31, 33, 255] {
+            self.add("map-length", Control { map_length, ..control }, &graph, &rule);
+        }
+    }
+
+    /// Some of each reply, two of three open to the repair of records.
+    fn add_rewritings(&mut self, cases: usize) {
+        let mut counts = [0; 8];
+        while [0, 4, 5, 6, 7].iter().any(|&reply| counts[reply] < cases) {
+            let (_, case) = rewriting_case(&mut self.random);
+            let (graph, rule) = (case.graph.block(), case.rule.block());
+            let reply =
+                rewrite(&mut graph.clone(), &rule, case.start, &mut [0; MAP_LENGTH]) as usize;
+            if graph.len() + rule.len() > LONGEST || counts[reply] == cases {
+                continue;
+            }
+            counts[reply] += 1;
+            let repairs = if counts[reply] % 3 == 0 { LENGTHS } else { LENGTHS | RECORDS };
+            let control = self.control(repairs, case.start);
+            self.add(&format!("reply-{reply}"), control, &graph, &rule);
+        }
+    }
+
+    /// Accepted rewritings after which a rule input reads something else: rare,
+    /// and easily forgotten ("rule inputs too").
+    fn add_redirected_inputs(&mut self, cases: usize) {
+        let mut left = cases;
+        while left > 0 {
+            let (_, case) = rewriting_case(&mut self.random);
+            let (graph, rule) = (case.graph.block(), case.rule.block());
+            if graph.len() + rule.len() > LONGEST || !redirects_input(&graph, &rule, case.start) {
+                continue;
+            }
+            left -= 1;
+            let control = self.control(LENGTHS | RECORDS, case.start);
+            self.add("redirected-input", control, &graph, &rule);
+        }
+    }
+
+    fn add_others(&mut self, cases: usize) {
+        let mut left = cases;
+        while left > 0 {
+            let (_, Case { graph, rule, start }) = search_case(&mut self.random);
+            let sequence = sequence(&mut self.random);
+            let blocks = [graph.block(), rule.block(), sequence.graph.block()];
+            if blocks.iter().map(Vec::len).sum::<usize>() > 2 * LONGEST {
+                continue;
+            }
+            left -= 1;
+            let [graph_block, rule_block, sequence_block] = blocks;
+            let control = self.control(LENGTHS | RECORDS | START, start);
+            self.add("search", control, &graph_block, &rule_block);
+            let control = self.control(LENGTHS | RECORDS, 0);
+            self.add("sequence", control, &sequence_block, &sequence.rules[0].block());
+            let control = self.control(MAP, start);
+            let damaged = damaged_graph_of(&mut self.random, graph);
+            self.add("damaged-graph", control, &damaged, &rule_block);
+            let damaged = damaged_rule_of(&mut self.random, rule);
+            self.add("damaged-rule", control, &graph_block, &damaged);
+            let noises = [noise(&mut self.random), noise(&mut self.random)];
+            let [graph, rule] = noises.map(|bytes| bytes[..bytes.len().min(LONGEST)].to_vec());
+            let repairs = LENGTHS | RECORDS | LOWER_INPUTS;
+            self.add("noise", Control { repairs, ..control }, &graph, &rule);
+        }
+    }
+
+    /// Takes away the seeds of an earlier run; other inputs stay.
+    fn write(&self, folder: &Path) -> io::Result<()> {
+        fs::create_dir_all(folder)?;
+        for entry in fs::read_dir(folder)? {
+            let entry = entry?;
+            if entry.file_name().to_string_lossy().starts_with("seed-") {
+                fs::remove_file(entry.path())?;
+            }
+        }
+        for (name, bytes) in &self.files {
+            fs::write(folder.join(name), bytes)?;
+        }
+        let bytes: usize = self.files.values().map(Vec::len).sum();
+        println!("{}: {} seeds, {bytes} bytes", folder.display(), self.files.len());
+        Ok(())
+    }
+}
+
+fn redirects_input(graph: &[u8], rule: &[u8], start: usize) -> bool {
+    let (mut after, mut map) = (graph.to_vec(), [0; MAP_LENGTH]);
+    if rewrite(&mut after, rule, start, &mut map) != 0 {
+        return false;
+    }
+    let rule = Rule::parse(rule).expect("it was accepted");
+    let mut images = rule.sources().zip(map.chunks_exact(2));
+    images.any(|(pattern, image)| {
+        let slot = usize::from(u16::from_le_bytes([image[0], image[1]]));
+        let record =
+            graph::HEADER + graph::RECORD * slot..graph::HEADER + graph::RECORD * (slot + 1);
+        pattern.is_input_kind() && graph[record.clone()] != after[record]
+    })
+}
+
+type Example = (&'static str, GraphParts, RuleParts, usize);
+
+/// P1 to P10, and the run-only ones that have a graph to match in.
+fn paper_examples() -> Vec<Example> {
+    let e1_with = |outputs: &[u16]| GraphParts { outputs: outputs.to_vec(), ..e1() };
+    let mut e1_of_five = e1();
+    e1_of_five.slots.pop();
+    let doubled = GraphParts::new(vec![variable(), add(0, 0)], &[1]);
+    let gains = |number| p10_graph([number, 1, 1], [number, 1, 1]);
+    let self_reading = GraphParts::new(vec![variable(), relu(1)], &[0]);
+    vec![
+        ("p1", e1(), rr(), 0),
+        ("p2-from-5", e1(), rr(), 5),
+        ("p2-from-4", e1(), rr(), 4),
+        ("p3", e1_with(&[4, 3]), rr(), 0),
+        ("p4", e1_of_five, rr(), 0),
+        ("p5-two", doubled.clone(), tuple_of_inputs(vec![wildcard(), wildcard(), sum(0, 1)]), 0),
+        ("p5-one", doubled, tuple_of_inputs(vec![wildcard(), sum(0, 0)]), 0),
+        ("p6", p6_graph(), p6_rule(), 0),
+        ("p7", p7_graph(), p7_rule(), 0),
+        ("p8", p8_graph(), p7_rule(), 0),
+        ("p9-quotient", constant_graph(-4), operation_rule(DIVIDE, -7, 2), 0),
+        ("p9-remainder", constant_graph(-1), operation_rule(REMAINDER, 7, -2), 0),
+        ("p9-none", constant_graph(0), operation_rule(DIVIDE, i32::MIN, -1), 0),
+        ("p10", gains(65536), p10_rule(), 0),
+        ("p10-done", gains(256), p10_rule(), 0),
+        ("self-reading", self_reading, rr(), 0),
+        ("start-65535", e1(), rr(), 65535),
+        ("start-highest", e1(), rr(), usize::MAX),
+    ]
+}
+
+fn sum(left: u8, right: u8) -> PatternParts {
+    call_pattern(ADD, &[left, right], &[])
+}
+
+/// The last source vertex becomes a Tuple of the rule's inputs.
+fn tuple_of_inputs(source: Vec<PatternParts>) -> RuleParts {
+    let vertices = 0..source.len() as u8;
+    let inputs: Vec<u8> = vertices.filter(|&at| source[usize::from(at)].kind == 0).collect();
+    RuleParts {
+        source_outputs: vec![source.len() as u8 - 1],
+        source,
+        target: vec![pattern(TUPLE, 0, &inputs, &[])],
+        target_outputs: vec![target_place(0)],
+        nodes: vec![],
+    }
+}
+
+fn p6_graph() -> GraphParts {
+    let mean = call(MEAN, &[1], &[0]);
+    GraphParts::new(vec![variable(), relu(0), mean, add(1, 2)], &[3])
+}
+
+fn p6_rule() -> RuleParts {
+    tuple_of_inputs(vec![wildcard(), call_pattern(RELU, &[0], &[]), wildcard(), sum(1, 2)])
+}
+
+fn constant_graph(number: i32) -> GraphParts {
+    GraphParts::new(vec![constant(number), relu(0)], &[1])
+}
+
+/// relu of the constant that this operation gives.
+fn operation_rule(form: u8, left: i32, right: i32) -> RuleParts {
+    RuleParts {
+        source: vec![pattern(CONST, 0, &[], &[2]), call_pattern(RELU, &[0], &[])],
+        target: vec![pattern(CONST, 0, &[], &[0])],
+        source_outputs: vec![1],
+        target_outputs: vec![target_place(0)],
+        nodes: vec![constant_node(left), constant_node(right), operation_node(form, 0, 1)],
+    }
+}

@@ -1,0 +1,159 @@
+//! How the bytes of a fuzz input are cut into the arguments of a call.
+//!
+//! | Bytes | What |
+//! |---|---|
+//! | 0 | repairs, a bit each |
+//! | 1 | map length |
+//! | 2 | the map's first byte before the call; each further one is one more |
+//! | 3 | bits 0-1 further rewritings after an accepted one; bits 2-4 and 5-7 by how many bytes graph and rule are shifted in memory |
+//! | 4-11 | start, little-endian |
+//! | 12-13 | graph length, little-endian; at most all that follow |
+//! | 14- | the graph block, then the rule block up to the end |
+//!
+//! Bytes 0 to 13 that are missing count as 0. No field names an operation: all
+//! four are called with each input.
+//!
+//! With all bits of byte 0 off any bytes whatever reach the library. A block
+//! that has been mutated would mostly fail at its lengths, though, and never
+//! get further; so each bit repairs one thing that byte mutations break:
+//!
+//! | Bit | Repair |
+//! |---|---|
+//! | 0 | the rule begins at the first mark `LGR`, whatever the graph length says: bytes may be put in or taken out of either block |
+//! | 1 | the map is 32 bytes long |
+//! | 2 | the start is taken modulo 600, a little more than the most slots |
+//! | 3 | the graph's length: N by the bytes there are, no part of a record |
+//! | 4 | the graph's outputs and records: counts by kind and operator, unused places, inputs and outputs below N; a named Empty slot becomes a Variable |
+//! | 5 | inputs name lower slots, so that there is no cycle (with bit 4 only) |
+//! | 6 | the rule's length: S and T within the bytes, A by the bytes that remain |
+//! | 7 | the rule's outputs, records and nodes: counts, unused places, lower vertices and nodes |
+//!
+//! What is right already stays as it is, so a sound block passes unchanged. The
+//! headers' marks, versions and zero bytes are never repaired.
+
+use leafgraph_reference::random::mixed;
+use leafgraph_reference::MAP_LENGTH;
+
+use crate::repair;
+
+pub const CUT_AT_MARK: u8 = 1;
+pub const MAP: u8 = 1 << 1;
+pub const START: u8 = 1 << 2;
+pub const GRAPH_LENGTH: u8 = 1 << 3;
+pub const GRAPH_RECORDS: u8 = 1 << 4;
+pub const LOWER_INPUTS: u8 = 1 << 5;
+pub const RULE_LENGTH: u8 = 1 << 6;
+pub const RULE_RECORDS: u8 = 1 << 7;
+
+/// The bytes before the blocks.
+const CONTROL: usize = 14;
+const RULE_MARK: &[u8] = b"LGR";
+const STARTS: u64 = 600;
+
+/// What the first bytes of an input say.
+#[derive(Clone, Copy, Debug, Default)]
+pub struct Control {
+    pub repairs: u8,
+    pub map_length: u8,
+    pub map_byte: u8,
+    pub steps_and_shifts: u8,
+    pub start: u64,
+}
+
+/// The arguments of the calls.
+#[derive(Clone, Debug)]
+pub struct Input {
+    pub graph: Vec<u8>,
+    pub rule: Vec<u8>,
+    pub start: usize,
+    pub map: Vec<u8>,
+    /// How many rewritings may follow an accepted one.
+    pub further: usize,
+    /// By how many bytes graph, rule and map are shifted in memory.
+    pub shifts: [usize; 3],
+    /// Draws the meanings under which demand 3 is judged: the same input must
+    /// always be judged alike.
+    pub seed: u64,
+}
+
+impl Control {
+    /// An input of these blocks. The graph length has 16 bits, so of a longer
+    /// graph the rest would be cut to the rule.
+    pub fn input_bytes(&self, graph: &[u8], rule: &[u8]) -> Vec<u8> {
+        let mut bytes = vec![self.repairs, self.map_length, self.map_byte, self.steps_and_shifts];
+        bytes.extend(self.start.to_le_bytes());
+        bytes.extend((graph.len() as u16).to_le_bytes());
+        bytes.extend(graph);
+        bytes.extend(rule);
+        bytes
+    }
+
+    fn repairs(&self, what: u8) -> bool {
+        self.repairs & what != 0
+    }
+
+    /// Where the graph ends and the rule begins.
+    fn cut(&self, blocks: &[u8], graph_length: u16) -> usize {
+        let mark = match self.repairs(CUT_AT_MARK) {
+            true => blocks.windows(RULE_MARK.len()).position(|bytes| bytes == RULE_MARK),
+            false => None,
+        };
+        mark.unwrap_or(usize::from(graph_length).min(blocks.len()))
+    }
+
+    fn repair_blocks(&self, graph: &mut Vec<u8>, rule: &mut Vec<u8>) {
+        if self.repairs(GRAPH_LENGTH) {
+            repair::graph_length(graph);
+        }
+        if self.repairs(GRAPH_RECORDS) {
+            repair::graph_records(graph, self.repairs(LOWER_INPUTS));
+        }
+        if self.repairs(RULE_LENGTH) {
+            repair::rule_length(rule);
+        }
+        if self.repairs(RULE_RECORDS) {
+            repair::rule_records(rule);
+        }
+    }
+
+    fn map(&self) -> Vec<u8> {
+        let length = match self.repairs(MAP) {
+            true => MAP_LENGTH,
+            false => self.map_length.into(),
+        };
+        (0..length).map(|at| self.map_byte.wrapping_add(at as u8)).collect()
+    }
+
+    fn start(&self) -> usize {
+        match self.repairs(START) {
+            true => (self.start % STARTS) as usize,
+            false => self.start as usize,
+        }
+    }
+}
+
+impl Input {
+    pub fn cut(bytes: &[u8]) -> Input {
+        let mut head = [0; CONTROL];
+        let (known, blocks) = bytes.split_at(bytes.len().min(CONTROL));
+        head[..known.len()].copy_from_slice(known);
+        let [repairs, map_length, map_byte, steps_and_shifts, rest @ ..] = head;
+        let (start, graph_length) = rest.split_at(8);
+        let start = u64::from_le_bytes(start.try_into().expect("eight bytes"));
+        let graph_length = u16::from_le_bytes(graph_length.try_into().expect("two bytes"));
+        let control = Control { repairs, map_length, map_byte, steps_and_shifts, start };
+        let (graph, rule) = blocks.split_at(control.cut(blocks, graph_length));
+        let (mut graph, mut rule) = (graph.to_vec(), rule.to_vec());
+        control.repair_blocks(&mut graph, &mut rule);
+        let bits = usize::from(steps_and_shifts);
+        Input {
+            graph,
+            rule,
+            start: control.start(),
+            map: control.map(),
+            further: bits & 3,
+            shifts: [bits >> 2 & 7, bits >> 5 & 7, map_byte.into()],
+            seed: mixed(u64::from_le_bytes(head[..8].try_into().expect("eight bytes"))),
+        }
+    }
+}

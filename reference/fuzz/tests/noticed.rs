@@ -1,0 +1,105 @@
+//! The comparison notices wrong programs: each one here is the proved library
+//! with one thing spoilt.
+
+use leafgraph_fuzz::comparison::compare;
+use leafgraph_fuzz::input::{Control, Input, MAP};
+use leafgraph_fuzz::library::{Library, Operation, PROVED, SECOND};
+use leafgraph_fuzz::repair;
+use leafgraph_fuzz::tally::Tally;
+use leafgraph_reference::blocks::{e1, rr};
+use leafgraph_reference::generate::{sound_graph, sound_rule};
+use leafgraph_reference::random::Random;
+
+/// RR on E1, from this start.
+fn p1(start: u64) -> Vec<u8> {
+    let control = Control { repairs: MAP, start, ..Control::default() };
+    control.input_bytes(&e1().block(), &rr().block())
+}
+
+/// The operation in which the difference is seen and the first thing said.
+fn difference(library: &Library, bytes: &[u8]) -> (Operation, String) {
+    let difference = compare(library, bytes, &mut Tally::new()).expect_err("a wrong program");
+    (difference.operation, difference.faults[0].clone())
+}
+
+#[test]
+fn right_programs_pass() {
+    for library in [PROVED, SECOND] {
+        let mut tally = Tally::new();
+        for start in 0..7 {
+            compare(&library, &p1(start), &mut tally).expect("no difference");
+        }
+        assert_eq!(tally.calls(), 28);
+    }
+}
+
+#[test]
+fn another_reply_is_noticed_in_any_bit() {
+    let check_rule = |rule: &[u8]| (PROVED.check_rule)(rule) | 1 << 63;
+    let (operation, fault) = difference(&Library { check_rule, ..PROVED }, &p1(0));
+    assert_eq!(operation, Operation::CheckRule);
+    assert_eq!(fault, "the library replies 0x8000000000000000, the second program 0x0");
+}
+
+#[test]
+fn another_map_is_noticed() {
+    let find_match = |graph: &[u8], rule: &[u8], start: usize, map: &mut [u8]| {
+        let reply = (PROVED.find_match)(graph, rule, start, map);
+        map[31] = 0;
+        reply
+    };
+    let (operation, fault) = difference(&Library { find_match, ..PROVED }, &p1(0));
+    assert_eq!(operation, Operation::FindMatch);
+    assert!(fault.starts_with("map after, 1 bytes differ, the first at 31"), "{fault}");
+}
+
+#[test]
+fn another_graph_is_noticed() {
+    let rewrite = |graph: &mut [u8], rule: &[u8], start: usize, map: &mut [u8]| {
+        let reply = (PROVED.rewrite)(graph, rule, start, map);
+        graph[100] ^= 4;
+        reply
+    };
+    let library = Library { rewrite, ..PROVED };
+    let (operation, fault) = difference(&library, &p1(0));
+    assert_eq!(operation, Operation::Rewrite);
+    assert!(fault.starts_with("graph after, 1 bytes differ, the first at 100"), "{fault}");
+    let told = compare(&library, &p1(5), &mut Tally::new()).expect_err("a wrong program");
+    assert!(told.to_string().contains("refuses, and has written the graph"), "{told}");
+}
+
+#[test]
+fn sound_blocks_need_no_repair() {
+    let mut random = Random::new(1);
+    for _ in 0..2000 {
+        let (graph, rule) = (sound_graph(&mut random).block(), sound_rule(&mut random).block());
+        let (mut graph_after, mut rule_after) = (graph.clone(), rule.clone());
+        repair::graph_length(&mut graph_after);
+        repair::graph_records(&mut graph_after, false);
+        repair::rule_length(&mut rule_after);
+        repair::rule_records(&mut rule_after);
+        assert!(graph_after == graph && rule_after == rule);
+    }
+}
+
+#[test]
+fn any_bytes_are_cut() {
+    let mut random = Random::new(2);
+    for _ in 0..20000 {
+        let length = random.below(400);
+        let bytes = random.bytes(length);
+        let input = Input::cut(&bytes);
+        assert!(input.map.len() < 256 && input.further < 4);
+    }
+}
+
+#[test]
+fn without_repairs_the_blocks_arrive_as_they_are() {
+    let control = Control { map_length: 7, start: u64::MAX, ..Control::default() };
+    let input = Input::cut(&control.input_bytes(b"any graph", b"any rule"));
+    assert_eq!(
+        (input.graph.as_slice(), input.rule.as_slice()),
+        (&b"any graph"[..], &b"any rule"[..])
+    );
+    assert_eq!((input.map.len(), input.start), (7, usize::MAX));
+}
