@@ -31,6 +31,7 @@ include make/tool.mk
 include make/examples.mk
 include make/reference.mk
 include make/fuzz.mk
+include make/docs.mk
 
 .PHONY: help test tests-beside clean
 
@@ -68,6 +69,7 @@ tests-beside: $(ARCHIVE)
 	$(MAKE) package-tests
 	$(MAKE) examples-tests
 	$(MAKE) tool-tests
+	$(MAKE) docs-tests
 	$(MAKE) fuzz-replay
 	$(MAKE) comparison
 

@@ -1,0 +1,47 @@
+#!/usr/bin/env python3
+"""Writes the C++ example of README.md as a program that runs it.
+
+    readme_example.py OUT.cpp
+
+The program takes a graph and a rule file; it fails if the example does not
+rewrite the one by the other until no match is left.
+"""
+
+import re
+import sys
+
+AROUND = """
+#include <fstream>
+#include <iterator>
+
+static std::vector<unsigned char> bytes_of(const char *name) {
+    std::ifstream file(name, std::ios::binary);
+    return std::vector<unsigned char>(std::istreambuf_iterator<char>(file), {});
+}
+
+int main(int count, char **names) {
+    if (count != 3) return 2;
+    std::vector<unsigned char> graph = bytes_of(names[1]);
+    const std::vector<unsigned char> before = graph, rule = bytes_of(names[2]);
+    if (!shorten(graph, rule) || graph == before || !leafgraph::check_graph(graph)) return 1;
+    std::vector<unsigned char> bad = {1, 2, 3};
+    if (shorten(bad, rule)) return 1;
+    std::printf("the example of README.md: as expected\\n");
+    return 0;
+}
+"""
+
+
+def main():
+    if len(sys.argv) != 2:
+        sys.exit(__doc__)
+    with open("README.md", encoding="utf-8") as file:
+        examples = re.findall(r"^```cpp\n(.*?)^```$", file.read(), re.MULTILINE | re.DOTALL)
+    if len(examples) != 1:
+        sys.exit(f"README.md has {len(examples)} examples in C++, not one")
+    with open(sys.argv[1], "w", encoding="utf-8") as file:
+        file.write(examples[0] + AROUND)
+
+
+if __name__ == "__main__":
+    main()
