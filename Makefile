@@ -55,6 +55,7 @@ test:
 	$(MAKE) reference-tests
 	mkdir -p build
 	time { $(RT) ci 2>&1 | tee $(RT_LOG); }
+	$(PYTHON) make/must_fail_reasons.py target
 	$(RT) staticlib leafgraph
 	$(MAKE) tests-beside
 	@# Last, the toolchain's own verdict again; with a failure it is one.
@@ -73,9 +74,12 @@ tests-beside: $(ARCHIVE)
 	$(MAKE) fuzz-replay
 	$(MAKE) comparison
 
-# Anew when a source is newer than the archive.
-$(ARCHIVE): $(shell find crates crates.txt -type f 2>/dev/null)
-	$(RT) staticlib leafgraph
+# Anew when a source is newer than the archive. Every crate below it is proved
+# first, which takes minutes; the screen gets a line for each.
+$(ARCHIVE): $(shell find crates crates.txt -type f 2>/dev/null) | build
+	@echo 'proving and compiling the library; the whole log is build/staticlib.log'
+	@$(RT) staticlib leafgraph 2>&1 | tee build/staticlib.log | grep '^rt: ' \
+		|| { cat build/staticlib.log; exit 1; }
 
 build:
 	mkdir -p $@

@@ -15,6 +15,7 @@ use Rattle.definitions.specs.Rule.{sourceCount, Rule, ruleOf, SoundRule}
 use Rattle.definitions.specs.Match.{readAttribute, Match}
 use Rattle.definitions.specs.Rewriting.{targetResults, stays, hasRoom, newGraph}
 use Rattle.definitions.specs.Results.{Meaning}
+use Rattle.definitions.specs.Operations.{Rewrote}
 use Rattle.laws.proofs.Members.{holds, true-holds}
 use Rattle.theory.proofs.Results.{Layout, results-unique, results-exist}
 use Rattle.encoding.specs.Tables.{Table, Words}
@@ -26,7 +27,7 @@ use Rattle.shapes.proofs.Sound.{new-table, new-table-words}
 use Rattle.answers.specs.Written.{imagesIn}
 use Rattle.answers.specs.Rewritten.{Keeps}
 use Rattle.answers.proofs.Maps.{least-is}
-use Rattle.answers.proofs.Rewriting.{Rewrote, free-acyclic, good, done-leaves, told}
+use Rattle.answers.proofs.Rewriting.{free-acyclic, good, done-leaves, told}
 
 -- ---- a rewriting at one match of sound blocks, with room and with no cycle
 

@@ -13,7 +13,7 @@ use Rattle.definitions.specs.Reply.{badMapLength, badGraph, badRule, noMatch, r
 use Rattle.definitions.specs.Graph.{unusedPlace, Graph, graphOf, SoundGraph}
 use Rattle.definitions.specs.Rule.{sideLimit, sourceCount, Rule, ruleOf, SoundRule}
 use Rattle.definitions.specs.Match.{MatchFrom, leastMatch}
-use Rattle.definitions.specs.Operations.{outcome, atReturn, returned, mapBytes, mapBlock, matched, findMatch}
+use Rattle.definitions.specs.Operations.{outcome, mapBytes, mapBlock, matched, findMatch, Answered}
 use Rattle.laws.proofs.Lists.{option-either}
 use Rattle.laws.proofs.Reply.{packed-refused}
 use Rattle.theory.proofs.Fixing.{sound-fixing}
@@ -23,12 +23,6 @@ use Rattle.answers.specs.Written.{imagesIn}
 use Rattle.answers.proofs.Maps.{least-told, least-rest, least-bytes}
 use Rattle.answers.proofs.Blocks as Blocks
 use Rattle.answers.proofs.Blocks.{Staged, Good}
-
--- The contract of lg_find_match: reply, graph bytes and map bytes at the return are those of the definition. `graph`, `rule` and
--- `before` are the lent bytes as they came, the last those of the map.
-abbrev pub Answered : List ℕ → List ℕ → ℕ → List ℕ → ℕ → List ℕ → List ℕ → Type 0
-Answered graph rule start before reply graphAfter after =
-    atReturn reply graphAfter after ≡ returned (findMatch graph rule start before)
 
 module _ (graph rule : List ℕ) (start : ℕ) (before : List ℕ) where
   -- the graph and the rule for which the lent blocks stand

@@ -18,7 +18,7 @@ use Rattle.definitions.specs.Graph.{unusedPlace, Graph, graphOf, inputsOf, grap
 use Rattle.definitions.specs.Rule.{sideLimit, sourceCount, Rule, ruleOf, SoundRule}
 use Rattle.definitions.specs.Match.{readAttribute, Match, leastMatch}
 use Rattle.definitions.specs.Rewriting.{targetResults, hasRoom, newGraph}
-use Rattle.definitions.specs.Operations.{Outcome, outcome, atReturn, returned, mapBytes, mapBlock, accepted, turnedDown, rewritten, replaced, rewrite}
+use Rattle.definitions.specs.Operations.{Outcome, outcome, mapBytes, mapBlock, accepted, turnedDown, rewritten, replaced, rewrite, Rewrote}
 use Rattle.laws.proofs.Lists.{decided, true-not-false, option-either}
 use Rattle.laws.proofs.Reply.{packed-refused}
 use Rattle.laws.proofs.Rewriting.{rewritten-unfit, rewritten-full, rewritten-cyclic, rewritten-done}
@@ -36,12 +36,6 @@ use Rattle.answers.proofs.Blocks.{Staged, Good}
 use Rattle.answers.proofs.Fit.{none-unfit, some-fit}
 use Rattle.answers.proofs.Room.{room-enough, room-short}
 use Rattle.answers.proofs.Exclusive.{due-one}
-
--- The contract of lg_rewrite: reply, graph bytes and map bytes at the return are those of the definition. `graph`, `rule` and
--- `before` are the lent bytes as they came, the last those of the map.
-abbrev pub Rewrote : List ℕ → List ℕ → ℕ → List ℕ → ℕ → List ℕ → List ℕ → Type 0
-Rewrote graph rule start before reply graphAfter after =
-    atReturn reply graphAfter after ≡ returned (rewrite graph rule start before)
 
 -- ---- reply 7: the test for a cycle is right about the new table
 

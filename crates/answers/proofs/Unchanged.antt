@@ -12,6 +12,7 @@ use Rattle.definitions.specs.Fields.{Bytes, byteAt}
 use Rattle.definitions.specs.Graph.{slotBytes, recordAt, Slot, Graph, graphOf, slotOf, inputsOf, slotBlock}
 use Rattle.definitions.specs.Rule.{sourceCount, Rule, ruleOf}
 use Rattle.definitions.specs.Rewriting.{stays, redirect, stayingSlot, newGraph}
+use Rattle.definitions.specs.Operations.{Rewrote}
 use Rattle.laws.proofs.Lists.{map-same}
 use Rattle.laws.proofs.Members.{holds}
 use Rattle.laws.proofs.Rewriting.{new-length}
@@ -19,7 +20,6 @@ use Rattle.encoding.proofs.Blocks.{record-held}
 use Rattle.encoding.proofs.Graphs.{table-of, canonical}
 use Rattle.replacement.proofs.Table.{replacedOutputs, stays-inside, redirect-other, slot-staying}
 use Rattle.answers.specs.Written.{imagesIn}
-use Rattle.answers.proofs.Rewriting.{Rewrote}
 use Rattle.answers.proofs.Demands.{accepted, table, at}
 
 -- slot k reads no replaced output

@@ -1,5 +1,6 @@
 -- The four operations: for any bytes, what is replied and what stands in the lent blocks at the return.
 -- Assumes nothing.
+use mathlib.Core.Path.{_≡_}
 use mathlib.Core.Bool.{cond}
 use mathlib.Core.List.{List, [], _∷_}
 use mathlib.Core.Option.{none, some}
@@ -98,3 +99,13 @@ rewrite graph rule start images = elim (blocksReply graph rule images) [
     | some found ↦ replaced graph rule images found
   ]
 ]
+
+-- The contracts of lg_find_match and of lg_rewrite: what the caller has at the return is what the definition gives for the bytes
+-- as they came, `before` being those of the map. The code and the theorems about its replies cite these same two.
+abbrev pub Answered : List ℕ → List ℕ → ℕ → List ℕ → ℕ → List ℕ → List ℕ → Type 0
+Answered graph rule start before reply graphAfter after =
+    atReturn reply graphAfter after ≡ returned (findMatch graph rule start before)
+
+abbrev pub Rewrote : List ℕ → List ℕ → ℕ → List ℕ → ℕ → List ℕ → List ℕ → Type 0
+Rewrote graph rule start before reply graphAfter after =
+    atReturn reply graphAfter after ≡ returned (rewrite graph rule start before)

@@ -26,8 +26,8 @@ pub extern "C" fn lg_check_rule(rule: &[u8]) -> u64
 // Finds the least match from `start`: 0 to 4. Done writes the map; a refusal leaves every byte as it came.
 #[no_mangle]
 pub extern "C" fn lg_find_match(graph: &[u8], rule: &[u8], start: usize, map: &mut [u8]) -> u64
-    ensures { λ r. ⌜ operation.atReturn r (now (graph .entry)) (now (map .exit))
-        ≡ operation.returned (operation.findMatch (now (graph .entry)) (now (rule .entry)) start (now (map .entry))) ⌝ }
+    ensures { λ r. ⌜ operation.Answered (now (graph .entry)) (now (rule .entry)) start (now (map .entry))
+        r (now (graph .entry)) (now (map .exit)) ⌝ }
 {
     pack(find_match::find_match(graph, rule, start, map))
 }
@@ -35,8 +35,8 @@ pub extern "C" fn lg_find_match(graph: &[u8], rule: &[u8], start: usize, map: &m
 // Rewrites at the least match from `start`: 0 to 7. Done writes the graph and the map; a refusal leaves every byte as it came.
 #[no_mangle]
 pub extern "C" fn lg_rewrite(graph: &mut [u8], rule: &[u8], start: usize, map: &mut [u8]) -> u64
-    ensures { λ r. ⌜ operation.atReturn r (now (graph .exit)) (now (map .exit))
-        ≡ operation.returned (operation.rewrite (now (graph .entry)) (now (rule .entry)) start (now (map .entry))) ⌝ }
+    ensures { λ r. ⌜ operation.Rewrote (now (graph .entry)) (now (rule .entry)) start (now (map .entry))
+        r (now (graph .exit)) (now (map .exit)) ⌝ }
 {
     pack(rewriting::rewrite(graph, rule, start, map))
 }

@@ -1,0 +1,63 @@
+#!/usr/bin/env python3
+"""Looks why the prover refused each must-fail edit.
+
+    must_fail_reasons.py TARGET
+
+`rt ci` shows that each is refused. An edit that only makes its proof file unfit
+for the code is refused too, and shows nothing: then the first error is about
+a name or about the order of the needs, and not about a fact. docs/PROOFS.md has
+examples. Run from the repository's root, after `rt ci`; exit status 1 if an edit
+has no log, or was refused for another reason than a fact.
+"""
+
+import re
+import sys
+from pathlib import Path
+
+NO_FACT = [
+    (re.compile(r"can be named from here|is not in scope|no `Need-"), "a name is missing"),
+    (re.compile(r"expected type `[\w·.-]*\b(?:Need-|After-|Else)|"
+                r"`[\w·.-]*\b(?:Need-|After-|Else)[\w-]*` \(expected\)"), "the needs moved"),
+]
+
+
+def first_error(log):
+    """The first error with the lines that belong to it; None if there is none."""
+    lines = log.read_text(encoding="utf-8", errors="replace").split("\n")
+    for at, line in enumerate(lines):
+        if ": error:" in line:
+            return " ".join(lines[at:at + 3])
+    return None
+
+
+def fault_of(edit, target):
+    """What is wrong with the refusal of an edit; None if a fact failed."""
+    crate = edit.parent.parent.name
+    log = target / "must-fail" / crate / edit.stem / ".log"
+    if not log.is_file():
+        return "no log: it was not tried"
+    error = first_error(log)
+    if error is None:
+        return "no error in its log"
+    for pattern, reason in NO_FACT:
+        if pattern.search(error):
+            return f"{reason}: {error[:300]}"
+    return None
+
+
+def main():
+    if len(sys.argv) != 2:
+        sys.exit(__doc__)
+    edits = sorted(Path("crates").glob("*/must-fail/*.edit"))
+    wrong = 0
+    for edit in edits:
+        fault = fault_of(edit, Path(sys.argv[1]))
+        if fault is not None:
+            wrong += 1
+            print(f"{edit}: {fault}")
+    print(f"must-fail edits: {len(edits)}, of which {len(edits) - wrong} are refused for a fact")
+    sys.exit(1 if wrong or not edits else 0)
+
+
+if __name__ == "__main__":
+    main()
