@@ -91,18 +91,12 @@ void rewrite(const CommandLine &line) {
     }
 }
 
-// Whether a file starts with these three letters.
-bool starts_with(const Input &input, const std::string &mark) {
-    return input.bytes.size() >= mark.size()
-           && std::equal(mark.begin(), mark.end(), input.bytes.begin());
-}
-
 void show(const CommandLine &line) {
     const Input input = read_any_file(line.files[0]);
-    if (starts_with(input, "LGT")) {
+    if (starts_with(input, graph_mark)) {
         want_sound_graph(input);
         print(graph_listing(read_graph(input.bytes), operators(line)));
-    } else if (starts_with(input, "LGR")) {
+    } else if (starts_with(input, rule_mark)) {
         want_sound_rule(input);
         print(rule_text(read_rule(input.bytes), operators(line)));
     } else {

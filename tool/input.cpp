@@ -43,4 +43,9 @@ Input read_any_file(const std::string &path) {
     return read_input(path, std::max(largest_graph_block, largest_rule_block));
 }
 
+bool starts_with(const Input &input, const std::string &mark) {
+    return input.bytes.size() >= mark.size()
+           && std::equal(mark.begin(), mark.end(), input.bytes.begin());
+}
+
 } // namespace leafgraph::tool

@@ -21,6 +21,11 @@ Input read_graph_file(const std::string &path);
 Input read_rule_file(const std::string &path);
 Input read_any_file(const std::string &path);
 
+// The letters with which a block of either kind begins.
+inline const std::string graph_mark = "LGT";
+inline const std::string rule_mark = "LGR";
+bool starts_with(const Input &input, const std::string &mark);
+
 } // namespace leafgraph::tool
 
 #endif // LEAFGRAPH_TOOL_INPUT_HPP

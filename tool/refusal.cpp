@@ -4,14 +4,29 @@
 
 namespace leafgraph::tool {
 
-std::string refusal_line(Reply reply, const Input &graph, const Input &rule) {
-    std::string file;
-    if (reply.code() == Code::bad_graph) {
-        file = graph.name + ": ";
-    } else if (reply.code() == Code::bad_rule) {
-        file = rule.name + ": ";
+namespace {
+
+// What a look at a refused file tells beyond the reply: mostly two files were
+// exchanged, or one was never written.
+std::string hint(const Input &input, const std::string &other_mark, const std::string &other) {
+    if (input.bytes.empty()) {
+        return " (it is empty)";
     }
-    return file + "refused with reply " + std::to_string(reply.number()) + ": " + reply.what();
+    return starts_with(input, other_mark) ? " (it begins as a " + other + " block does)" : "";
+}
+
+} // namespace
+
+std::string refusal_line(Reply reply, const Input &graph, const Input &rule) {
+    const std::string line
+        = "refused with reply " + std::to_string(reply.number()) + ": " + reply.what();
+    if (reply.code() == Code::bad_graph) {
+        return graph.name + ": " + line + hint(graph, rule_mark, "rule");
+    }
+    if (reply.code() == Code::bad_rule) {
+        return rule.name + ": " + line + hint(rule, graph_mark, "graph");
+    }
+    return line;
 }
 
 void want_done(Reply reply, const Input &graph, const Input &rule) {
