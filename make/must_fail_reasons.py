@@ -22,10 +22,11 @@ NO_FACT = [
 
 
 def first_error(log):
-    """The first error with the lines that belong to it; None if there is none."""
+    """The first error with the lines that belong to it; None if there is none.
+    A function without a proof file has no error, but a note of what is not proved."""
     lines = log.read_text(encoding="utf-8", errors="replace").split("\n")
     for at, line in enumerate(lines):
-        if ": error:" in line:
+        if ": error:" in line or ": it is not proved that " in line:
             return " ".join(lines[at:at + 3])
     return None
 
