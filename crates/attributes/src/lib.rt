@@ -147,7 +147,7 @@ fn node_value(
     let magnitude = magnitude_of(value);
     states[k] = state;
     magnitudes[k] = magnitude;
-    // Not `value` itself: returned whole, its unused bytes are copied too, and a search waits for them.
+    // Not `value` itself, which was measured to be slower (docs/PERFORMANCE.md, "What changed it").
     recalled(state, magnitude)
 }
 
