@@ -11,9 +11,9 @@
  * - After a refusal every lent byte is as it came.
  * - There is no state: calls may be made from any number of threads at once,
  *   as long as no buffer is written by one call while another one uses it.
- * - No memory is allocated. Each function's Stack line says how much stack it
- *   uses at most, for any input: measured with the worst blocks that we could
- *   build, not proved.
+ * - No memory is allocated. Each function's Stack line says how much stack to
+ *   leave it. That is measured with the worst blocks that we could build, with
+ *   room to spare, and not proved.
  * - Numbers in the blocks are little-endian on every machine.
  */
 #ifndef LEAFGRAPH_H

@@ -7,7 +7,8 @@
 for the code is refused too, and shows nothing: then the first error is about
 a name or about the order of the needs, and not about a fact. docs/PROOFS.md has
 examples. Run from the repository's root, after `rt ci`; exit status 1 if an edit
-has no log, or was refused for another reason than a fact.
+has no log, or was refused for one of these two reasons. That what remains is a fact
+that fails is not shown here: whoever adds an edit reads its log.
 """
 
 import re
@@ -32,7 +33,7 @@ def first_error(log):
 
 
 def fault_of(edit, target):
-    """What is wrong with the refusal of an edit; None if a fact failed."""
+    """What is wrong with the refusal of an edit; None if neither reason is found."""
     crate = edit.parent.parent.name
     log = target / "must-fail" / crate / edit.stem / ".log"
     if not log.is_file():
@@ -56,7 +57,7 @@ def main():
         if fault is not None:
             wrong += 1
             print(f"{edit}: {fault}")
-    print(f"must-fail edits: {len(edits)}, of which {len(edits) - wrong} are refused for a fact")
+    print(f"must-fail edits: {len(edits)}, {wrong} of them refused for no fact or not tried")
     sys.exit(1 if wrong or not edits else 0)
 
 
