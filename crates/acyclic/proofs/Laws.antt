@@ -17,7 +17,7 @@ use Rattle.laws.proofs.Lists.{decided}
 use Rattle.laws.proofs.Graph.{length-slots, inputs-past, reader-inside}
 use Rattle.laws.proofs.Members.{mem-place}
 use Rattle.theory.proofs.Paths.{Table, Grounded, grounded, reaches-trans, cyclic, grounded-acyclic}
-use Rattle.graph_fields.specs.Readable.{Closed}
+use Rattle.graph_fields.specs.Layout.{Closed}
 use Rattle.acyclic.specs.Search.{Sized, Quiet, Kept, Searched}
 
 -- ---- lists

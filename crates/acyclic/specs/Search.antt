@@ -9,7 +9,7 @@ use lib.ListN.{length, getD}
 use Rattle.definitions.specs.Graph.{graphOf, inputsOf}
 use Rattle.definitions.specs.Paths.{acyclicBelow}
 use Rattle.theory.proofs.Paths.{Grounded}
-use Rattle.graph_fields.specs.Readable.{Readable, Closed}
+use Rattle.graph_fields.specs.Layout.{ReadableGraph, Closed}
 
 -- every slot has its place
 pub record Sized (stages parents : List ℕ) : Type 0 where
@@ -21,7 +21,7 @@ abbrev pub Quiet : (ℕ → List ℕ) → List ℕ → Type 0
 Quiet inputs progress = (w : ℕ) → (getD progress w 0 ≡ 0) ⊎ ((getD progress w 0 ≡ 8) × Grounded inputs w)
 
 pub record Ready (block progress parent : List ℕ) : Type 0 where
-  pub readable : Readable block
+  pub readable : ReadableGraph block
   pub closed : Closed block
   pub sized : Sized progress parent
   pub quiet : Quiet (inputsOf (graphOf block)) progress

@@ -8,7 +8,7 @@ use graph_fields::slot_count;
 ghost use mathlib.Core.Path.{_≡_};
 ghost use Prim.Native.Nat.{_<_};
 ghost use Rattle.definitions.specs.Graph.{slotCount, graphOf, inputsOf, hasCycle};
-ghost use Rattle.graph_fields.specs.Readable.{Readable, Closed};
+ghost use Rattle.graph_fields.specs.Layout.{ReadableGraph, Closed};
 ghost use Rattle.acyclic.specs.Search.{Sized, Ready, Searched};
 
 // A slot's progress is 0 before it is entered, 1 + i once i of its inputs are known to lead to no cycle, and this when the slot
@@ -62,7 +62,7 @@ fn finds_cycle(
 
 // Whether some slot leads to itself along inputs.
 pub fn has_cycle(graph: &[u8]) -> bool
-    requires { ⌜ Readable (now graph) ⌝ }
+    requires { ⌜ ReadableGraph (now graph) ⌝ }
     requires { ⌜ Closed (now graph) ⌝ }
     ensures { λ r. ⌜ r ≡ hasCycle (graphOf (now (graph .entry))) ⌝ }
 {

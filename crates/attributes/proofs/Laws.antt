@@ -16,7 +16,7 @@ use lib.Seq.{getD-set-same, getD-set-other}
 use Rattle.definitions.specs.Lists.{within, allBelow, allPairs, build}
 use Rattle.definitions.specs.Fields.{u32At, signed}
 use Rattle.definitions.specs.Graph.{Slot, Graph, emptySlot, slotCount, graphOf, slotOf}
-use Rattle.definitions.specs.Rule.{sourceCount, nodeCount, nodeAt, Expression, anything, constant, access, apply, nodeForm, nodeLeft, nodeRight, nodeFrom, expressions, expressionOf, nodeFits, accessesBelow}
+use Rattle.definitions.specs.Rule.{sourceCount, nodeCount, nodeAt, Expression, anything, constant, access, apply, formAny, formConstant, formAccess, nodeForm, nodeLeft, nodeRight, nodeFrom, expressions, expressionOf, nodeFits, accessesBelow}
 use Rattle.definitions.specs.Attributes.{combine, result, gives, agrees}
 use Rattle.definitions.specs.Match.{imageOf, attributeOf, readAttribute}
 use Rattle.laws.proofs.Lists.{decided, and-left, and-right, needed, allBelow-step, allBelow-fails}
@@ -161,20 +161,20 @@ unfolding expressionOf expressions
 node-built block k l = build-at (nodeFrom block) (nodeCount block) k anything l
 
 module _ (block : List ℕ) (k : ℕ) (inside : k < nodeCount block) where
-  any-node : nodeForm block k ≡ 0 → expressionOf block k ≡ anything
+  any-node : nodeForm block k ≡ formAny → expressionOf block k ≡ anything
   unfolding nodeFrom
-  any-node h = node-built block k inside ∙ simp (eq-eqb (nodeForm block k) 0 h)
+  any-node h = node-built block k inside ∙ simp (eq-eqb (nodeForm block k) formAny h)
 
-  constant-node : nodeForm block k ≡ 1 → expressionOf block k ≡ constant (signed (u32At block (nodeAt block k + 4)))
+  constant-node : nodeForm block k ≡ formConstant → expressionOf block k ≡ constant (signed (u32At block (nodeAt block k + 4)))
   unfolding nodeFrom
   constant-node h = node-built block k inside ∙ simp h
 
-  access-node : nodeForm block k ≡ 2 → expressionOf block k ≡ access (nodeLeft block k) (nodeRight block k)
+  access-node : nodeForm block k ≡ formAccess → expressionOf block k ≡ access (nodeLeft block k) (nodeRight block k)
   unfolding nodeFrom
   access-node h = node-built block k inside ∙ simp h
 
   -- an access that fits names a source vertex
-  pub access-vertex : nodeFits block k ≡ true → nodeForm block k ≡ 2 → nodeLeft block k < sourceCount block
+  pub access-vertex : nodeFits block k ≡ true → nodeForm block k ≡ formAccess → nodeLeft block k < sourceCount block
   unfolding nodeFits
   access-vertex fits h =
       ltb-true (nodeLeft block k) (sourceCount block)
@@ -190,9 +190,9 @@ module _ (block : List ℕ) (k : ℕ) (inside : k < nodeCount block) where
     operation-node =
         node-built block k inside
         ∙ simp (
-          ne-eqb (nodeForm block k) 0 (λ e. omega arith),
-          ne-eqb (nodeForm block k) 1 (λ e. omega arith),
-          ne-eqb (nodeForm block k) 2 (λ e. omega arith),
+          ne-eqb (nodeForm block k) formAny (λ e. omega arith),
+          ne-eqb (nodeForm block k) formConstant (λ e. omega arith),
+          ne-eqb (nodeForm block k) formAccess (λ e. omega arith),
           operand (nodeLeft block k) (left-earlier block k fits operation),
           operand (nodeRight block k) (right-earlier block k fits operation),
         )
@@ -200,19 +200,19 @@ module _ (block : List ℕ) (k : ℕ) (inside : k < nodeCount block) where
   -- ---- results and agreement, by the form
 
   module _ (read : ℕ → ℕ → Option ℤ) where
-    pub any-gives : nodeForm block k ≡ 0 → none ≡ result read (expressionOf block k)
+    pub any-gives : nodeForm block k ≡ formAny → none ≡ result read (expressionOf block k)
     unfolding result
     any-gives h = rw (any-node h)
 
-    pub constant-gives : nodeForm block k ≡ 1 → some (signed (u32At block (nodeAt block k + 4))) ≡ result read (expressionOf block k)
+    pub constant-gives : nodeForm block k ≡ formConstant → some (signed (u32At block (nodeAt block k + 4))) ≡ result read (expressionOf block k)
     unfolding result
     constant-gives h = rw (constant-node h)
 
-    access-gives : nodeForm block k ≡ 2 → read (nodeLeft block k) (nodeRight block k) ≡ result read (expressionOf block k)
+    access-gives : nodeForm block k ≡ formAccess → read (nodeLeft block k) (nodeRight block k) ≡ result read (expressionOf block k)
     unfolding result
     access-gives h = rw (access-node h)
 
-    pub read-gives : (v b : ℕ) (x : Option ℤ) → v ≡ nodeLeft block k → b ≡ nodeRight block k → x ≡ read v b → nodeForm block k ≡ 2
+    pub read-gives : (v b : ℕ) (x : Option ℤ) → v ≡ nodeLeft block k → b ≡ nodeRight block k → x ≡ read v b → nodeForm block k ≡ formAccess
         → x ≡ result read (expressionOf block k)
     read-gives v b x l r e h = rw (e, l, r) (access-gives h)
 
@@ -231,41 +231,41 @@ module _ (block : List ℕ) (k : ℕ) (inside : k < nodeCount block) where
 
     -- e is the node's expression
     module _ (e : Expression) (z : ℤ) (named : expressionOf block k ≡ e) where
-      pub any-agrees : nodeForm block k ≡ 0 → true ≡ agrees read e z
+      pub any-agrees : nodeForm block k ≡ formAny → true ≡ agrees read e z
       unfolding agrees
       any-agrees h = rw (← named, any-node h)
 
       pub result-agrees : (x : Option ℤ) (found : ℤ) → x ≡ result read (expressionOf block k) → found ≡ z
-          → nodeFits block k ≡ true → (nodeForm block k ≡ 0 → ⊥) → gives x found ≡ agrees read e z
+          → nodeFits block k ≡ true → (nodeForm block k ≡ formAny → ⊥) → gives x found ≡ agrees read e z
       unfolding agrees
       result-agrees x found r f fits h =
           rw (r, f, ← named) (⊎-elim
-          (λ (t : eqb (nodeForm block k) 1 ≡ true). rw (constant-node (eqb-true (nodeForm block k) 1 t)))
-          (λ (t : eqb (nodeForm block k) 1 ≡ false). ⊎-elim
-          (λ (u : eqb (nodeForm block k) 2 ≡ true). rw (access-node (eqb-true (nodeForm block k) 2 u)))
-          (λ (u : eqb (nodeForm block k) 2 ≡ false). rw (operation-node fits
-          (omega (arith, eqb-false (nodeForm block k) 1 t, eqb-false (nodeForm block k) 2 u))))
-          (decided (eqb (nodeForm block k) 2)))
-          (decided (eqb (nodeForm block k) 1)))
+          (λ (t : eqb (nodeForm block k) formConstant ≡ true). rw (constant-node (eqb-true (nodeForm block k) formConstant t)))
+          (λ (t : eqb (nodeForm block k) formConstant ≡ false). ⊎-elim
+          (λ (u : eqb (nodeForm block k) formAccess ≡ true). rw (access-node (eqb-true (nodeForm block k) formAccess u)))
+          (λ (u : eqb (nodeForm block k) formAccess ≡ false). rw (operation-node fits
+          (omega (arith, eqb-false (nodeForm block k) formConstant t, eqb-false (nodeForm block k) formAccess u))))
+          (decided (eqb (nodeForm block k) formAccess)))
+          (decided (eqb (nodeForm block k) formConstant)))
 
 module _ (graph rule images : List ℕ) (k : ℕ) (inside : k < nodeCount rule) where
   abbrev read : ℕ → ℕ → Option ℤ
   read = readAttribute (graphOf graph) images
 
   -- a constant, an access or any
-  leaf-bounded : nodeForm rule k ≤ 2 → bounded (nodeResult graph rule images k) ≡ true
+  leaf-bounded : nodeForm rule k ≤ formAccess → bounded (nodeResult graph rule images k) ≡ true
   unfolding bounded
   leaf-bounded h =
       ⊎-elim
-      (λ (t : eqb (nodeForm rule k) 0 ≡ true). rw (← any-gives rule k inside read (eqb-true (nodeForm rule k) 0 t)))
-      (λ (t : eqb (nodeForm rule k) 0 ≡ false). ⊎-elim
-      (λ (u : eqb (nodeForm rule k) 1 ≡ true). rw (← constant-gives rule k inside read (eqb-true (nodeForm rule k) 1 u))
+      (λ (t : eqb (nodeForm rule k) formAny ≡ true). rw (← any-gives rule k inside read (eqb-true (nodeForm rule k) formAny t)))
+      (λ (t : eqb (nodeForm rule k) formAny ≡ false). ⊎-elim
+      (λ (u : eqb (nodeForm rule k) formConstant ≡ true). rw (← constant-gives rule k inside read (eqb-true (nodeForm rule k) formConstant u))
       (signed-inRange (u32At rule (nodeAt rule k + 4))))
-      (λ (u : eqb (nodeForm rule k) 1 ≡ false). rw (← access-gives rule k inside read
-      (omega (arith, eqb-false (nodeForm rule k) 0 t, eqb-false (nodeForm rule k) 1 u)))
+      (λ (u : eqb (nodeForm rule k) formConstant ≡ false). rw (← access-gives rule k inside read
+      (omega (arith, eqb-false (nodeForm rule k) formAny t, eqb-false (nodeForm rule k) formConstant u)))
       (read-bounded (graphOf graph) images (nodeLeft rule k) (nodeRight rule k)))
-      (decided (eqb (nodeForm rule k) 1)))
-      (decided (eqb (nodeForm rule k) 0))
+      (decided (eqb (nodeForm rule k) formConstant)))
+      (decided (eqb (nodeForm rule k) formAny))
 
   pub node-bounded : nodeFits rule k ≡ true → bounded (nodeResult graph rule images k) ≡ true
   node-bounded fits =

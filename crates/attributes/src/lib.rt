@@ -1,5 +1,8 @@
 // What attribute expressions give for a map: whether the attributes of a source vertex agree with those of a slot, and the results of
 // a target vertex's.
+use definitions::FORM_ADD;
+use definitions::FORM_ANY;
+use definitions::FORM_CONSTANT;
 use definitions::NODE_LIMIT;
 use definitions::SIDE_LIMIT;
 use fields::widened;
@@ -22,12 +25,12 @@ ghost use Prim.Native.Nat.{_<_, _≤_};
 ghost use lib.ListN.{length, getD};
 ghost use Rattle.definitions.specs.Fields.{signed};
 ghost use Rattle.definitions.specs.Graph.{slotCount, graphOf, slotOf};
-ghost use Rattle.definitions.specs.Rule.{sideLimit, sourceCount, targetCount, nodeCount, nodeForm, anything, ruleOf, sourceOf, targetOf};
+ghost use Rattle.definitions.specs.Rule.{sideLimit, sourceCount, targetCount, nodeCount, formAdd, nodeForm, anything, ruleOf, sourceOf, targetOf};
 ghost use Rattle.definitions.specs.Attributes.{result, agrees};
 ghost use Rattle.definitions.specs.Match.{readAttribute};
 ghost use Rattle.numbers.specs.Value.{valueOf, bounded};
-ghost use Rattle.graph_fields.specs.Readable as graphs;
-ghost use Rattle.rule_fields.specs.Readable.{Whole, Readable};
+ghost use Rattle.graph_fields.specs.Layout.{ReadableGraph};
+ghost use Rattle.rule_fields.specs.Layout.{WholeRule, ReadableRule};
 ghost use Rattle.attributes.specs.Evaluable.{Evaluable, agreeFirst};
 ghost use Rattle.attributes.specs.Memo.{nodeResult, stateOf, magnitudeOf, remembered, Memo};
 
@@ -35,7 +38,7 @@ ghost use Rattle.attributes.specs.Memo.{nodeResult, stateOf, magnitudeOf
 
 // Attribute place b, counted from 1, of the image of source vertex v; past the image's last there is none.
 fn read_attribute(graph: &[u8], images: &[u16; SIDE_LIMIT], v: usize, b: usize) -> Value
-    requires { ⌜ graphs.Readable (now graph) ⌝ }
+    requires { ⌜ ReadableGraph (now graph) ⌝ }
     requires { ⌜ length (now images) ≡ sideLimit ⌝ }
     requires { ⌜ v < sideLimit ⌝ }
     ensures { λ r. ⌜ valueOf r ≡ readAttribute (graphOf (now (graph .entry))) (now (images .entry)) v b ⌝ }
@@ -55,19 +58,19 @@ fn read_attribute(graph: &[u8], images: &[u16; SIDE_LIMIT], v: usize, b: usize) 
 
 // What node k gives where it is no operation.
 fn leaf_value(graph: &[u8], rule: &[u8], images: &[u16; SIDE_LIMIT], k: usize) -> Value
-    requires { ⌜ graphs.Readable (now graph) ⌝ }
-    requires { ⌜ Whole (now rule) ⌝ }
+    requires { ⌜ ReadableGraph (now graph) ⌝ }
+    requires { ⌜ WholeRule (now rule) ⌝ }
     requires { ⌜ Evaluable (now rule) ⌝ }
     requires { ⌜ length (now images) ≡ sideLimit ⌝ }
     requires { ⌜ k < nodeCount (now rule) ⌝ }
-    requires { ⌜ nodeForm (now rule) k < 3 ⌝ }
+    requires { ⌜ nodeForm (now rule) k < formAdd ⌝ }
     ensures { λ r. ⌜ valueOf r ≡ nodeResult (now (graph .entry)) (now (rule .entry)) (now (images .entry)) k ⌝ }
 {
     let form = node_form(rule, k);
-    if form == 0 {
+    if form == FORM_ANY {
         return Value::Nothing;
     }
-    if form == 1 {
+    if form == FORM_CONSTANT {
         return number(node_number(rule, k));
     }
     let vertex = node_byte(rule, k, 1);
@@ -122,8 +125,8 @@ fn node_value(
     states: &mut [u8; NODE_LIMIT],
     magnitudes: &mut [u64; NODE_LIMIT],
 ) -> Value
-    requires { ⌜ graphs.Readable (now graph) ⌝ }
-    requires { ⌜ Whole (now rule) ⌝ }
+    requires { ⌜ ReadableGraph (now graph) ⌝ }
+    requires { ⌜ WholeRule (now rule) ⌝ }
     requires { ⌜ Evaluable (now rule) ⌝ }
     requires { ⌜ length (now images) ≡ sideLimit ⌝ }
     requires { ⌜ k < nodeCount (now rule) ⌝ }
@@ -135,7 +138,7 @@ fn node_value(
         return recalled(states[k], magnitudes[k]);
     }
     let form = node_form(rule, k);
-    if form < 3 {
+    if form < FORM_ADD {
         return leaf_value(graph, rule, images, k);
     }
     let left = node_byte(rule, k, 1);
@@ -153,8 +156,8 @@ fn node_value(
 
 // What node k gives where it is an operation: nothing is known before.
 fn operation_value(graph: &[u8], rule: &[u8], images: &[u16; SIDE_LIMIT], k: usize) -> Value
-    requires { ⌜ graphs.Readable (now graph) ⌝ }
-    requires { ⌜ Whole (now rule) ⌝ }
+    requires { ⌜ ReadableGraph (now graph) ⌝ }
+    requires { ⌜ WholeRule (now rule) ⌝ }
     requires { ⌜ Evaluable (now rule) ⌝ }
     requires { ⌜ length (now images) ≡ sideLimit ⌝ }
     requires { ⌜ k < nodeCount (now rule) ⌝ }
@@ -176,8 +179,8 @@ fn attribute_agrees(
     i: usize,
     v: usize,
 ) -> bool
-    requires { ⌜ graphs.Readable (now graph) ⌝ }
-    requires { ⌜ Readable (now rule) ⌝ }
+    requires { ⌜ ReadableGraph (now graph) ⌝ }
+    requires { ⌜ ReadableRule (now rule) ⌝ }
     requires { ⌜ Evaluable (now rule) ⌝ }
     requires { ⌜ length (now images) ≡ sideLimit ⌝ }
     requires { ⌜ j < sourceCount (now rule) ⌝ }
@@ -190,11 +193,11 @@ fn attribute_agrees(
 {
     let k = source_attribute(rule, j, i);
     let form = node_form(rule, k);
-    if form == 0 {
+    if form == FORM_ANY {
         return true;
     }
     let found = attribute_at(graph, v, i);
-    if form < 3 {
+    if form < FORM_ADD {
         return gives(leaf_value(graph, rule, images, k), found);
     }
     gives(operation_value(graph, rule, images, k), found)
@@ -208,8 +211,8 @@ pub fn attributes_agree(
     j: usize,
     v: usize,
 ) -> bool
-    requires { ⌜ graphs.Readable (now graph) ⌝ }
-    requires { ⌜ Readable (now rule) ⌝ }
+    requires { ⌜ ReadableGraph (now graph) ⌝ }
+    requires { ⌜ ReadableRule (now rule) ⌝ }
     requires { ⌜ Evaluable (now rule) ⌝ }
     requires { ⌜ length (now images) ≡ sideLimit ⌝ }
     requires { ⌜ j < sourceCount (now rule) ⌝ }
@@ -237,8 +240,8 @@ pub fn target_value(
     t: usize,
     i: usize,
 ) -> Value
-    requires { ⌜ graphs.Readable (now graph) ⌝ }
-    requires { ⌜ Readable (now rule) ⌝ }
+    requires { ⌜ ReadableGraph (now graph) ⌝ }
+    requires { ⌜ ReadableRule (now rule) ⌝ }
     requires { ⌜ Evaluable (now rule) ⌝ }
     requires { ⌜ length (now images) ≡ sideLimit ⌝ }
     requires { ⌜ t < targetCount (now rule) ⌝ }
@@ -248,7 +251,7 @@ pub fn target_value(
     ensures { λ r. ⌜ bounded (valueOf r) ≡ true ⌝ }
 {
     let k = target_attribute(rule, t, i);
-    if node_form(rule, k) < 3 {
+    if node_form(rule, k) < FORM_ADD {
         return leaf_value(graph, rule, images, k);
     }
     operation_value(graph, rule, images, k)

@@ -27,6 +27,10 @@ kindTuple = 4
 abbrev pub kindProj : ℕ
 kindProj = 5
 
+-- operators count from 1 to this
+abbrev pub operatorCount : ℕ
+operatorCount = 14
+
 -- how many inputs and attributes an operator has
 pub record Counts : Type 0 where
   pub inputs : ℕ
@@ -41,7 +45,7 @@ operators =
     counts 2 0 ∷ counts 2 0 ∷ counts 2 0 ∷ counts 2 4 ∷ counts 2 1 ∷ counts 5 2 ∷ counts 1 0
     ∷ counts 1 1 ∷ counts 1 2 ∷ counts 1 3 ∷ counts 1 1 ∷ counts 1 1 ∷ counts 1 4 ∷ counts 1 1 ∷ []
 
--- operators count from 1
+-- operator 1 is the first of the table
 unfoldable pub countsOf : ℕ → Counts
 countsOf operator = getD operators (operator - 1) (counts 0 0)
 
@@ -65,6 +69,6 @@ rowOf kind = getD kinds kind (row 0 0 0)
 unfoldable pub shapeFits : ℕ → ℕ → ℕ → ℕ → Bool
 shapeFits kind operator n m =
     cond (eqb kind kindCall)
-    (within 1 operator 14 && eqb n (countsOf operator .inputs) && eqb m (countsOf operator .attributes))
+    (within 1 operator operatorCount && eqb n (countsOf operator .inputs) && eqb m (countsOf operator .attributes))
     (leb kind kindProj && eqb operator 0 && within (rowOf kind .least) n (rowOf kind .greatest)
     && eqb m (rowOf kind .attributes))

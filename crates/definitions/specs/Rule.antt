@@ -99,7 +99,23 @@ pub record Rule : Type 0 where
 unfoldable pub originOf : ℕ → Origin
 originOf p = cond (ltb p sideLimit) (given p) (made (p - sideLimit))
 
--- forms 3 to 7
+-- a node's forms; the operations are the last five
+abbrev pub formAny : ℕ
+formAny = 0
+
+abbrev pub formConstant : ℕ
+formConstant = 1
+
+abbrev pub formAccess : ℕ
+formAccess = 2
+
+abbrev pub formAdd : ℕ
+formAdd = 3
+
+abbrev pub formRemainder : ℕ
+formRemainder = 7
+
+-- the operations of forms 3 to 7, in order
 unfoldable pub operations : List Operation
 operations = add ∷ subtract ∷ multiply ∷ divide ∷ remainder ∷ []
 
@@ -115,10 +131,10 @@ nodeRight block k = byteAt block (nodeAt block k + 2)
 -- node k, whose operands are among the earlier nodes' expressions
 unfoldable pub nodeFrom : List ℕ → List Expression → ℕ → Expression
 nodeFrom block earlier k =
-    cond (eqb (nodeForm block k) 0) anything
-    (cond (eqb (nodeForm block k) 1) (constant (signed (u32At block (nodeAt block k + 4))))
-    (cond (eqb (nodeForm block k) 2) (access (nodeLeft block k) (nodeRight block k))
-    (apply (getD operations (nodeForm block k - 3) remainder) (getD earlier (nodeLeft block k) anything)
+    cond (eqb (nodeForm block k) formAny) anything
+    (cond (eqb (nodeForm block k) formConstant) (constant (signed (u32At block (nodeAt block k + 4))))
+    (cond (eqb (nodeForm block k) formAccess) (access (nodeLeft block k) (nodeRight block k))
+    (apply (getD operations (nodeForm block k - formAdd) remainder) (getD earlier (nodeLeft block k) anything)
     (getD earlier (nodeRight block k) anything))))
 
 unfoldable pub expressions : List ℕ → List Expression
@@ -272,17 +288,17 @@ outputsFit r =
 
 -- node k may name node j as an operand: an earlier one that is not any
 unfoldable pub operandFits : List ℕ → ℕ → ℕ → Bool
-operandFits block k j = ltb j k && not (eqb (nodeForm block j) 0)
+operandFits block k j = ltb j k && not (eqb (nodeForm block j) formAny)
 
 -- form, used fields in range, and unused fields zero
 unfoldable pub nodeFits : List ℕ → ℕ → Bool
 nodeFits block k =
     eqb (byteAt block (nodeAt block k + 3)) 0
-    && cond (eqb (nodeForm block k) 1) (eqb (nodeLeft block k) 0 && eqb (nodeRight block k) 0)
+    && cond (eqb (nodeForm block k) formConstant) (eqb (nodeLeft block k) 0 && eqb (nodeRight block k) 0)
     (filled block (nodeAt block k + 4) (nodeAt block k + 8) 0
-    && cond (eqb (nodeForm block k) 0) (eqb (nodeLeft block k) 0 && eqb (nodeRight block k) 0)
-    (cond (eqb (nodeForm block k) 2) (ltb (nodeLeft block k) (sourceCount block) && within 1 (nodeRight block k) attributeLimit)
-    (leb (nodeForm block k) 7 && operandFits block k (nodeLeft block k) && operandFits block k (nodeRight block k))))
+    && cond (eqb (nodeForm block k) formAny) (eqb (nodeLeft block k) 0 && eqb (nodeRight block k) 0)
+    (cond (eqb (nodeForm block k) formAccess) (ltb (nodeLeft block k) (sourceCount block) && within 1 (nodeRight block k) attributeLimit)
+    (leb (nodeForm block k) formRemainder && operandFits block k (nodeLeft block k) && operandFits block k (nodeRight block k))))
 
 unfoldable pub badNode : List ℕ → ℕ → Bool
 badNode block k = not (nodeFits block k)
@@ -300,7 +316,7 @@ unfoldable pub useFits : List ℕ → ℕ → ℕ → Bool
 useFits block v k =
     ltb k (nodeCount block)
     && cond (ltb v (sourceCount block)) (accessesBelow v (expressionOf block k))
-    (not (eqb (byteAt block (nodeAt block k)) 0))
+    (not (eqb (nodeForm block k) formAny))
 
 unfoldable pub badUse : List ℕ → ℕ → Bool
 badUse block v =

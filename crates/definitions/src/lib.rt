@@ -31,10 +31,45 @@ pub const RULE_LETTER: usize = 82;
 
 pub const RULE_VERSION: usize = 1;
 
+// The forms of an expression node.
+pub const FORM_ANY: usize = 0;
+
+pub const FORM_CONSTANT: usize = 1;
+
+pub const FORM_ACCESS: usize = 2;
+// The operations, from here on.
+pub const FORM_ADD: usize = 3;
+
+pub const FORM_SUBTRACT: usize = 4;
+
+pub const FORM_MULTIPLY: usize = 5;
+
+pub const FORM_DIVIDE: usize = 6;
+
+pub const FORM_REMAINDER: usize = 7;
+
+// Both: the kinds of a record; in a rule, kind 0 is the wildcard.
+pub const KIND_EMPTY: usize = 0;
+
+pub const KIND_CONST: usize = 1;
+
+pub const KIND_VARIABLE: usize = 2;
+
+pub const KIND_CALL: usize = 3;
+
+pub const KIND_TUPLE: usize = 4;
+
+pub const KIND_PROJ: usize = 5;
+// Operators are numbered from 1 to this.
+pub const OPERATOR_COUNT: usize = 14;
+
 // Both: the places of a record for inputs and for attributes.
 pub const INPUT_LIMIT: usize = 6;
 
 pub const ATTRIBUTE_LIMIT: usize = 6;
+
+// What an unused output or input place of a graph holds, and a map after its last image.
+pub const UNUSED_PLACE: u16 = 65535;
 
 // The map: a 16-bit number for each source vertex that a rule may have.
 pub const MAP_BYTES: usize = 32;

@@ -18,7 +18,7 @@ use Rattle.laws.proofs.Members.{mem-at}
 use Rattle.laws.proofs.Operators.{few-inputs, few-attributes}
 use Rattle.laws.proofs.Pieces.{length-pieces}
 use Rattle.laws.proofs.Graph.{slot-past, vertex-inside, slot-of, length-slots, length-attributes}
-use Rattle.graph_fields.specs.Readable.{Readable, Closed}
+use Rattle.graph_fields.specs.Layout.{ReadableGraph, Closed}
 use Rattle.encoding.specs.Tables.{slotFits, Table, Words}
 use Rattle.encoding.proofs.Pieces.{at-first, at-second, length-two, tabulated, piece-at}
 use Rattle.encoding.proofs.Records.{length-slot, kind-back, operator-back, attribute-count-back, inputs-back, attributes-back, record-fits}
@@ -157,7 +157,7 @@ module _ (g : Graph) (table : Table g) where
   block-vertex v = ap (λ (kind : ℕ). not (eqb kind kindEmpty)) (block-kind v)
 
   -- so the code can read the block, also of a graph that has a cycle or an attribute that is no word
-  pub block-readable : Readable (graphBlock g)
+  pub block-readable : ReadableGraph (graphBlock g)
   block-readable = record {
     whole = record {
       size = rw block-slots block-length;

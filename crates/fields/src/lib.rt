@@ -1,7 +1,7 @@
 // Fields of a lent block: bytes, 16-bit and 32-bit little-endian numbers, signed ones, and runs of
 // equal bytes. Nothing here reads past what its `requires` names.
 ghost use mathlib.Core.Path.{_≡_};
-ghost use Prim.Native.Nat.{_+_, _<_, _≤_};
+ghost use Prim.Native.Nat.{_+_, _<_, _≤_, max};
 ghost use lib.ListN.{length};
 ghost use Rattle.definitions.specs.Fields.{byteAt, u16At, u32At, filled, markFits, signed};
 ghost use Rattle.fields.specs.Integer.{integerOf};
@@ -18,6 +18,16 @@ pub fn widened(number: u16) -> usize
     ensures { λ r. ⌜ r ≡ number ⌝ }
 {
     number as usize
+}
+
+// The greater of two numbers.
+pub fn greater(a: usize, b: usize) -> usize
+    ensures { λ r. ⌜ r ≡ max a b ⌝ }
+{
+    if a < b {
+        return b;
+    }
+    a
 }
 
 // The byte at `at`.

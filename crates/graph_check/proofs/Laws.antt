@@ -16,10 +16,10 @@ use Rattle.definitions.specs.Graph.{unusedPlace, slotCount, outputCount, record
 use Rattle.laws.proofs.Lists.{lowest-passed, all-at}
 use Rattle.laws.proofs.Graph.{vertex-inside, length-slots, slot-of, length-inputs, length-attributes, header-size, few-slots, few-outputs, record-shape}
 use Rattle.laws.proofs.Operators.{few-inputs, few-attributes}
-use Rattle.graph_fields.specs.Readable.{Whole, Readable, Closed}
+use Rattle.graph_fields.specs.Layout.{WholeGraph, ReadableGraph, Closed}
 
 module _ (block : List ℕ) where
-  pub whole : headerFits block ≡ true → Whole block
+  pub whole : headerFits block ≡ true → WholeGraph block
   whole h = record { size = header-size block h; slots = few-slots block h; outputs = few-outputs block h }
 
   -- a record without a fault follows the tables
@@ -32,7 +32,7 @@ module _ (block : List ℕ) where
       (not-false (recordFits block (recordAt k)) (lowest-passed (badRecord block) (slotCount block) k (omega arith)))
 
   -- so it has at most six inputs and six attributes
-  pub readable : Whole block → slotCount block ≤ lowest (badRecord block) (slotCount block) → Readable block
+  pub readable : WholeGraph block → slotCount block ≤ lowest (badRecord block) (slotCount block) → ReadableGraph block
   readable w h = record {
     whole = w;
     inputs = λ k l.
@@ -45,7 +45,7 @@ module _ (block : List ℕ) where
         omega (arith, few, ap (λ (s : Slot). length (s .attributes)) (slot-of block k l) ∙ length-attributes block at);
   }
 
-  pub closed : Readable block → slotCount block ≤ lowest (badInputs (graphOf block)) (slotCount block) → Closed block
+  pub closed : ReadableGraph block → slotCount block ≤ lowest (badInputs (graphOf block)) (slotCount block) → Closed block
   unfolding badInputs
   closed r h = record {
     named = λ k i l m.

@@ -3,6 +3,7 @@
 use definitions::GRAPH_LETTER;
 use definitions::GRAPH_VERSION;
 use definitions::HEADER_BYTES;
+use definitions::KIND_PROJ;
 use definitions::OUTPUT_LIMIT;
 use definitions::SLOT_BYTES;
 use definitions::SLOT_LIMIT;
@@ -28,7 +29,7 @@ ghost use Rattle.definitions.specs.Lists.{lowest, all};
 ghost use Rattle.definitions.specs.Fields.{u32At, signed};
 ghost use Rattle.definitions.specs.Operators.{kindProj};
 ghost use Rattle.definitions.specs.Graph.{headerBytes, slotBytes, slotCount, outputCount, graphOf, inputsOf, isVertex, outputPlacesFit, headerFits, atLeastOne, recordFits, badRecord, badInputs, badOutput};
-ghost use Rattle.graph_fields.specs.Readable.{Whole, Readable};
+ghost use Rattle.graph_fields.specs.Layout.{WholeGraph, ReadableGraph};
 
 // Whether 1 to 4 outputs are counted, and the unused output places hold 65535.
 fn output_places_fit(graph: &[u8]) -> bool
@@ -79,7 +80,7 @@ fn index_fits(graph: &[u8], at: usize, kind: usize) -> bool
     requires { ⌜ at + slotBytes ≤ length (now graph) ⌝ }
     ensures { λ r. ⌜ r ≡ (not (eqb kind kindProj) || atLeastOne (signed (u32At (now (graph .entry)) (at + 16)))) ⌝ }
 {
-    if kind != 5 {
+    if kind != KIND_PROJ {
         return true;
     }
     match i32_at(graph, at + 16) {
@@ -114,7 +115,7 @@ pub fn record_fits(graph: &[u8], at: usize) -> bool
 
 // The lowest slot with a bad record, or the number of slots.
 pub fn bad_record(graph: &[u8]) -> usize
-    requires { ⌜ Whole (now graph) ⌝ }
+    requires { ⌜ WholeGraph (now graph) ⌝ }
     ensures { λ r. ⌜ r ≡ lowest (badRecord (now (graph .entry))) (slotCount (now (graph .entry))) ⌝ }
 {
     let slots = slot_count(graph);
@@ -130,7 +131,7 @@ pub fn bad_record(graph: &[u8]) -> usize
 
 // Whether every input of slot k names a vertex.
 pub fn inputs_named(graph: &[u8], k: usize) -> bool
-    requires { ⌜ Readable (now graph) ⌝ }
+    requires { ⌜ ReadableGraph (now graph) ⌝ }
     requires { ⌜ k < slotCount (now graph) ⌝ }
     ensures { λ r. ⌜ r ≡ all (isVertex (graphOf (now (graph .entry)))) (inputsOf (graphOf (now (graph .entry))) k) ⌝ }
 {
@@ -147,7 +148,7 @@ pub fn inputs_named(graph: &[u8], k: usize) -> bool
 
 // The lowest slot with an input that names no vertex, or the number of slots.
 pub fn bad_inputs(graph: &[u8]) -> usize
-    requires { ⌜ Readable (now graph) ⌝ }
+    requires { ⌜ ReadableGraph (now graph) ⌝ }
     ensures { λ r. ⌜ r ≡ lowest (badInputs (graphOf (now (graph .entry)))) (slotCount (now (graph .entry))) ⌝ }
 {
     let slots = slot_count(graph);
@@ -163,7 +164,7 @@ pub fn bad_inputs(graph: &[u8]) -> usize
 
 // The lowest output place that names no vertex, or the number of outputs.
 pub fn bad_output(graph: &[u8]) -> usize
-    requires { ⌜ Whole (now graph) ⌝ }
+    requires { ⌜ WholeGraph (now graph) ⌝ }
     ensures { λ r. ⌜ r ≡ lowest (badOutput (graphOf (now (graph .entry)))) (outputCount (now (graph .entry))) ⌝ }
 {
     let outputs = output_count(graph);

@@ -1,5 +1,6 @@
 // A graph block's fields by index, as fields of the graph for which the block stands.
 use definitions::HEADER_BYTES;
+use definitions::KIND_EMPTY;
 use definitions::SLOT_BYTES;
 use fields::Integer;
 use fields::byte_at;
@@ -12,7 +13,7 @@ ghost use lib.ListN.{length, getD};
 ghost use Rattle.fields.specs.Integer.{integerOf};
 ghost use Rattle.definitions.specs.Fields.{signed};
 ghost use Rattle.definitions.specs.Graph.{headerBytes, inputLimit, attributeLimit, unusedPlace, slotCount, outputCount, graphOf, slotOf, inputsOf, isVertex};
-ghost use Rattle.graph_fields.specs.Readable.{Whole, Readable};
+ghost use Rattle.graph_fields.specs.Layout.{WholeGraph, ReadableGraph};
 
 // How many slots the header counts.
 pub fn slot_count(graph: &[u8]) -> usize
@@ -32,7 +33,7 @@ pub fn output_count(graph: &[u8]) -> usize
 
 // The kind of slot k.
 pub fn kind_of(graph: &[u8], k: usize) -> usize
-    requires { ⌜ Whole (now graph) ⌝ }
+    requires { ⌜ WholeGraph (now graph) ⌝ }
     requires { ⌜ k < slotCount (now graph) ⌝ }
     ensures { λ r. ⌜ (r ≡ slotOf (graphOf (now (graph .entry))) k .kind) × (r < 256) ⌝ }
 {
@@ -41,7 +42,7 @@ pub fn kind_of(graph: &[u8], k: usize) -> usize
 
 // The operator of slot k.
 pub fn operator_of(graph: &[u8], k: usize) -> usize
-    requires { ⌜ Whole (now graph) ⌝ }
+    requires { ⌜ WholeGraph (now graph) ⌝ }
     requires { ⌜ k < slotCount (now graph) ⌝ }
     ensures { λ r. ⌜ (r ≡ slotOf (graphOf (now (graph .entry))) k .operator) × (r < 256) ⌝ }
 {
@@ -50,7 +51,7 @@ pub fn operator_of(graph: &[u8], k: usize) -> usize
 
 // How many inputs slot k has.
 pub fn input_count(graph: &[u8], k: usize) -> usize
-    requires { ⌜ Readable (now graph) ⌝ }
+    requires { ⌜ ReadableGraph (now graph) ⌝ }
     requires { ⌜ k < slotCount (now graph) ⌝ }
     ensures { λ r. ⌜ (r ≡ length (inputsOf (graphOf (now (graph .entry))) k)) × (r ≤ inputLimit) ⌝ }
 {
@@ -59,7 +60,7 @@ pub fn input_count(graph: &[u8], k: usize) -> usize
 
 // What input place i of slot k names.
 pub fn input_at(graph: &[u8], k: usize, i: usize) -> usize
-    requires { ⌜ Readable (now graph) ⌝ }
+    requires { ⌜ ReadableGraph (now graph) ⌝ }
     requires { ⌜ k < slotCount (now graph) ⌝ }
     requires { ⌜ i < length (inputsOf (graphOf (now graph)) k) ⌝ }
     ensures { λ r. ⌜ (r ≡ getD (inputsOf (graphOf (now (graph .entry))) k) i unusedPlace) × (r < 65536) ⌝ }
@@ -69,7 +70,7 @@ pub fn input_at(graph: &[u8], k: usize, i: usize) -> usize
 
 // How many attributes slot k has.
 pub fn attribute_count(graph: &[u8], k: usize) -> usize
-    requires { ⌜ Readable (now graph) ⌝ }
+    requires { ⌜ ReadableGraph (now graph) ⌝ }
     requires { ⌜ k < slotCount (now graph) ⌝ }
     ensures { λ r. ⌜ (r ≡ length (slotOf (graphOf (now (graph .entry))) k .attributes)) × (r ≤ attributeLimit) ⌝ }
 {
@@ -78,7 +79,7 @@ pub fn attribute_count(graph: &[u8], k: usize) -> usize
 
 // The number in attribute place i of slot k, here counted from 0.
 pub fn attribute_at(graph: &[u8], k: usize, i: usize) -> Integer
-    requires { ⌜ Readable (now graph) ⌝ }
+    requires { ⌜ ReadableGraph (now graph) ⌝ }
     requires { ⌜ k < slotCount (now graph) ⌝ }
     requires { ⌜ i < length (slotOf (graphOf (now graph)) k .attributes) ⌝ }
     ensures { λ r. ⌜ integerOf r ≡ signed (getD (slotOf (graphOf (now (graph .entry))) k .attributes) i 0) ⌝ }
@@ -88,7 +89,7 @@ pub fn attribute_at(graph: &[u8], k: usize, i: usize) -> Integer
 
 // The 32-bit word in attribute place i of slot k, here counted from 0.
 pub fn attribute_word(graph: &[u8], k: usize, i: usize) -> usize
-    requires { ⌜ Readable (now graph) ⌝ }
+    requires { ⌜ ReadableGraph (now graph) ⌝ }
     requires { ⌜ k < slotCount (now graph) ⌝ }
     requires { ⌜ i < length (slotOf (graphOf (now graph)) k .attributes) ⌝ }
     ensures { λ r. ⌜ (r ≡ getD (slotOf (graphOf (now (graph .entry))) k .attributes) i 0) × (r < 4294967296) ⌝ }
@@ -98,7 +99,7 @@ pub fn attribute_word(graph: &[u8], k: usize, i: usize) -> usize
 
 // What output place i names.
 pub fn output_at(graph: &[u8], i: usize) -> usize
-    requires { ⌜ Whole (now graph) ⌝ }
+    requires { ⌜ WholeGraph (now graph) ⌝ }
     requires { ⌜ i < outputCount (now graph) ⌝ }
     ensures { λ r. ⌜ (r ≡ getD (graphOf (now (graph .entry)) .outputs) i unusedPlace) × (r < 65536) ⌝ }
 {
@@ -107,13 +108,13 @@ pub fn output_at(graph: &[u8], i: usize) -> usize
 
 // Whether v names a vertex: a slot of the block that is not Empty.
 pub fn is_vertex(graph: &[u8], v: usize) -> bool
-    requires { ⌜ Whole (now graph) ⌝ }
+    requires { ⌜ WholeGraph (now graph) ⌝ }
     ensures { λ r. ⌜ r ≡ isVertex (graphOf (now (graph .entry))) v ⌝ }
 {
     if slot_count(graph) <= v {
         return false;
     }
-    if kind_of(graph, v) == 0 {
+    if kind_of(graph, v) == KIND_EMPTY {
         return false;
     }
     true

@@ -8,14 +8,14 @@ use lib.ListN.{length, getD}
 use Rattle.definitions.specs.Operators.{kindEmpty}
 use Rattle.definitions.specs.Graph.{slotLimit, slotCount, graphOf}
 use Rattle.definitions.specs.Rule.{sideLimit, sourceCount, anything, ruleOf, sourceOf, sourceInputs, isRuleInput, accessesBelow}
-use Rattle.graph_fields.specs.Readable as table
-use Rattle.rule_fields.specs.Readable as pattern
+use Rattle.graph_fields.specs.Layout.{ReadableGraph, Closed}
+use Rattle.rule_fields.specs.Layout.{ReadableRule, Layered}
 use Rattle.attributes.specs.Evaluable.{Evaluable}
 use Rattle.uses.specs.Uses.{usesOf, demandOf}
 
 pub record Matchable (block : List ℕ) : Type 0 where
-  pub readable : pattern.Readable block
-  pub layered : pattern.Layered block
+  pub readable : ReadableRule block
+  pub layered : Layered block
   pub evaluable : Evaluable block
   -- a rule input reads nothing, and a wildcard has no attributes
   pub plain : (j : ℕ) → isRuleInput (ruleOf block) j ≡ true → sourceInputs (ruleOf block) j ≡ []
@@ -25,8 +25,8 @@ pub record Matchable (block : List ℕ) : Type 0 where
       → accessesBelow j (getD (sourceOf (ruleOf block) j .attributes) i anything) ≡ true
 
 pub record Setting (graph rule used demanded : List ℕ) : Type 0 where
-  pub readable : table.Readable graph
-  pub closed : table.Closed graph
+  pub readable : ReadableGraph graph
+  pub closed : Closed graph
   pub matchable : Matchable rule
   pub uses : (length used ≡ slotLimit) × ((v : ℕ) → v < slotCount graph → getD used v 0 ≡ usesOf (graphOf graph) v)
   pub demands : (length demanded ≡ sideLimit) × ((j : ℕ) → j < sourceCount rule → getD demanded j 0 ≡ demandOf (ruleOf rule) j)

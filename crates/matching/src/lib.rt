@@ -1,8 +1,10 @@
 // Matching a source vertex with a slot. The traversal that put the source vertices in order is followed: inputs first, left to right,
 // each vertex once, so the images found so far are those of the first `next` source vertices.
 use attributes::attributes_agree;
+use definitions::KIND_EMPTY;
 use definitions::SIDE_LIMIT;
 use definitions::SLOT_LIMIT;
+use fields::greater;
 use fields::widened;
 use graph_fields::attribute_count;
 use graph_fields::input_at;
@@ -24,8 +26,8 @@ ghost use Rattle.definitions.specs.Lists.{anyBelow};
 ghost use Rattle.definitions.specs.Graph.{slotCount, graphOf, slotOf, inputsOf};
 ghost use Rattle.definitions.specs.Rule.{sideLimit, sourceCount, ruleOf, sourceOf, sourceInputs};
 ghost use Rattle.definitions.specs.Match.{imageOf};
-ghost use Rattle.graph_fields.specs.Readable as table;
-ghost use Rattle.rule_fields.specs.Readable as pattern;
+ghost use Rattle.graph_fields.specs.Layout.{ReadableGraph};
+ghost use Rattle.rule_fields.specs.Layout.{ReadableRule};
 ghost use Rattle.rule_order.specs.InOrder.{InOrder, visitedAfter};
 ghost use Rattle.matching.specs.Candidate.{slotHead, patternHead, headFits, usesFit, isCandidate};
 ghost use Rattle.matching.specs.Partial.{Partial, Sends, SendsInputs, Step};
@@ -42,7 +44,7 @@ pub struct Head {
 // ---- the look
 
 fn slot_head(graph: &[u8], v: usize) -> Head
-    requires { ⌜ table.Readable (now graph) ⌝ }
+    requires { ⌜ ReadableGraph (now graph) ⌝ }
     requires { ⌜ v < slotCount (now graph) ⌝ }
     ensures { λ r. ⌜ r ≡ slotHead (slotOf (graphOf (now (graph .entry))) v) ⌝ }
 {
@@ -55,7 +57,7 @@ fn slot_head(graph: &[u8], v: usize) -> Head
 }
 
 fn pattern_head(rule: &[u8], j: usize) -> Head
-    requires { ⌜ pattern.Readable (now rule) ⌝ }
+    requires { ⌜ ReadableRule (now rule) ⌝ }
     requires { ⌜ j < sourceCount (now rule) ⌝ }
     ensures { λ r. ⌜ r ≡ patternHead (sourceOf (ruleOf (now (rule .entry))) j) ⌝ }
 {
@@ -71,8 +73,8 @@ fn pattern_head(rule: &[u8], j: usize) -> Head
 pub fn head_fits(pattern: Head, slot: Head) -> bool
     ensures { λ r. ⌜ r ≡ headFits pattern slot ⌝ }
 {
-    if pattern.kind == 0 {
-        return slot.kind != 0;
+    if pattern.kind == KIND_EMPTY {
+        return slot.kind != KIND_EMPTY;
     }
     if slot.kind != pattern.kind {
         return false;
@@ -137,7 +139,7 @@ fn is_taken(images: &[u16; SIDE_LIMIT], next: usize, v: usize) -> bool
 // Gives source vertex j, a candidate whose inputs have their images, the image v: where v is no lower vertex's image, and the
 // attributes agree.
 fn settle(graph: &[u8], rule: &[u8], j: usize, v: usize, images: &mut [u16; SIDE_LIMIT]) -> bool
-    requires { ⌜ table.Readable (now graph) ⌝ }
+    requires { ⌜ ReadableGraph (now graph) ⌝ }
     requires { ⌜ Matchable (now rule) ⌝ }
     requires { ⌜ j < sourceCount (now rule) ⌝ }
     requires { ⌜ v < slotCount (now graph) ⌝ }
@@ -155,15 +157,6 @@ fn settle(graph: &[u8], rule: &[u8], j: usize, v: usize, images: &mut [u16; SIDE
     }
     images[j] = v as u16;
     true
-}
-
-fn greater(a: usize, b: usize) -> usize
-    ensures { λ r. ⌜ r ≡ max a b ⌝ }
-{
-    if a < b {
-        return b;
-    }
-    a
 }
 
 // Matches source vertex j with slot v, its inputs first. A vertex that has its image is compared, not entered again. Where it

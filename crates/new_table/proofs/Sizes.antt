@@ -17,8 +17,8 @@ use Rattle.laws.proofs.Rule.{length-target, target-count-at}
 use Rattle.laws.proofs.Padded.{length-padded}
 use Rattle.shapes.proofs.Values.{value-count}
 use Rattle.shapes.proofs.Slots.{new-slot}
-use Rattle.graph_fields.specs.Readable as graphs
-use Rattle.rule_fields.specs.Readable as rules
+use Rattle.graph_fields.specs.Layout.{ReadableGraph}
+use Rattle.rule_fields.specs.Layout.{ReadableRule}
 use Rattle.target_attributes.specs.Words.{isGiven}
 use Rattle.new_table.specs.Slots.{valuesOf}
 use Rattle.writing.specs.declared.Record.{Record}
@@ -33,7 +33,7 @@ known-values (some values) h = refl
 abbrev Fits : Slot → Type 0
 Fits s = (length (s .inputs) ≤ inputLimit) × (length (s .attributes) ≤ attributeLimit)
 
-module _ (graph rule images : List ℕ) (values : List (List ℤ)) (oldTable : graphs.Readable graph) (patterns : rules.Readable rule)
+module _ (graph rule images : List ℕ) (values : List (List ℤ)) (oldTable : ReadableGraph graph) (patterns : ReadableRule rule)
     (found : targetResults (readAttribute (graphOf graph) images) (ruleOf rule .target) ≡ some values) where
   staying-fits : (k : ℕ) → k < slotCount graph → Fits (stayingSlot (graphOf graph) (ruleOf rule) images k)
   unfolding stayingSlot

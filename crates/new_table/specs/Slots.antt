@@ -11,8 +11,8 @@ use Rattle.definitions.specs.Graph.{unusedPlace, Slot, Graph, graphOf}
 use Rattle.definitions.specs.Rule.{sideLimit, ruleOf}
 use Rattle.definitions.specs.Match.{readAttribute}
 use Rattle.definitions.specs.Rewriting.{targetResults, placeOf, redirect, newGraph}
-use Rattle.graph_fields.specs.Readable as graphs
-use Rattle.rule_fields.specs.Readable as rules
+use Rattle.graph_fields.specs.Layout.{ReadableGraph}
+use Rattle.rule_fields.specs.Layout.{ReadableRule, Layered}
 use Rattle.attributes.specs.Evaluable.{Evaluable}
 use Rattle.target_attributes.specs.Words.{isGiven}
 use Rattle.redirection.specs.Moves.{Resolvable, moved}
@@ -42,9 +42,9 @@ newTable graph rule images = newGraph (graphOf graph) (ruleOf rule) images (valu
 
 -- layouts that can be read, results for every target attribute, and the target vertices' places
 pub record Prepared (graph rule images places : List ℕ) : Type 0 where
-  pub oldTable : graphs.Readable graph
-  pub patterns : rules.Readable rule
-  pub layered : rules.Layered rule
+  pub oldTable : ReadableGraph graph
+  pub patterns : ReadableRule rule
+  pub layered : Layered rule
   pub evaluable : Evaluable rule
   pub resolvable : Resolvable rule
   pub imageSize : length images ≡ sideLimit

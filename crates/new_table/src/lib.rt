@@ -3,9 +3,11 @@
 use definitions::ATTRIBUTE_LIMIT;
 use definitions::HEADER_BYTES;
 use definitions::INPUT_LIMIT;
+use definitions::KIND_EMPTY;
 use definitions::SIDE_LIMIT;
 use definitions::SLOT_BYTES;
 use definitions::SLOT_LIMIT;
+use definitions::UNUSED_PLACE;
 use graph_fields::attribute_count;
 use graph_fields::attribute_word;
 use graph_fields::input_count;
@@ -36,7 +38,7 @@ ghost use Rattle.definitions.specs.Lists.{padded, concatMap, filter, range};
 ghost use Rattle.definitions.specs.Graph.{headerBytes, slotLimit, attributeLimit, slotCount, emptySlot, graphOf, slotOf, slotBlock, graphBlock};
 ghost use Rattle.definitions.specs.Rule.{targetCount, ruleOutputCount, ruleOf, targetOf};
 ghost use Rattle.definitions.specs.Rewriting.{stays, targetSlot, newSlot};
-ghost use Rattle.graph_fields.specs.Readable as graphs;
+ghost use Rattle.graph_fields.specs.Layout.{ReadableGraph};
 ghost use Rattle.writing.specs.Records.{Stands};
 ghost use Rattle.vacancies.specs.Vacant.{Marks};
 ghost use Rattle.redirection.specs.Moves.{moved};
@@ -49,18 +51,18 @@ fn empty_record() -> Record
     ensures { λ r. ⌜ Stands r emptySlot ⌝ }
 {
     Record {
-        kind: 0,
+        kind: KIND_EMPTY as u8,
         operator: 0,
         n: 0,
         m: 0,
-        inputs: [65535u16; INPUT_LIMIT],
+        inputs: [UNUSED_PLACE; INPUT_LIMIT],
         attributes: [0u32; ATTRIBUTE_LIMIT],
     }
 }
 
 // Every attribute place of slot k; zero stands in the unused ones.
 fn attribute_words(graph: &[u8], k: usize) -> [u32; ATTRIBUTE_LIMIT]
-    requires { ⌜ graphs.Readable (now graph) ⌝ }
+    requires { ⌜ ReadableGraph (now graph) ⌝ }
     requires { ⌜ k < slotCount (now graph) ⌝ }
     ensures { λ r. ⌜ r ≡ padded attributeLimit 0 (slotOf (graphOf (now (graph .entry))) k .attributes) ⌝ }
 {
@@ -76,7 +78,7 @@ fn attribute_words(graph: &[u8], k: usize) -> [u32; ATTRIBUTE_LIMIT]
 
 // The record of a vertex that stays: its input places redirected, and nothing else changed.
 fn staying_record(graph: &[u8], k: usize, way: Redirection) -> Record
-    requires { ⌜ graphs.Readable (now graph) ⌝ }
+    requires { ⌜ ReadableGraph (now graph) ⌝ }
     requires { ⌜ k < slotCount (now graph) ⌝ }
     ensures { λ r. ⌜ Stands r (movedSlot (moved way) (slotOf (graphOf (now (graph .entry))) k)) ⌝ }
 {

@@ -5,7 +5,7 @@ use mathlib.Core.Option.{Option, none, some}
 use Prim.Native.Nat.{ℕ, _-_, _^_}
 use lib.IntN.{ℤ, pos, negsuc}
 use lib.ListN.{getD}
-use Rattle.definitions.specs.Rule.{Operation, operations, remainder}
+use Rattle.definitions.specs.Rule.{formAdd, Operation, operations, remainder}
 use Rattle.definitions.specs.Attributes.{inRange}
 use Rattle.numbers.specs.declared.Value.{Value}
 use Rattle.numbers.specs.declared.Value.the-variants.{Nothing, Plus, Minus}
@@ -27,4 +27,4 @@ bounded (some z) = inRange z
 
 -- the operation of a node's form, 3 to 7
 abbrev pub operationOf : ℕ → Operation
-operationOf form = getD operations (form - 3) remainder
+operationOf form = getD operations (form - formAdd) remainder

@@ -1,5 +1,9 @@
 // Exact arithmetic on whole numbers by sign and magnitude: what an operation of an expression gives for two operands. No step
 // makes a number that a u64 does not hold, and a result that is out of range is Nothing.
+use definitions::FORM_ADD;
+use definitions::FORM_DIVIDE;
+use definitions::FORM_MULTIPLY;
+use definitions::FORM_SUBTRACT;
 use fields::Integer;
 ghost use mathlib.Core.Path.{_≡_};
 ghost use mathlib.Core.Bool.{true};
@@ -199,21 +203,21 @@ fn remainder(x: Integer, y: Integer) -> Value
 
 // The result of the operation with that form.
 pub fn operate(form: usize, x: Integer, y: Integer) -> Value
-    requires { ⌜ 3 ≤ form ⌝ }
+    requires { ⌜ rules.formAdd ≤ form ⌝ }
     requires { ⌜ inRange (integerOf x) ≡ true ⌝ }
     requires { ⌜ inRange (integerOf y) ≡ true ⌝ }
     ensures { λ r. ⌜ valueOf r ≡ results.operate (operationOf form) (integerOf x) (integerOf y) ⌝ }
 {
-    if form == 3 {
+    if form == FORM_ADD {
         return add(x, y);
     }
-    if form == 4 {
+    if form == FORM_SUBTRACT {
         return subtract(x, y);
     }
-    if form == 5 {
+    if form == FORM_MULTIPLY {
         return multiply(x, y);
     }
-    if form == 6 {
+    if form == FORM_DIVIDE {
         return divide(x, y);
     }
     remainder(x, y)
@@ -221,7 +225,7 @@ pub fn operate(form: usize, x: Integer, y: Integer) -> Value
 
 // The result of the operation for a number and a result.
 fn combine_right(form: usize, x: Integer, y: Value) -> Value
-    requires { ⌜ 3 ≤ form ⌝ }
+    requires { ⌜ rules.formAdd ≤ form ⌝ }
     requires { ⌜ inRange (integerOf x) ≡ true ⌝ }
     requires { ⌜ bounded (valueOf y) ≡ true ⌝ }
     ensures { λ r. ⌜ valueOf r ≡ results.combine (operationOf form) (some (integerOf x)) (valueOf y) ⌝ }
@@ -235,7 +239,7 @@ fn combine_right(form: usize, x: Integer, y: Value) -> Value
 
 // The result of the operation for two results: an operand that has none gives none.
 pub fn combine(form: usize, x: Value, y: Value) -> Value
-    requires { ⌜ 3 ≤ form ⌝ }
+    requires { ⌜ rules.formAdd ≤ form ⌝ }
     requires { ⌜ bounded (valueOf x) ≡ true ⌝ }
     requires { ⌜ bounded (valueOf y) ≡ true ⌝ }
     ensures { λ r. ⌜ valueOf r ≡ results.combine (operationOf form) (valueOf x) (valueOf y) ⌝ }

@@ -1,8 +1,11 @@
 // The table of operators, the table of kinds, and the one test of a record's counts against them.
 // Both block checks use it.
+use definitions::KIND_CALL;
+use definitions::KIND_PROJ;
+use definitions::OPERATOR_COUNT;
 ghost use mathlib.Core.Path.{_≡_};
 ghost use Prim.Native.Nat.{_<_, _≤_};
-ghost use Rattle.definitions.specs.Operators.{countsOf, rowOf, shapeFits};
+ghost use Rattle.definitions.specs.Operators.{kindCall, kindProj, operatorCount, countsOf, rowOf, shapeFits};
 
 // How many inputs and attributes an operator has.
 pub struct Counts {
@@ -11,7 +14,7 @@ pub struct Counts {
 }
 
 // Operators 1 to 14, in order.
-const OPERATORS: [Counts; 14] = [
+const OPERATORS: [Counts; OPERATOR_COUNT] = [
     // add, mul, sub
     Counts {
         inputs: 2,
@@ -83,7 +86,7 @@ pub struct Row {
 }
 
 // Kinds 0 to 5; a Call's row is not used.
-const KINDS: [Row; 6] = [
+const KINDS: [Row; KIND_PROJ + 1] = [
     Row {
         least: 0,
         greatest: 0,
@@ -118,7 +121,7 @@ const KINDS: [Row; 6] = [
 
 // The counts of an operator.
 pub fn counts_of(operator: usize) -> Counts
-    requires { ⌜ (1 ≤ operator) × (operator ≤ 14) ⌝ }
+    requires { ⌜ (1 ≤ operator) × (operator ≤ operatorCount) ⌝ }
     ensures { λ r. ⌜ (r .inputs ≡ countsOf operator .inputs) × (r .attributes ≡ countsOf operator .attributes) ⌝ }
 {
     OPERATORS[operator - 1]
@@ -126,7 +129,7 @@ pub fn counts_of(operator: usize) -> Counts
 
 // The row of a kind.
 pub fn row_of(kind: usize) -> Row
-    requires { ⌜ kind ≤ 5 ⌝ }
+    requires { ⌜ kind ≤ kindProj ⌝ }
     ensures { λ r. ⌜ (r .least ≡ rowOf kind .least) × (r .greatest ≡ rowOf kind .greatest) × (r .attributes ≡ rowOf kind .attributes) ⌝ }
 {
     KINDS[kind]
@@ -134,12 +137,12 @@ pub fn row_of(kind: usize) -> Row
 
 // Whether a Call's operator is known, with that operator's counts.
 fn call_fits(operator: usize, n: usize, m: usize) -> bool
-    ensures { λ r. ⌜ r ≡ shapeFits 3 operator n m ⌝ }
+    ensures { λ r. ⌜ r ≡ shapeFits kindCall operator n m ⌝ }
 {
     if operator < 1 {
         return false;
     }
-    if 14 < operator {
+    if OPERATOR_COUNT < operator {
         return false;
     }
     let counts = counts_of(operator);
@@ -156,10 +159,10 @@ fn call_fits(operator: usize, n: usize, m: usize) -> bool
 pub fn shape_fits(kind: usize, operator: usize, n: usize, m: usize) -> bool
     ensures { λ r. ⌜ r ≡ shapeFits kind operator n m ⌝ }
 {
-    if kind == 3 {
+    if kind == KIND_CALL {
         return call_fits(operator, n, m);
     }
-    if 5 < kind {
+    if KIND_PROJ < kind {
         return false;
     }
     if operator != 0 {

@@ -3,6 +3,7 @@
 use definitions::INPUT_LIMIT;
 use definitions::OUTPUT_LIMIT;
 use definitions::SIDE_LIMIT;
+use definitions::UNUSED_PLACE;
 use graph_fields::input_at;
 use graph_fields::input_count;
 use graph_fields::output_at;
@@ -19,8 +20,8 @@ ghost use lib.ListN.{length, getD};
 ghost use Rattle.definitions.specs.Lists.{padded};
 ghost use Rattle.definitions.specs.Graph.{inputLimit, outputLimit, unusedPlace, slotCount, outputCount, graphOf, inputsOf};
 ghost use Rattle.definitions.specs.Rule.{sideLimit, targetCount, ruleOutputCount, originOf, ruleOf, targetOf};
-ghost use Rattle.graph_fields.specs.Readable as graphs;
-ghost use Rattle.rule_fields.specs.Readable.{Whole, Readable, Layered};
+ghost use Rattle.graph_fields.specs.Layout.{WholeGraph, ReadableGraph};
+ghost use Rattle.rule_fields.specs.Layout.{WholeRule, ReadableRule, Layered};
 ghost use Rattle.redirection.specs.Moves.{Resolvable, resolveIn, redirectBy, moveOf, moved};
 
 // What names `from` is to name `to`.
@@ -50,7 +51,7 @@ fn place_of(images: &[u16; SIDE_LIMIT], places: &[u16; SIDE_LIMIT], p: usize) ->
 
 // What output i of the rule moves: its source output's image to the slot that its target output names.
 fn move_of(rule: &[u8], images: &[u16; SIDE_LIMIT], places: &[u16; SIDE_LIMIT], i: usize) -> Move
-    requires { ⌜ Whole (now rule) ⌝ }
+    requires { ⌜ WholeRule (now rule) ⌝ }
     requires { ⌜ Layered (now rule) ⌝ }
     requires { ⌜ Resolvable (now rule) ⌝ }
     requires { ⌜ length (now images) ≡ sideLimit ⌝ }
@@ -71,7 +72,7 @@ pub fn redirection_of(
     images: &[u16; SIDE_LIMIT],
     places: &[u16; SIDE_LIMIT],
 ) -> Redirection
-    requires { ⌜ Whole (now rule) ⌝ }
+    requires { ⌜ WholeRule (now rule) ⌝ }
     requires { ⌜ Layered (now rule) ⌝ }
     requires { ⌜ Resolvable (now rule) ⌝ }
     requires { ⌜ 0 < ruleOutputCount (now rule) ⌝ }
@@ -108,7 +109,7 @@ fn redirected(way: Redirection, v: u16) -> u16
 
 // What input place i of slot k names after the rewriting, where the slot stays.
 fn input_after(graph: &[u8], k: usize, i: usize, way: Redirection) -> u16
-    requires { ⌜ graphs.Readable (now graph) ⌝ }
+    requires { ⌜ ReadableGraph (now graph) ⌝ }
     requires { ⌜ k < slotCount (now graph) ⌝ }
     requires { ⌜ i < length (inputsOf (graphOf (now graph)) k) ⌝ }
     ensures { λ r. ⌜ r ≡ moved way (getD (inputsOf (graphOf (now (graph .entry))) k) i unusedPlace) ⌝ }
@@ -119,7 +120,7 @@ fn input_after(graph: &[u8], k: usize, i: usize, way: Redirection) -> u16
 
 // What output place i names after the rewriting.
 fn output_after(graph: &[u8], i: usize, way: Redirection) -> u16
-    requires { ⌜ graphs.Whole (now graph) ⌝ }
+    requires { ⌜ WholeGraph (now graph) ⌝ }
     requires { ⌜ i < outputCount (now graph) ⌝ }
     ensures { λ r. ⌜ r ≡ moved way (getD (graphOf (now (graph .entry)) .outputs) i unusedPlace) ⌝ }
 {
@@ -129,12 +130,12 @@ fn output_after(graph: &[u8], i: usize, way: Redirection) -> u16
 
 // Every input place of slot k, redirected; 65535 stands in the unused ones.
 pub fn staying_inputs(graph: &[u8], k: usize, way: Redirection) -> [u16; INPUT_LIMIT]
-    requires { ⌜ graphs.Readable (now graph) ⌝ }
+    requires { ⌜ ReadableGraph (now graph) ⌝ }
     requires { ⌜ k < slotCount (now graph) ⌝ }
     ensures { λ r. ⌜ r ≡ padded inputLimit unusedPlace (map (moved way) (inputsOf (graphOf (now (graph .entry))) k)) ⌝ }
 {
     let count = input_count(graph, k);
-    let mut inputs = [65535u16; INPUT_LIMIT];
+    let mut inputs = [UNUSED_PLACE; INPUT_LIMIT];
     let mut i = 0;
     while i < count {
         inputs[i] = input_after(graph, k, i, way);
@@ -145,11 +146,11 @@ pub fn staying_inputs(graph: &[u8], k: usize, way: Redirection) -> [u16; INPUT_L
 
 // Every output place of the graph, redirected; 65535 stands in the unused ones.
 pub fn new_outputs(graph: &[u8], way: Redirection) -> [u16; OUTPUT_LIMIT]
-    requires { ⌜ graphs.Whole (now graph) ⌝ }
+    requires { ⌜ WholeGraph (now graph) ⌝ }
     ensures { λ r. ⌜ r ≡ padded outputLimit unusedPlace (map (moved way) (graphOf (now (graph .entry)) .outputs)) ⌝ }
 {
     let count = graph_fields::output_count(graph);
-    let mut outputs = [65535u16; OUTPUT_LIMIT];
+    let mut outputs = [UNUSED_PLACE; OUTPUT_LIMIT];
     let mut i = 0;
     while i < count {
         outputs[i] = output_after(graph, i, way);
@@ -165,7 +166,7 @@ pub fn target_inputs(
     images: &[u16; SIDE_LIMIT],
     places: &[u16; SIDE_LIMIT],
 ) -> [u16; INPUT_LIMIT]
-    requires { ⌜ Readable (now rule) ⌝ }
+    requires { ⌜ ReadableRule (now rule) ⌝ }
     requires { ⌜ Resolvable (now rule) ⌝ }
     requires { ⌜ length (now images) ≡ sideLimit ⌝ }
     requires { ⌜ length (now places) ≡ sideLimit ⌝ }
@@ -174,7 +175,7 @@ pub fn target_inputs(
         (map (resolveIn (now (images .entry)) (now (places .entry))) (targetOf (ruleOf (now (rule .entry))) t .inputs)) ⌝ }
 {
     let count = target_input_count(rule, t);
-    let mut inputs = [65535u16; INPUT_LIMIT];
+    let mut inputs = [UNUSED_PLACE; INPUT_LIMIT];
     let mut i = 0;
     while i < count {
         let named = target_input(rule, t, i);

@@ -16,10 +16,10 @@ use Rattle.definitions.specs.Rule.{nodeLimit, sourceCount, targetCount, ruleOut
 use Rattle.laws.proofs.Lists.{needed, lowest-passed, all-at, allBelow-at}
 use Rattle.laws.proofs.Rule.{source-output-of, few-sources, few-targets, few-rule-outputs}
 use Rattle.rule_records.proofs.Laws.{pattern-inputs, pattern-attributes}
-use Rattle.rule_fields.specs.Readable.{Whole, Readable, Layered}
+use Rattle.rule_fields.specs.Layout.{WholeRule, ReadableRule, Layered}
 
 module _ (block : List ℕ) where
-  pub whole : ruleHeaderFits block ≡ true → Whole block
+  pub whole : ruleHeaderFits block ≡ true → WholeRule block
   unfolding ruleHeaderFits ruleSizesFit
   whole h = record {
     size = eqb-true _ _ (needed (eqb (length block) (nodeAt block (nodeCount block))) h (λ f. simp f));
@@ -41,7 +41,7 @@ module _ (block : List ℕ) where
     pub pattern : (v : ℕ) → v < sourceCount block + targetCount block → patternFits block (vertexAt v) ≡ true
     pattern v l = needed (patternFits block (vertexAt v)) (good v l) (λ f. simp f)
 
-    pub readable : Whole block → Readable block
+    pub readable : WholeRule block → ReadableRule block
     readable w = record {
       whole = w;
       inputs = λ v l. pattern-inputs block (vertexAt v) (pattern v l);

@@ -12,7 +12,7 @@ use lib.Dec.{eqb, ltb, leb, leb·zero}
 use lib.ListN.{getD, set, replicate, List·getD-map}
 use Rattle.definitions.specs.Lists.{build, lowest}
 use Rattle.definitions.specs.Fields.{byteAt, filled}
-use Rattle.definitions.specs.Rule.{nodeCount, nodeAt, Expression, anything, constant, access, apply, nodeForm, nodeLeft, nodeRight, nodeFrom, expressions, expressionOf, operandFits, nodeFits, badNode, accessesBelow}
+use Rattle.definitions.specs.Rule.{nodeCount, nodeAt, Expression, anything, constant, access, apply, formAny, formConstant, formAccess, nodeForm, nodeLeft, nodeRight, nodeFrom, expressions, expressionOf, operandFits, nodeFits, badNode, accessesBelow}
 use Rattle.laws.proofs.Lists.{decided, and-left, and-right, lowest-passed}
 use Rattle.laws.proofs.Builds.{build-more, getD-padded, map-build}
 use Rattle.rule_expressions.specs.Access.{topAccess, topFrom}
@@ -48,21 +48,21 @@ module _ (block : List ℕ) where
   top-node : (earlier : List Expression) (k : ℕ) → topAccess (nodeFrom block earlier k) ≡ topFrom block (map topAccess earlier) k
   unfolding nodeFrom topFrom topAccess
   top-node earlier k =
-      go (decided (eqb (nodeForm block k) 0)) (decided (eqb (nodeForm block k) 1)) (decided (eqb (nodeForm block k) 2))
+      go (decided (eqb (nodeForm block k) formAny)) (decided (eqb (nodeForm block k) formConstant)) (decided (eqb (nodeForm block k) formAccess))
     where
-      many : eqb (nodeForm block k) 0 ≡ false → eqb (nodeForm block k) 1 ≡ false → 2 ≤ nodeForm block k
-      many s t = omega (arith, eqb-false (nodeForm block k) 0 s, eqb-false (nodeForm block k) 1 t)
+      many : eqb (nodeForm block k) formAny ≡ false → eqb (nodeForm block k) formConstant ≡ false → formAccess ≤ nodeForm block k
+      many s t = omega (arith, eqb-false (nodeForm block k) formAny s, eqb-false (nodeForm block k) formConstant t)
 
-      go : (eqb (nodeForm block k) 0 ≡ true) ⊎ (eqb (nodeForm block k) 0 ≡ false)
-          → (eqb (nodeForm block k) 1 ≡ true) ⊎ (eqb (nodeForm block k) 1 ≡ false)
-          → (eqb (nodeForm block k) 2 ≡ true) ⊎ (eqb (nodeForm block k) 2 ≡ false)
+      go : (eqb (nodeForm block k) formAny ≡ true) ⊎ (eqb (nodeForm block k) formAny ≡ false)
+          → (eqb (nodeForm block k) formConstant ≡ true) ⊎ (eqb (nodeForm block k) formConstant ≡ false)
+          → (eqb (nodeForm block k) formAccess ≡ true) ⊎ (eqb (nodeForm block k) formAccess ≡ false)
           → topAccess (nodeFrom block earlier k) ≡ topFrom block (map topAccess earlier) k
-      go (inl s) t u = simp (s, lt-ltb (nodeForm block k) 2 (omega (arith, eqb-true (nodeForm block k) 0 s)))
-      go (inr s) (inl t) u = simp (s, t, lt-ltb (nodeForm block k) 2 (omega (arith, eqb-true (nodeForm block k) 1 t)))
+      go (inl s) t u = simp (s, lt-ltb (nodeForm block k) formAccess (omega (arith, eqb-true (nodeForm block k) formAny s)))
+      go (inr s) (inl t) u = simp (s, t, lt-ltb (nodeForm block k) formAccess (omega (arith, eqb-true (nodeForm block k) formConstant t)))
       go (inr s) (inr t) (inl u) =
-          simp (s, t, u, le-ltb (nodeForm block k) 2 (omega (arith, eqb-true (nodeForm block k) 2 u))) (sym (add-one (nodeLeft block k)))
+          simp (s, t, u, le-ltb (nodeForm block k) formAccess (omega (arith, eqb-true (nodeForm block k) formAccess u))) (sym (add-one (nodeLeft block k)))
       go (inr s) (inr t) (inr u) =
-          simp (s, t, u, le-ltb (nodeForm block k) 2 (many s t))
+          simp (s, t, u, le-ltb (nodeForm block k) formAccess (many s t))
           (ap₂ max (sym (List·getD-map topAccess earlier (nodeLeft block k) anything))
           (sym (List·getD-map topAccess earlier (nodeRight block k) anything)))
 
@@ -93,15 +93,15 @@ module _ (block : List ℕ) where
 
   operand-earlier : (k j : ℕ) → operandFits block k j ≡ true → j < k
   unfolding operandFits
-  operand-earlier k j h = ltb-true j k (and-left (ltb j k) (not (eqb (nodeForm block j) 0)) h)
+  operand-earlier k j h = ltb-true j k (and-left (ltb j k) (not (eqb (nodeForm block j) formAny)) h)
 
   module _ (k : ℕ) (fits : nodeFits block k ≡ true) (operation : 2 < nodeForm block k) where
     operands : (leb (nodeForm block k) 7 && operandFits block k (nodeLeft block k) && operandFits block k (nodeRight block k)) ≡ true
     unfolding nodeFits
     operands =
-        let no-any : eqb (nodeForm block k) 0 ≡ false = ne-eqb (nodeForm block k) 0 (λ e. omega arith) in
-        let no-constant : eqb (nodeForm block k) 1 ≡ false = ne-eqb (nodeForm block k) 1 (λ e. omega arith) in
-        let no-access : eqb (nodeForm block k) 2 ≡ false = ne-eqb (nodeForm block k) 2 (λ e. omega arith) in
+        let no-any : eqb (nodeForm block k) formAny ≡ false = ne-eqb (nodeForm block k) formAny (λ e. omega arith) in
+        let no-constant : eqb (nodeForm block k) formConstant ≡ false = ne-eqb (nodeForm block k) formConstant (λ e. omega arith) in
+        let no-access : eqb (nodeForm block k) formAccess ≡ false = ne-eqb (nodeForm block k) formAccess (λ e. omega arith) in
         last (eqb (byteAt block (nodeAt block k + 3)) 0) (filled block (nodeAt block k + 4) (nodeAt block k + 8) 0)
         (leb (nodeForm block k) 7 && operandFits block k (nodeLeft block k) && operandFits block k (nodeRight block k))
         (simp (no-any, no-constant, no-access) at fits)

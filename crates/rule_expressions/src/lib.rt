@@ -1,11 +1,16 @@
 // The faults of a rule's expression nodes, and of the attributes that use them. Each test gives the lowest place with a fault, or
 // the number of places looked at where there is none.
 use definitions::ATTRIBUTE_LIMIT;
+use definitions::FORM_ACCESS;
+use definitions::FORM_ANY;
+use definitions::FORM_CONSTANT;
+use definitions::FORM_REMAINDER;
 use definitions::NODE_BYTES;
 use definitions::NODE_LIMIT;
 use definitions::PATTERN_BYTES;
 use definitions::RULE_HEADER_BYTES;
 use fields::byte_at;
+use fields::greater;
 use fields::is_filled;
 use rule_fields::node_count;
 use rule_fields::source_count;
@@ -15,21 +20,21 @@ use rule_nodes::node_byte;
 use rule_nodes::node_form;
 ghost use mathlib.Core.Path.{_≡_};
 ghost use mathlib.Core.Bool.{true, not, _&&_};
-ghost use Prim.Native.Nat.{ℕ, _+_, _<_, _≤_, max};
+ghost use Prim.Native.Nat.{ℕ, _+_, _<_, _≤_};
 ghost use lib.Dec.{eqb, ltb, leb};
 ghost use lib.ListN.{length, getD};
 ghost use Rattle.definitions.specs.Lists.{within, lowest};
 ghost use Rattle.definitions.specs.Fields.{byteAt, filled};
 ghost use Rattle.definitions.specs.Graph.{attributeLimit};
-ghost use Rattle.definitions.specs.Rule.{ruleHeaderBytes, nodeBytes, sourceCount, targetCount, nodeCount, nodeAt, nodeForm, expressionOf, operandFits, nodeFits, badNode, useFits, badUse};
-ghost use Rattle.rule_fields.specs.Readable.{Whole, Readable};
+ghost use Rattle.definitions.specs.Rule.{ruleHeaderBytes, nodeBytes, sourceCount, targetCount, nodeCount, nodeAt, formRemainder, nodeForm, expressionOf, operandFits, nodeFits, badNode, useFits, badUse};
+ghost use Rattle.rule_fields.specs.Layout.{WholeRule, ReadableRule};
 ghost use Rattle.rule_expressions.specs.Access.{topAccess, topFrom};
 
 // ---- nodes
 
 // Whether node k leaves its number zero.
 fn number_unused(rule: &[u8], k: usize) -> bool
-    requires { ⌜ Whole (now rule) ⌝ }
+    requires { ⌜ WholeRule (now rule) ⌝ }
     requires { ⌜ k < nodeCount (now rule) ⌝ }
     ensures { λ r. ⌜ r ≡ filled (now (rule .entry)) (nodeAt (now (rule .entry)) k + 4) (nodeAt (now (rule .entry)) k + 8) 0 ⌝ }
 {
@@ -69,14 +74,14 @@ fn access_fits(rule: &[u8], vertex: usize, attribute: usize) -> bool
 
 // Whether node k may name node j as an operand: an earlier one that is not any.
 fn operand_fits(rule: &[u8], k: usize, j: usize) -> bool
-    requires { ⌜ Whole (now rule) ⌝ }
+    requires { ⌜ WholeRule (now rule) ⌝ }
     requires { ⌜ k < nodeCount (now rule) ⌝ }
     ensures { λ r. ⌜ r ≡ operandFits (now (rule .entry)) k j ⌝ }
 {
     if k <= j {
         return false;
     }
-    if node_form(rule, j) == 0 {
+    if node_form(rule, j) == FORM_ANY {
         return false;
     }
     true
@@ -84,11 +89,11 @@ fn operand_fits(rule: &[u8], k: usize, j: usize) -> bool
 
 // Whether node k, whose form is none of 0 to 2, is an operation with two operands that it may name.
 fn operation_fits(rule: &[u8], k: usize, form: usize, left: usize, right: usize) -> bool
-    requires { ⌜ Whole (now rule) ⌝ }
+    requires { ⌜ WholeRule (now rule) ⌝ }
     requires { ⌜ k < nodeCount (now rule) ⌝ }
-    ensures { λ r. ⌜ r ≡ (leb form 7 && operandFits (now (rule .entry)) k left && operandFits (now (rule .entry)) k right) ⌝ }
+    ensures { λ r. ⌜ r ≡ (leb form formRemainder && operandFits (now (rule .entry)) k left && operandFits (now (rule .entry)) k right) ⌝ }
 {
-    if 7 < form {
+    if FORM_REMAINDER < form {
         return false;
     }
     if !operand_fits(rule, k, left) {
@@ -99,7 +104,7 @@ fn operation_fits(rule: &[u8], k: usize, form: usize, left: usize, right: usize)
 
 // Whether node k has a form, its used fields in range, and its unused fields zero.
 fn node_fits(rule: &[u8], k: usize) -> bool
-    requires { ⌜ Whole (now rule) ⌝ }
+    requires { ⌜ WholeRule (now rule) ⌝ }
     requires { ⌜ k < nodeCount (now rule) ⌝ }
     ensures { λ r. ⌜ r ≡ nodeFits (now (rule .entry)) k ⌝ }
 {
@@ -109,17 +114,17 @@ fn node_fits(rule: &[u8], k: usize) -> bool
     if node_byte(rule, k, 3) != 0 {
         return false;
     }
-    if form == 1 {
+    if form == FORM_CONSTANT {
         return operands_unused(left, right);
     }
     // Only a constant has a number.
     if !number_unused(rule, k) {
         return false;
     }
-    if form == 0 {
+    if form == FORM_ANY {
         return operands_unused(left, right);
     }
-    if form == 2 {
+    if form == FORM_ACCESS {
         return access_fits(rule, left, right);
     }
     operation_fits(rule, k, form, left, right)
@@ -127,7 +132,7 @@ fn node_fits(rule: &[u8], k: usize) -> bool
 
 // The lowest node with a fault, or the number of nodes.
 pub fn bad_node(rule: &[u8]) -> usize
-    requires { ⌜ Whole (now rule) ⌝ }
+    requires { ⌜ WholeRule (now rule) ⌝ }
     ensures { λ r. ⌜ r ≡ lowest (badNode (now (rule .entry))) (nodeCount (now (rule .entry))) ⌝ }
 {
     let nodes = node_count(rule);
@@ -143,19 +148,10 @@ pub fn bad_node(rule: &[u8]) -> usize
 
 // ---- uses
 
-fn greater(a: usize, b: usize) -> usize
-    ensures { λ r. ⌜ r ≡ max a b ⌝ }
-{
-    if a < b {
-        return b;
-    }
-    a
-}
-
 // The top of node k: one more than the highest source vertex that it accesses, itself or through the nodes that it names, or 0
 // where it accesses none. The tops of the earlier nodes are in `tops`.
 fn node_top(rule: &[u8], k: usize, tops: &[usize; NODE_LIMIT]) -> usize
-    requires { ⌜ Whole (now rule) ⌝ }
+    requires { ⌜ WholeRule (now rule) ⌝ }
     requires { ⌜ k < nodeCount (now rule) ⌝ }
     requires { ⌜ nodeFits (now rule) k ≡ true ⌝ }
     ensures { λ r. ⌜ r ≡ topFrom (now (rule .entry)) (now (tops .entry)) k ⌝ }
@@ -163,10 +159,10 @@ fn node_top(rule: &[u8], k: usize, tops: &[usize; NODE_LIMIT]) -> usize
     let form = node_form(rule, k);
     let left = node_byte(rule, k, 1);
     let right = node_byte(rule, k, 2);
-    if form < 2 {
+    if form < FORM_ACCESS {
         return 0;
     }
-    if form == 2 {
+    if form == FORM_ACCESS {
         return left + 1;
     }
     let first = tops[left];
@@ -177,7 +173,7 @@ fn node_top(rule: &[u8], k: usize, tops: &[usize; NODE_LIMIT]) -> usize
 // The top of every node. Each is found once, from those of its operands: to follow the operands from each use anew could take a
 // time that doubles with every node.
 fn access_tops(rule: &[u8]) -> [usize; NODE_LIMIT]
-    requires { ⌜ Whole (now rule) ⌝ }
+    requires { ⌜ WholeRule (now rule) ⌝ }
     requires { ⌜ nodeCount (now rule) ≤ lowest (badNode (now rule)) (nodeCount (now rule)) ⌝ }
     ensures { λ r. ⌜ ((k : ℕ) → getD r k 0 ≡ topAccess (expressionOf (now (rule .entry)) k)) ⌝ }
 {
@@ -194,7 +190,7 @@ fn access_tops(rule: &[u8]) -> [usize; NODE_LIMIT]
 
 // Whether vertex v may use node k as an attribute.
 fn use_fits(rule: &[u8], tops: &[usize; NODE_LIMIT], v: usize, k: usize) -> bool
-    requires { ⌜ Whole (now rule) ⌝ }
+    requires { ⌜ WholeRule (now rule) ⌝ }
     requires { ⌜ ((n : ℕ) → getD (now tops) n 0 ≡ topAccess (expressionOf (now rule) n)) ⌝ }
     ensures { λ r. ⌜ r ≡ useFits (now (rule .entry)) v k ⌝ }
 {
@@ -204,7 +200,7 @@ fn use_fits(rule: &[u8], tops: &[usize; NODE_LIMIT], v: usize, k: usize) -> bool
     if v < source_count(rule) {
         return tops[k] <= v;
     }
-    if node_form(rule, k) == 0 {
+    if node_form(rule, k) == FORM_ANY {
         return false;
     }
     true
@@ -212,7 +208,7 @@ fn use_fits(rule: &[u8], tops: &[usize; NODE_LIMIT], v: usize, k: usize) -> bool
 
 // Whether vertex v may use each node that is an attribute of it.
 fn vertex_uses_fit(rule: &[u8], tops: &[usize; NODE_LIMIT], v: usize) -> bool
-    requires { ⌜ Readable (now rule) ⌝ }
+    requires { ⌜ ReadableRule (now rule) ⌝ }
     requires { ⌜ v < sourceCount (now rule) + targetCount (now rule) ⌝ }
     requires { ⌜ ((n : ℕ) → getD (now tops) n 0 ≡ topAccess (expressionOf (now rule) n)) ⌝ }
     ensures { λ r. ⌜ r ≡ not (badUse (now (rule .entry)) v) ⌝ }
@@ -232,7 +228,7 @@ fn vertex_uses_fit(rule: &[u8], tops: &[usize; NODE_LIMIT], v: usize) -> bool
 
 // The lowest vertex that uses a node wrongly, or the number of vertices.
 pub fn bad_use(rule: &[u8]) -> usize
-    requires { ⌜ Readable (now rule) ⌝ }
+    requires { ⌜ ReadableRule (now rule) ⌝ }
     requires { ⌜ nodeCount (now rule) ≤ lowest (badNode (now rule)) (nodeCount (now rule)) ⌝ }
     ensures { λ r. ⌜ r ≡ lowest (badUse (now (rule .entry))) (sourceCount (now (rule .entry)) + targetCount (now (rule .entry))) ⌝ }
 {

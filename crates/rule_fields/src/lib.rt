@@ -1,4 +1,6 @@
 // A rule block's fields by index, as fields of the rule for which the block stands.
+use definitions::KIND_EMPTY;
+use definitions::KIND_VARIABLE;
 use definitions::PATTERN_BYTES;
 use definitions::RULE_HEADER_BYTES;
 use fields::byte_at;
@@ -8,7 +10,7 @@ ghost use lib.ListN.{length, getD};
 ghost use Rattle.definitions.specs.Fields.{byteAt};
 ghost use Rattle.definitions.specs.Graph.{inputLimit, attributeLimit};
 ghost use Rattle.definitions.specs.Rule.{ruleHeaderBytes, sourceCount, targetCount, ruleOutputCount, nodeCount, vertexAt, anything, made, originOf, expressionOf, ruleOf, sourceOf, targetOf, sourceInputs, isRuleInput};
-ghost use Rattle.rule_fields.specs.Readable.{Whole, Readable};
+ghost use Rattle.rule_fields.specs.Layout.{WholeRule, ReadableRule};
 
 // How many source vertices the header counts.
 pub fn source_count(rule: &[u8]) -> usize
@@ -44,7 +46,7 @@ pub fn node_count(rule: &[u8]) -> usize
 
 // The kind of source vertex j.
 pub fn source_kind(rule: &[u8], j: usize) -> usize
-    requires { ⌜ Whole (now rule) ⌝ }
+    requires { ⌜ WholeRule (now rule) ⌝ }
     requires { ⌜ j < sourceCount (now rule) ⌝ }
     ensures { λ r. ⌜ (r ≡ sourceOf (ruleOf (now (rule .entry))) j .kind) × (r < 256) ⌝ }
 {
@@ -53,7 +55,7 @@ pub fn source_kind(rule: &[u8], j: usize) -> usize
 
 // The operator of source vertex j.
 pub fn source_operator(rule: &[u8], j: usize) -> usize
-    requires { ⌜ Whole (now rule) ⌝ }
+    requires { ⌜ WholeRule (now rule) ⌝ }
     requires { ⌜ j < sourceCount (now rule) ⌝ }
     ensures { λ r. ⌜ (r ≡ sourceOf (ruleOf (now (rule .entry))) j .operator) × (r < 256) ⌝ }
 {
@@ -62,7 +64,7 @@ pub fn source_operator(rule: &[u8], j: usize) -> usize
 
 // How many inputs source vertex j has.
 pub fn source_input_count(rule: &[u8], j: usize) -> usize
-    requires { ⌜ Readable (now rule) ⌝ }
+    requires { ⌜ ReadableRule (now rule) ⌝ }
     requires { ⌜ j < sourceCount (now rule) ⌝ }
     ensures { λ r. ⌜ (r ≡ length (sourceInputs (ruleOf (now (rule .entry))) j)) × (r ≤ inputLimit) ⌝ }
 {
@@ -71,7 +73,7 @@ pub fn source_input_count(rule: &[u8], j: usize) -> usize
 
 // What input place i of source vertex j names.
 pub fn source_input(rule: &[u8], j: usize, i: usize) -> usize
-    requires { ⌜ Readable (now rule) ⌝ }
+    requires { ⌜ ReadableRule (now rule) ⌝ }
     requires { ⌜ j < sourceCount (now rule) ⌝ }
     requires { ⌜ i < length (sourceInputs (ruleOf (now rule)) j) ⌝ }
     ensures { λ r. ⌜ (r ≡ getD (sourceInputs (ruleOf (now (rule .entry))) j) i 255) × (r < 256) ⌝ }
@@ -81,7 +83,7 @@ pub fn source_input(rule: &[u8], j: usize, i: usize) -> usize
 
 // How many attributes source vertex j has.
 pub fn source_attribute_count(rule: &[u8], j: usize) -> usize
-    requires { ⌜ Readable (now rule) ⌝ }
+    requires { ⌜ ReadableRule (now rule) ⌝ }
     requires { ⌜ j < sourceCount (now rule) ⌝ }
     ensures { λ r. ⌜ (r ≡ length (sourceOf (ruleOf (now (rule .entry))) j .attributes)) × (r ≤ attributeLimit) ⌝ }
 {
@@ -90,7 +92,7 @@ pub fn source_attribute_count(rule: &[u8], j: usize) -> usize
 
 // The node of attribute i of source vertex j, here counted from 0.
 pub fn source_attribute(rule: &[u8], j: usize, i: usize) -> usize
-    requires { ⌜ Readable (now rule) ⌝ }
+    requires { ⌜ ReadableRule (now rule) ⌝ }
     requires { ⌜ j < sourceCount (now rule) ⌝ }
     requires { ⌜ i < length (sourceOf (ruleOf (now rule)) j .attributes) ⌝ }
     ensures { λ r. ⌜ expressionOf (now (rule .entry)) r ≡ getD (sourceOf (ruleOf (now (rule .entry))) j .attributes) i anything ⌝ }
@@ -101,7 +103,7 @@ pub fn source_attribute(rule: &[u8], j: usize, i: usize) -> usize
 
 // The kind of target vertex t.
 pub fn target_kind(rule: &[u8], t: usize) -> usize
-    requires { ⌜ Whole (now rule) ⌝ }
+    requires { ⌜ WholeRule (now rule) ⌝ }
     requires { ⌜ t < targetCount (now rule) ⌝ }
     ensures { λ r. ⌜ (r ≡ targetOf (ruleOf (now (rule .entry))) t .kind) × (r < 256) ⌝ }
 {
@@ -111,7 +113,7 @@ pub fn target_kind(rule: &[u8], t: usize) -> usize
 
 // The operator of target vertex t.
 pub fn target_operator(rule: &[u8], t: usize) -> usize
-    requires { ⌜ Whole (now rule) ⌝ }
+    requires { ⌜ WholeRule (now rule) ⌝ }
     requires { ⌜ t < targetCount (now rule) ⌝ }
     ensures { λ r. ⌜ (r ≡ targetOf (ruleOf (now (rule .entry))) t .operator) × (r < 256) ⌝ }
 {
@@ -121,7 +123,7 @@ pub fn target_operator(rule: &[u8], t: usize) -> usize
 
 // How many inputs target vertex t has.
 pub fn target_input_count(rule: &[u8], t: usize) -> usize
-    requires { ⌜ Readable (now rule) ⌝ }
+    requires { ⌜ ReadableRule (now rule) ⌝ }
     requires { ⌜ t < targetCount (now rule) ⌝ }
     ensures { λ r. ⌜ (r ≡ length (targetOf (ruleOf (now (rule .entry))) t .inputs)) × (r ≤ inputLimit) ⌝ }
 {
@@ -131,7 +133,7 @@ pub fn target_input_count(rule: &[u8], t: usize) -> usize
 
 // The place number in input place i of target vertex t.
 pub fn target_input(rule: &[u8], t: usize, i: usize) -> usize
-    requires { ⌜ Readable (now rule) ⌝ }
+    requires { ⌜ ReadableRule (now rule) ⌝ }
     requires { ⌜ t < targetCount (now rule) ⌝ }
     requires { ⌜ i < length (targetOf (ruleOf (now rule)) t .inputs) ⌝ }
     ensures { λ r. ⌜ (originOf r ≡ getD (targetOf (ruleOf (now (rule .entry))) t .inputs) i (made 255)) × (r < 256) ⌝ }
@@ -142,7 +144,7 @@ pub fn target_input(rule: &[u8], t: usize, i: usize) -> usize
 
 // How many attributes target vertex t has.
 pub fn target_attribute_count(rule: &[u8], t: usize) -> usize
-    requires { ⌜ Readable (now rule) ⌝ }
+    requires { ⌜ ReadableRule (now rule) ⌝ }
     requires { ⌜ t < targetCount (now rule) ⌝ }
     ensures { λ r. ⌜ (r ≡ length (targetOf (ruleOf (now (rule .entry))) t .attributes)) × (r ≤ attributeLimit) ⌝ }
 {
@@ -152,7 +154,7 @@ pub fn target_attribute_count(rule: &[u8], t: usize) -> usize
 
 // The node of attribute i of target vertex t, here counted from 0.
 pub fn target_attribute(rule: &[u8], t: usize, i: usize) -> usize
-    requires { ⌜ Readable (now rule) ⌝ }
+    requires { ⌜ ReadableRule (now rule) ⌝ }
     requires { ⌜ t < targetCount (now rule) ⌝ }
     requires { ⌜ i < length (targetOf (ruleOf (now rule)) t .attributes) ⌝ }
     ensures { λ r. ⌜ expressionOf (now (rule .entry)) r ≡ getD (targetOf (ruleOf (now (rule .entry))) t .attributes) i anything ⌝ }
@@ -164,7 +166,7 @@ pub fn target_attribute(rule: &[u8], t: usize, i: usize) -> usize
 
 // The source vertex that source output i is.
 pub fn source_output(rule: &[u8], i: usize) -> usize
-    requires { ⌜ Whole (now rule) ⌝ }
+    requires { ⌜ WholeRule (now rule) ⌝ }
     requires { ⌜ i < ruleOutputCount (now rule) ⌝ }
     ensures { λ r. ⌜ (r ≡ getD (ruleOf (now (rule .entry)) .sourceOutputs) i 255) × (r < 256) ⌝ }
 {
@@ -173,7 +175,7 @@ pub fn source_output(rule: &[u8], i: usize) -> usize
 
 // The place number of target output i.
 pub fn target_output(rule: &[u8], i: usize) -> usize
-    requires { ⌜ Whole (now rule) ⌝ }
+    requires { ⌜ WholeRule (now rule) ⌝ }
     requires { ⌜ i < ruleOutputCount (now rule) ⌝ }
     ensures { λ r. ⌜ (originOf r ≡ getD (ruleOf (now (rule .entry)) .targetOutputs) i (made 255)) × (r < 256) ⌝ }
 {
@@ -182,17 +184,17 @@ pub fn target_output(rule: &[u8], i: usize) -> usize
 
 // Whether j is a rule input: a source vertex that is a wildcard or a Variable.
 pub fn is_rule_input(rule: &[u8], j: usize) -> bool
-    requires { ⌜ Whole (now rule) ⌝ }
+    requires { ⌜ WholeRule (now rule) ⌝ }
     ensures { λ r. ⌜ r ≡ isRuleInput (ruleOf (now (rule .entry))) j ⌝ }
 {
     if source_count(rule) <= j {
         return false;
     }
     let kind = source_kind(rule, j);
-    if kind == 0 {
+    if kind == KIND_EMPTY {
         return true;
     }
-    if kind == 2 {
+    if kind == KIND_VARIABLE {
         return true;
     }
     false

@@ -13,11 +13,11 @@ ghost use lib.ListN.{length};
 ghost use Rattle.definitions.specs.Fields.{byteAt, u32At, signed};
 ghost use Rattle.definitions.specs.Rule.{nodeBytes, nodeCount, nodeAt, nodeForm};
 ghost use Rattle.fields.specs.Integer.{integerOf};
-ghost use Rattle.rule_fields.specs.Readable.{Whole};
+ghost use Rattle.rule_fields.specs.Layout.{WholeRule};
 
 // Where node k starts.
 pub fn node_at(rule: &[u8], k: usize) -> usize
-    requires { ⌜ Whole (now rule) ⌝ }
+    requires { ⌜ WholeRule (now rule) ⌝ }
     requires { ⌜ k < nodeCount (now rule) ⌝ }
     ensures { λ r. ⌜ (r ≡ nodeAt (now (rule .entry)) k) × (r + nodeBytes ≤ length (now (rule .entry))) ⌝ }
 {
@@ -27,7 +27,7 @@ pub fn node_at(rule: &[u8], k: usize) -> usize
 
 // The form of node k, its first byte.
 pub fn node_form(rule: &[u8], k: usize) -> usize
-    requires { ⌜ Whole (now rule) ⌝ }
+    requires { ⌜ WholeRule (now rule) ⌝ }
     requires { ⌜ k < nodeCount (now rule) ⌝ }
     ensures { λ r. ⌜ (r ≡ nodeForm (now (rule .entry)) k) × (r < 256) ⌝ }
 {
@@ -37,7 +37,7 @@ pub fn node_form(rule: &[u8], k: usize) -> usize
 
 // Byte i of node k: after the form come the left and the right operand, a zero byte, and the number.
 pub fn node_byte(rule: &[u8], k: usize, i: usize) -> usize
-    requires { ⌜ Whole (now rule) ⌝ }
+    requires { ⌜ WholeRule (now rule) ⌝ }
     requires { ⌜ k < nodeCount (now rule) ⌝ }
     requires { ⌜ i < nodeBytes ⌝ }
     ensures { λ r. ⌜ (r ≡ byteAt (now (rule .entry)) (nodeAt (now (rule .entry)) k + i)) × (r < 256) ⌝ }
@@ -48,7 +48,7 @@ pub fn node_byte(rule: &[u8], k: usize, i: usize) -> usize
 
 // The number of node k, its last four bytes.
 pub fn node_number(rule: &[u8], k: usize) -> Integer
-    requires { ⌜ Whole (now rule) ⌝ }
+    requires { ⌜ WholeRule (now rule) ⌝ }
     requires { ⌜ k < nodeCount (now rule) ⌝ }
     ensures { λ r. ⌜ integerOf r ≡ signed (u32At (now (rule .entry)) (nodeAt (now (rule .entry)) k + 4)) ⌝ }
 {

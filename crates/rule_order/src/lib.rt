@@ -10,7 +10,7 @@ ghost use mathlib.Core.Path.{_≡_};
 ghost use Prim.Native.Nat.{_<_, _≤_};
 ghost use lib.ListN.{length};
 ghost use Rattle.definitions.specs.Rule.{sourceCount, ruleOf, sourceInputs, inVisitingOrder};
-ghost use Rattle.rule_fields.specs.Readable.{Readable, Layered};
+ghost use Rattle.rule_fields.specs.Layout.{ReadableRule, Layered};
 ghost use Rattle.rule_order.specs.Order.{Visits, VisitsInputs};
 
 // Whether the order is right so far, and how many vertices are visited where it is. Once it is wrong it stays wrong: a visit only
@@ -22,7 +22,7 @@ struct Visited {
 
 // Visits v, its inputs first, where next vertices are visited already.
 fn visit(rule: &[u8], v: usize, next: usize) -> Visited
-    requires { ⌜ Readable (now rule) ⌝ }
+    requires { ⌜ ReadableRule (now rule) ⌝ }
     requires { ⌜ Layered (now rule) ⌝ }
     requires { ⌜ v < sourceCount (now rule) ⌝ }
     requires { ⌜ next ≤ sourceCount (now rule) ⌝ }
@@ -46,7 +46,7 @@ fn visit(rule: &[u8], v: usize, next: usize) -> Visited
 
 // Visits the inputs of v from place i on.
 fn visit_inputs(rule: &[u8], v: usize, i: usize, next: usize) -> Visited
-    requires { ⌜ Readable (now rule) ⌝ }
+    requires { ⌜ ReadableRule (now rule) ⌝ }
     requires { ⌜ Layered (now rule) ⌝ }
     requires { ⌜ v < sourceCount (now rule) ⌝ }
     requires { ⌜ i ≤ length (sourceInputs (ruleOf (now rule)) v) ⌝ }
@@ -65,7 +65,7 @@ fn visit_inputs(rule: &[u8], v: usize, i: usize, next: usize) -> Visited
 
 // Whether the traversal from the outputs gives the source vertices in their order, each of them.
 pub fn in_visiting_order(rule: &[u8]) -> bool
-    requires { ⌜ Readable (now rule) ⌝ }
+    requires { ⌜ ReadableRule (now rule) ⌝ }
     requires { ⌜ Layered (now rule) ⌝ }
     ensures { λ r. ⌜ r ≡ inVisitingOrder (ruleOf (now (rule .entry))) ⌝ }
 {

@@ -1,5 +1,7 @@
 // Whether a rule's outputs fit: the source outputs, which some source vertex reaches together, the target outputs, and that some
 // target place names every rule input and every target vertex.
+use definitions::KIND_CALL;
+use definitions::KIND_PROJ;
 use definitions::SIDE_LIMIT;
 use rule_fields::is_rule_input;
 use rule_fields::output_count;
@@ -21,13 +23,13 @@ ghost use lib.ListN.{length, getD, drop};
 ghost use Rattle.definitions.specs.Lists.{within, allBelow, all, any, member, distinct};
 ghost use Rattle.definitions.specs.Operators.{kindCall, kindProj};
 ghost use Rattle.definitions.specs.Rule.{sourceCount, targetCount, ruleOutputCount, given, made, originOf, ruleOf, sourceOf, targetOf, sourceInputs, isRuleInput, originFits, reaches, sourceOutputsFit, connected, sameOrigin, named, allNamed, outputsFit};
-ghost use Rattle.rule_fields.specs.Readable.{Whole, Readable, Layered};
+ghost use Rattle.rule_fields.specs.Layout.{WholeRule, ReadableRule, Layered};
 
 // ---- source outputs
 
 // Whether source vertex j has o among its inputs.
 fn source_reads(rule: &[u8], j: usize, o: usize) -> bool
-    requires { ⌜ Readable (now rule) ⌝ }
+    requires { ⌜ ReadableRule (now rule) ⌝ }
     requires { ⌜ j < sourceCount (now rule) ⌝ }
     ensures { λ r. ⌜ r ≡ member o (sourceInputs (ruleOf (now (rule .entry))) j) ⌝ }
 {
@@ -44,7 +46,7 @@ fn source_reads(rule: &[u8], j: usize, o: usize) -> bool
 
 // Whether some source vertex reads o.
 fn is_read(rule: &[u8], o: usize) -> bool
-    requires { ⌜ Readable (now rule) ⌝ }
+    requires { ⌜ ReadableRule (now rule) ⌝ }
     ensures { λ r. ⌜ r ≡ any (λ p. member o (p .inputs)) (ruleOf (now (rule .entry)) .source) ⌝ }
 {
     let count = source_count(rule);
@@ -60,16 +62,16 @@ fn is_read(rule: &[u8], o: usize) -> bool
 
 // Whether source vertex o may be an output: of kind 3, 4 or 5, and read by no source vertex.
 fn may_be_output(rule: &[u8], o: usize) -> bool
-    requires { ⌜ Readable (now rule) ⌝ }
+    requires { ⌜ ReadableRule (now rule) ⌝ }
     requires { ⌜ o < sourceCount (now rule) ⌝ }
     ensures { λ r. ⌜ r ≡ (within kindCall (sourceOf (ruleOf (now (rule .entry))) o .kind) kindProj
         && not (any (λ p. member o (p .inputs)) (ruleOf (now (rule .entry)) .source))) ⌝ }
 {
     let kind = source_kind(rule, o);
-    if kind < 3 {
+    if kind < KIND_CALL {
         return false;
     }
-    if 5 < kind {
+    if KIND_PROJ < kind {
         return false;
     }
     if is_read(rule, o) {
@@ -80,7 +82,7 @@ fn may_be_output(rule: &[u8], o: usize) -> bool
 
 // Whether every source output may be one.
 fn may_all_be_outputs(rule: &[u8]) -> bool
-    requires { ⌜ Readable (now rule) ⌝ }
+    requires { ⌜ ReadableRule (now rule) ⌝ }
     requires { ⌜ Layered (now rule) ⌝ }
     ensures { λ r. ⌜ r ≡ all (λ o. within kindCall (sourceOf (ruleOf (now (rule .entry))) o .kind) kindProj
         && not (any (λ p. member o (p .inputs)) (ruleOf (now (rule .entry)) .source))) (ruleOf (now (rule .entry)) .sourceOutputs) ⌝ }
@@ -100,7 +102,7 @@ fn may_all_be_outputs(rule: &[u8]) -> bool
 
 // Whether source output i comes again after place i.
 fn comes_again(rule: &[u8], i: usize) -> bool
-    requires { ⌜ Whole (now rule) ⌝ }
+    requires { ⌜ WholeRule (now rule) ⌝ }
     requires { ⌜ i < ruleOutputCount (now rule) ⌝ }
     ensures { λ r. ⌜ r ≡ member (getD (ruleOf (now (rule .entry)) .sourceOutputs) i 255)
         (drop (i + 1) (ruleOf (now (rule .entry)) .sourceOutputs)) ⌝ }
@@ -119,7 +121,7 @@ fn comes_again(rule: &[u8], i: usize) -> bool
 
 // Whether no source vertex is an output twice.
 fn are_distinct(rule: &[u8]) -> bool
-    requires { ⌜ Whole (now rule) ⌝ }
+    requires { ⌜ WholeRule (now rule) ⌝ }
     ensures { λ r. ⌜ r ≡ distinct (ruleOf (now (rule .entry)) .sourceOutputs) ⌝ }
 {
     let count = output_count(rule);
@@ -134,7 +136,7 @@ fn are_distinct(rule: &[u8]) -> bool
 }
 
 fn source_outputs_fit(rule: &[u8]) -> bool
-    requires { ⌜ Readable (now rule) ⌝ }
+    requires { ⌜ ReadableRule (now rule) ⌝ }
     requires { ⌜ Layered (now rule) ⌝ }
     ensures { λ r. ⌜ r ≡ sourceOutputsFit (ruleOf (now (rule .entry))) ⌝ }
 {
@@ -148,7 +150,7 @@ fn source_outputs_fit(rule: &[u8]) -> bool
 
 // Whether some input of source vertex w is marked in found.
 fn has_marked_input(rule: &[u8], w: usize, found: &[bool; SIDE_LIMIT]) -> bool
-    requires { ⌜ Readable (now rule) ⌝ }
+    requires { ⌜ ReadableRule (now rule) ⌝ }
     requires { ⌜ Layered (now rule) ⌝ }
     requires { ⌜ w < sourceCount (now rule) ⌝ }
     ensures { λ r. ⌜ r ≡ any (λ u. getD (now (found .entry)) u false) (sourceInputs (ruleOf (now (rule .entry))) w) ⌝ }
@@ -167,7 +169,7 @@ fn has_marked_input(rule: &[u8], w: usize, found: &[bool; SIDE_LIMIT]) -> bool
 
 // Whether v reaches source vertex w, where found says it of the lower vertices: inputs are lower.
 fn reaches_next(rule: &[u8], v: usize, w: usize, found: &[bool; SIDE_LIMIT]) -> bool
-    requires { ⌜ Readable (now rule) ⌝ }
+    requires { ⌜ ReadableRule (now rule) ⌝ }
     requires { ⌜ Layered (now rule) ⌝ }
     requires { ⌜ w < sourceCount (now rule) ⌝ }
     ensures { λ r. ⌜ r ≡ (eqb v w || any (λ u. getD (now (found .entry)) u false) (sourceInputs (ruleOf (now (rule .entry))) w)) ⌝ }
@@ -180,7 +182,7 @@ fn reaches_next(rule: &[u8], v: usize, w: usize, found: &[bool; SIDE_LIMIT]) -> 
 
 // At w, whether source vertex v reaches w.
 fn reached_from(rule: &[u8], v: usize) -> [bool; SIDE_LIMIT]
-    requires { ⌜ Readable (now rule) ⌝ }
+    requires { ⌜ ReadableRule (now rule) ⌝ }
     requires { ⌜ Layered (now rule) ⌝ }
     ensures { λ r. ⌜ ((w : ℕ) → w < sourceCount (now (rule .entry)) → getD r w false ≡ reaches (ruleOf (now (rule .entry))) v w) ⌝ }
 {
@@ -197,7 +199,7 @@ fn reached_from(rule: &[u8], v: usize) -> [bool; SIDE_LIMIT]
 
 // Whether v reaches every source output.
 fn reaches_outputs(rule: &[u8], v: usize) -> bool
-    requires { ⌜ Readable (now rule) ⌝ }
+    requires { ⌜ ReadableRule (now rule) ⌝ }
     requires { ⌜ Layered (now rule) ⌝ }
     ensures { λ r. ⌜ r ≡ all (reaches (ruleOf (now (rule .entry))) v) (ruleOf (now (rule .entry)) .sourceOutputs) ⌝ }
 {
@@ -216,7 +218,7 @@ fn reaches_outputs(rule: &[u8], v: usize) -> bool
 }
 
 fn is_connected(rule: &[u8]) -> bool
-    requires { ⌜ Readable (now rule) ⌝ }
+    requires { ⌜ ReadableRule (now rule) ⌝ }
     requires { ⌜ Layered (now rule) ⌝ }
     ensures { λ r. ⌜ r ≡ connected (ruleOf (now (rule .entry))) ⌝ }
 {
@@ -234,7 +236,7 @@ fn is_connected(rule: &[u8]) -> bool
 // ---- target outputs
 
 fn target_outputs_fit(rule: &[u8]) -> bool
-    requires { ⌜ Whole (now rule) ⌝ }
+    requires { ⌜ WholeRule (now rule) ⌝ }
     ensures { λ r. ⌜ r ≡ all (originFits (ruleOf (now (rule .entry))) (length (ruleOf (now (rule .entry)) .target)))
         (ruleOf (now (rule .entry)) .targetOutputs) ⌝ }
 {
@@ -257,7 +259,7 @@ fn target_outputs_fit(rule: &[u8]) -> bool
 // Marks each place number that an input of target vertex t holds. The contract says how long the array is, since a proof does not
 // learn it from the type of a reference.
 fn mark_inputs(rule: &[u8], t: usize, used: &mut [bool; 256])
-    requires { ⌜ Readable (now rule) ⌝ }
+    requires { ⌜ ReadableRule (now rule) ⌝ }
     requires { ⌜ t < targetCount (now rule) ⌝ }
     requires { ⌜ length (now used) ≡ 256 ⌝ }
     ensures { λ r. ⌜ (length (now (used .exit)) ≡ 256) × ((p : ℕ) → getD (now (used .exit)) p false
@@ -274,7 +276,7 @@ fn mark_inputs(rule: &[u8], t: usize, used: &mut [bool; 256])
 
 // Marks each place number that a target output holds.
 fn mark_outputs(rule: &[u8], used: &mut [bool; 256])
-    requires { ⌜ Whole (now rule) ⌝ }
+    requires { ⌜ WholeRule (now rule) ⌝ }
     requires { ⌜ length (now used) ≡ 256 ⌝ }
     ensures { λ r. ⌜ (length (now (used .exit)) ≡ 256) × ((p : ℕ) → getD (now (used .exit)) p false
         ≡ (getD (now (used .entry)) p false || any (sameOrigin (originOf p)) (ruleOf (now (rule .entry)) .targetOutputs))) ⌝ }
@@ -290,7 +292,7 @@ fn mark_outputs(rule: &[u8], used: &mut [bool; 256])
 
 // At p, whether some target place, an input or an output, holds the place number p.
 fn marked(rule: &[u8]) -> [bool; 256]
-    requires { ⌜ Readable (now rule) ⌝ }
+    requires { ⌜ ReadableRule (now rule) ⌝ }
     ensures { λ r. ⌜ ((p : ℕ) → getD r p false ≡ named (ruleOf (now (rule .entry))) (originOf p)) ⌝ }
 {
     let mut used = [false; 256];
@@ -306,7 +308,7 @@ fn marked(rule: &[u8]) -> [bool; 256]
 
 // Whether j is named where it is a rule input; used says which place numbers are named.
 fn input_named(rule: &[u8], j: usize, used: &[bool; 256]) -> bool
-    requires { ⌜ Whole (now rule) ⌝ }
+    requires { ⌜ WholeRule (now rule) ⌝ }
     requires { ⌜ j < sourceCount (now rule) ⌝ }
     requires { ⌜ ((p : ℕ) → getD (now used) p false ≡ named (ruleOf (now rule)) (originOf p)) ⌝ }
     ensures { λ r. ⌜ r ≡ (not (isRuleInput (ruleOf (now (rule .entry))) j) || named (ruleOf (now (rule .entry))) (given j)) ⌝ }
@@ -319,7 +321,7 @@ fn input_named(rule: &[u8], j: usize, used: &[bool; 256]) -> bool
 
 // Whether every rule input is named.
 fn inputs_named(rule: &[u8], used: &[bool; 256]) -> bool
-    requires { ⌜ Whole (now rule) ⌝ }
+    requires { ⌜ WholeRule (now rule) ⌝ }
     requires { ⌜ ((p : ℕ) → getD (now used) p false ≡ named (ruleOf (now rule)) (originOf p)) ⌝ }
     ensures { λ r. ⌜ r ≡ allBelow (λ j. not (isRuleInput (ruleOf (now (rule .entry))) j) || named (ruleOf (now (rule .entry))) (given j))
         (length (ruleOf (now (rule .entry)) .source)) ⌝ }
@@ -338,7 +340,7 @@ fn inputs_named(rule: &[u8], used: &[bool; 256]) -> bool
 
 // Whether every target vertex is named.
 fn vertices_named(rule: &[u8], used: &[bool; 256]) -> bool
-    requires { ⌜ Whole (now rule) ⌝ }
+    requires { ⌜ WholeRule (now rule) ⌝ }
     requires { ⌜ ((p : ℕ) → getD (now used) p false ≡ named (ruleOf (now rule)) (originOf p)) ⌝ }
     ensures { λ r. ⌜ r ≡ allBelow (λ t. named (ruleOf (now (rule .entry))) (made t)) (length (ruleOf (now (rule .entry)) .target)) ⌝ }
 {
@@ -355,7 +357,7 @@ fn vertices_named(rule: &[u8], used: &[bool; 256]) -> bool
 }
 
 fn all_named(rule: &[u8]) -> bool
-    requires { ⌜ Readable (now rule) ⌝ }
+    requires { ⌜ ReadableRule (now rule) ⌝ }
     ensures { λ r. ⌜ r ≡ allNamed (ruleOf (now (rule .entry))) ⌝ }
 {
     let used = marked(rule);
@@ -370,7 +372,7 @@ fn all_named(rule: &[u8]) -> bool
 // Whether the source outputs fit, some source vertex reaches them all, the target outputs fit, and every rule input and target
 // vertex is named.
 pub fn outputs_fit(rule: &[u8]) -> bool
-    requires { ⌜ Readable (now rule) ⌝ }
+    requires { ⌜ ReadableRule (now rule) ⌝ }
     requires { ⌜ Layered (now rule) ⌝ }
     ensures { λ r. ⌜ r ≡ outputsFit (ruleOf (now (rule .entry))) ⌝ }
 {

@@ -1,5 +1,7 @@
 // The first two kinds of fault of a rule block: its length and header, and the records of its vertices
 // with their input places.
+use definitions::KIND_EMPTY;
+use definitions::KIND_VARIABLE;
 use definitions::NODE_BYTES;
 use definitions::NODE_LIMIT;
 use definitions::PATTERN_BYTES;
@@ -27,7 +29,7 @@ ghost use Rattle.definitions.specs.Lists.{lowest};
 ghost use Rattle.definitions.specs.Fields.{byteAt};
 ghost use Rattle.definitions.specs.Graph.{inputLimit};
 ghost use Rattle.definitions.specs.Rule.{ruleHeaderBytes, patternBytes, ruleOutputLimit, sourceCount, targetCount, ruleOutputCount, nodeCount, vertexAt, nodeAt, originOf, ruleOf, ruleSizesFit, ruleOutputPlacesFit, ruleHeaderFits, patternFits, originFits, sourceInputsFit, targetInputsFit, badVertex};
-ghost use Rattle.rule_fields.specs.Readable.{Whole};
+ghost use Rattle.rule_fields.specs.Layout.{WholeRule};
 
 // Whether the header's four counts are in range.
 fn sizes_fit(rule: &[u8]) -> bool
@@ -133,7 +135,7 @@ fn pattern_fits(rule: &[u8], at: usize) -> bool
 
 // Whether every input of source vertex j names a lower vertex.
 fn source_inputs_fit(rule: &[u8], j: usize) -> bool
-    requires { ⌜ Whole (now rule) ⌝ }
+    requires { ⌜ WholeRule (now rule) ⌝ }
     requires { ⌜ j < sourceCount (now rule) ⌝ }
     requires { ⌜ byteAt (now rule) (vertexAt j + 2) ≤ inputLimit ⌝ }
     ensures { λ r. ⌜ r ≡ sourceInputsFit (ruleOf (now (rule .entry))) j ⌝ }
@@ -152,7 +154,7 @@ fn source_inputs_fit(rule: &[u8], j: usize) -> bool
 
 // Whether the place number p of the target names a rule input, or a target vertex below t.
 pub fn origin_fits(rule: &[u8], t: usize, p: usize) -> bool
-    requires { ⌜ Whole (now rule) ⌝ }
+    requires { ⌜ WholeRule (now rule) ⌝ }
     ensures { λ r. ⌜ r ≡ originFits (ruleOf (now (rule .entry))) t (originOf p) ⌝ }
 {
     if p < SIDE_LIMIT {
@@ -164,7 +166,7 @@ pub fn origin_fits(rule: &[u8], t: usize, p: usize) -> bool
 // Whether target vertex t is of a target's kind, and its inputs name rule inputs and earlier target
 // vertices.
 fn target_inputs_fit(rule: &[u8], t: usize) -> bool
-    requires { ⌜ Whole (now rule) ⌝ }
+    requires { ⌜ WholeRule (now rule) ⌝ }
     requires { ⌜ t < targetCount (now rule) ⌝ }
     requires { ⌜ byteAt (now rule) (vertexAt (sourceCount (now rule) + t) + 2) ≤ inputLimit ⌝ }
     ensures { λ r. ⌜ r ≡ targetInputsFit (ruleOf (now (rule .entry))) t ⌝ }
@@ -172,10 +174,10 @@ fn target_inputs_fit(rule: &[u8], t: usize) -> bool
     let v = source_count(rule) + t;
     let at = RULE_HEADER_BYTES + PATTERN_BYTES * v;
     let kind = byte_at(rule, at);
-    if kind == 0 {
+    if kind == KIND_EMPTY {
         return false;
     }
-    if kind == 2 {
+    if kind == KIND_VARIABLE {
         return false;
     }
     let inputs = byte_at(rule, at + 2);
@@ -191,7 +193,7 @@ fn target_inputs_fit(rule: &[u8], t: usize) -> bool
 
 // Whether vertex v, a source or a target one, has a good record and good input places.
 fn vertex_fits(rule: &[u8], v: usize) -> bool
-    requires { ⌜ Whole (now rule) ⌝ }
+    requires { ⌜ WholeRule (now rule) ⌝ }
     requires { ⌜ v < sourceCount (now rule) + targetCount (now rule) ⌝ }
     ensures { λ r. ⌜ r ≡ not (badVertex (now (rule .entry)) v) ⌝ }
 {
@@ -207,7 +209,7 @@ fn vertex_fits(rule: &[u8], v: usize) -> bool
 
 // The lowest vertex with a bad record or a bad input place, or the number of vertices.
 pub fn bad_vertex(rule: &[u8]) -> usize
-    requires { ⌜ Whole (now rule) ⌝ }
+    requires { ⌜ WholeRule (now rule) ⌝ }
     ensures { λ r. ⌜ r ≡ lowest (badVertex (now (rule .entry))) (sourceCount (now (rule .entry)) + targetCount (now (rule .entry))) ⌝ }
 {
     let vertices = source_count(rule) + target_count(rule);

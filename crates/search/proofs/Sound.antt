@@ -20,8 +20,8 @@ use Rattle.laws.proofs.Members.{mem-at}
 use Rattle.laws.proofs.Graph.{vertex-inside, length-slots, length-outputs}
 use Rattle.laws.proofs.Rule.{input-inside, length-source, length-source-outputs, source-kind-at, source-count-at, source-attributes-at, source-attribute-at, some-rule-outputs, few-rule-outputs, pattern-shape, use-inside, outputs-below, inputs-lower}
 use Rattle.theory.proofs.Fixing.{sound-fixing}
-use Rattle.graph_fields.specs.Readable as table
-use Rattle.rule_fields.specs.Readable as pattern
+use Rattle.graph_fields.specs.Layout.{ReadableGraph, Closed, OutputsNamed}
+use Rattle.rule_fields.specs.Layout.{ReadableRule, Layered}
 use Rattle.attributes.specs.Evaluable.{Evaluable}
 use Rattle.matching.specs.Setting.{Matchable}
 use Rattle.graph_check.proofs.Laws as graph-check
@@ -39,14 +39,14 @@ module _ (block : List ℕ) (sound : SoundGraph block) where
   unfolding badInputs
   good-inputs k l = simp (all-members (isVertex (graphOf block)) (inputsOf (graphOf block) k) (λ v m. sound .inputs k v m))
 
-  pub graph-readable : table.Readable block
+  pub graph-readable : ReadableGraph block
   graph-readable = graph-check.readable block (graph-check.whole block (sound .header))
       (lowest-whole (badRecord block) (slotCount block) good-record)
 
-  pub graph-closed : table.Closed block
+  pub graph-closed : Closed block
   graph-closed = graph-check.closed block graph-readable (lowest-whole (badInputs (graphOf block)) (slotCount block) good-inputs)
 
-  pub graph-outputs : table.OutputsNamed block
+  pub graph-outputs : OutputsNamed block
   graph-outputs = record {
     named = λ i l.
         let inside : i < length (graphOf block .outputs) = rw (length-outputs block) l in
@@ -57,14 +57,14 @@ module _ (block : List ℕ) (sound : SoundGraph block) where
 -- ---- a sound rule
 
 module _ (block : List ℕ) (sound : SoundRule block) where
-  pub rule-readable : pattern.Readable block
+  pub rule-readable : ReadableRule block
   rule-readable = record {
     whole = rule-check.whole block (sound .header);
     inputs = λ v l. pattern-inputs block (vertexAt v) (sound .patterns v l);
     attributes = λ v l. pattern-attributes block (vertexAt v) (sound .patterns v l);
   }
 
-  pub rule-layered : pattern.Layered block
+  pub rule-layered : Layered block
   rule-layered = record {
     lower = λ j i l m. inputs-lower block (sound .lowerInputs) j (getD (sourceInputs (ruleOf block) j) i 255)
         (mem-at (sourceInputs (ruleOf block) j) i 255 m);

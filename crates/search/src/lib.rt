@@ -2,6 +2,7 @@
 // these the second output's from 0 up. Output images fix the rest of a match, so the first that leads to a match leads to the least.
 use definitions::SIDE_LIMIT;
 use definitions::SLOT_LIMIT;
+use definitions::UNUSED_PLACE;
 use graph_fields::slot_count;
 use matching::match_vertex;
 use rule_fields::output_count;
@@ -40,7 +41,7 @@ fn search(
     let root = source_output(rule, 0);
     let last = source_output(rule, outputs - 1);
     let next = root + 1;
-    let mut images = [65535u16; SIDE_LIMIT];
+    let mut images = [UNUSED_PLACE; SIDE_LIMIT];
     let mut found = false;
     let mut first = start;
     'search: while first < slots {

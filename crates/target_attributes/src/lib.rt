@@ -1,6 +1,7 @@
 // The attributes of the target vertices: their expressions' results for the match, read from the old table, as 32-bit words.
 use attributes::target_value;
 use definitions::ATTRIBUTE_LIMIT;
+use definitions::KIND_PROJ;
 use definitions::SIDE_LIMIT;
 use numbers::Value;
 use rule_fields::target_attribute_count;
@@ -16,8 +17,8 @@ ghost use Rattle.definitions.specs.Rule.{sideLimit, targetCount, ruleOf, target
 ghost use Rattle.definitions.specs.Match.{readAttribute};
 ghost use Rattle.definitions.specs.Rewriting.{vertexResults, targetResults};
 ghost use Rattle.numbers.specs.Value.{valueOf, bounded};
-ghost use Rattle.graph_fields.specs.Readable as graphs;
-ghost use Rattle.rule_fields.specs.Readable.{Readable};
+ghost use Rattle.graph_fields.specs.Layout.{ReadableGraph};
+ghost use Rattle.rule_fields.specs.Layout.{ReadableRule};
 ghost use Rattle.attributes.specs.Evaluable.{Evaluable};
 ghost use Rattle.target_attributes.specs.Words.{wordOfValue, indexLike, Given, isGiven};
 
@@ -46,19 +47,19 @@ fn is_fit(kind: usize, value: Value) -> bool
     match value {
         Value::Nothing => return false,
         Value::Plus(n) => {
-            if kind == 5 {
+            if kind == KIND_PROJ {
                 return 0 < n;
             }
             return true;
         }
-        Value::Minus(_) => return kind != 5,
+        Value::Minus(_) => return kind != KIND_PROJ,
     }
 }
 
 // The attributes of target vertex t.
 pub fn vertex_words(graph: &[u8], rule: &[u8], images: &[u16; SIDE_LIMIT], t: usize) -> Words
-    requires { ⌜ graphs.Readable (now graph) ⌝ }
-    requires { ⌜ Readable (now rule) ⌝ }
+    requires { ⌜ ReadableGraph (now graph) ⌝ }
+    requires { ⌜ ReadableRule (now rule) ⌝ }
     requires { ⌜ Evaluable (now rule) ⌝ }
     requires { ⌜ length (now images) ≡ sideLimit ⌝ }
     requires { ⌜ t < targetCount (now rule) ⌝ }
@@ -82,8 +83,8 @@ pub fn vertex_words(graph: &[u8], rule: &[u8], images: &[u16; SIDE_LIMIT], t: us
 
 // Whether every attribute of every target vertex has a fit result.
 pub fn all_fit(graph: &[u8], rule: &[u8], images: &[u16; SIDE_LIMIT]) -> bool
-    requires { ⌜ graphs.Readable (now graph) ⌝ }
-    requires { ⌜ Readable (now rule) ⌝ }
+    requires { ⌜ ReadableGraph (now graph) ⌝ }
+    requires { ⌜ ReadableRule (now rule) ⌝ }
     requires { ⌜ Evaluable (now rule) ⌝ }
     requires { ⌜ length (now images) ≡ sideLimit ⌝ }
     ensures { λ r. ⌜ r ≡ isGiven (targetResults (readAttribute (graphOf (now (graph .entry))) (now (images .entry)))

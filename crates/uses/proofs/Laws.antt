@@ -17,8 +17,8 @@ use Rattle.laws.proofs.Lists.{decided}
 use Rattle.laws.proofs.Graph.{length-slots}
 use Rattle.laws.proofs.Rule.{length-source, source-count-at}
 use Rattle.laws.proofs.Builds.{getD-none}
-use Rattle.graph_fields.specs.Readable as graphs
-use Rattle.rule_fields.specs.Readable as rules
+use Rattle.graph_fields.specs.Layout.{ReadableGraph}
+use Rattle.rule_fields.specs.Layout.{ReadableRule}
 use Rattle.uses.specs.Uses.{count, total, readsOf, placesOf, demandOf}
 use Rattle.uses.specs.Counted.{Counted}
 use Rattle.uses.proofs.Sums.{count-length, count-more, total-most}
@@ -89,14 +89,14 @@ graphReads block k v = total (λ w. count v (inputsOf (graphOf block) w)) k
 abbrev pub ruleReads : List ℕ → ℕ → ℕ → ℕ
 ruleReads block k v = total (λ w. count v (sourceInputs (ruleOf block) w)) k
 
-pub graph-reads-most : {block : List ℕ} → graphs.Readable block → (k v : ℕ) → k ≤ slotCount block → graphReads block k v ≤ 6 * k
+pub graph-reads-most : {block : List ℕ} → ReadableGraph block → (k v : ℕ) → k ≤ slotCount block → graphReads block k v ≤ 6 * k
 graph-reads-most {block} readable k v h = reads-most (inputsOf (graphOf block)) k v (λ w l. readable .inputs w (omega arith))
 
-pub source-few : {block : List ℕ} → rules.Readable block → (j : ℕ) → j < sourceCount block
+pub source-few : {block : List ℕ} → ReadableRule block → (j : ℕ) → j < sourceCount block
     → length (sourceInputs (ruleOf block) j) ≤ 6
 source-few {block} readable j l = omega (arith, source-count-at block j l, readable .inputs j (omega arith))
 
-pub rule-reads-most : {block : List ℕ} → rules.Readable block → (k v : ℕ) → k ≤ sourceCount block → ruleReads block k v ≤ 6 * k
+pub rule-reads-most : {block : List ℕ} → ReadableRule block → (k v : ℕ) → k ≤ sourceCount block → ruleReads block k v ≤ 6 * k
 rule-reads-most {block} readable k v h = reads-most (sourceInputs (ruleOf block)) k v (λ w l. source-few readable w (omega arith))
 
 -- all slots, and all source vertices

@@ -18,8 +18,8 @@ ghost use Rattle.definitions.specs.Lists.{member};
 ghost use Rattle.definitions.specs.Graph.{slotLimit, slotCount, graphOf, inputsOf};
 ghost use Rattle.definitions.specs.Rule.{sideLimit, sourceCount, ruleOf, sourceInputs};
 ghost use Rattle.definitions.specs.Match.{isInterior};
-ghost use Rattle.graph_fields.specs.Readable.{Readable, Closed, OutputsNamed};
-ghost use Rattle.rule_fields.specs.Readable as rules;
+ghost use Rattle.graph_fields.specs.Layout.{ReadableGraph, Closed, OutputsNamed};
+ghost use Rattle.rule_fields.specs.Layout.{WholeRule, ReadableRule, Layered};
 ghost use Rattle.uses.specs.Uses.{count, total, readsOf, usesOf, placesOf, demandOf};
 ghost use Rattle.uses.specs.Counted.{Counted};
 
@@ -27,7 +27,7 @@ ghost use Rattle.uses.specs.Counted.{Counted};
 
 // Counts the input places of slot k, after those of the slots below it.
 fn add_inputs(graph: &[u8], k: usize, uses: &mut [u16; SLOT_LIMIT])
-    requires { ⌜ Readable (now graph) ⌝ }
+    requires { ⌜ ReadableGraph (now graph) ⌝ }
     requires { ⌜ Closed (now graph) ⌝ }
     requires { ⌜ k < slotCount (now graph) ⌝ }
     requires { ⌜ Counted slotLimit (λ v. total (λ w. count v (inputsOf (graphOf (now graph)) w)) k) (now uses) ⌝ }
@@ -45,7 +45,7 @@ fn add_inputs(graph: &[u8], k: usize, uses: &mut [u16; SLOT_LIMIT])
 
 // Counts the output places, after all input places.
 fn add_outputs(graph: &[u8], uses: &mut [u16; SLOT_LIMIT])
-    requires { ⌜ Readable (now graph) ⌝ }
+    requires { ⌜ ReadableGraph (now graph) ⌝ }
     requires { ⌜ OutputsNamed (now graph) ⌝ }
     requires { ⌜ Counted slotLimit (readsOf (graphOf (now graph))) (now uses) ⌝ }
     ensures { λ r. ⌜ Counted slotLimit (usesOf (graphOf (now (graph .entry)))) (now (uses .exit)) ⌝ }
@@ -61,7 +61,7 @@ fn add_outputs(graph: &[u8], uses: &mut [u16; SLOT_LIMIT])
 
 // How often each slot is named, by input places and by graph outputs.
 pub fn count_uses(graph: &[u8]) -> [u16; SLOT_LIMIT]
-    requires { ⌜ Readable (now graph) ⌝ }
+    requires { ⌜ ReadableGraph (now graph) ⌝ }
     requires { ⌜ Closed (now graph) ⌝ }
     requires { ⌜ OutputsNamed (now graph) ⌝ }
     ensures { λ r. ⌜ (length r ≡ slotLimit)
@@ -82,7 +82,7 @@ pub fn count_uses(graph: &[u8]) -> [u16; SLOT_LIMIT]
 
 // Whether source vertex j is an output.
 fn is_source_output(rule: &[u8], j: usize) -> bool
-    requires { ⌜ rules.Whole (now rule) ⌝ }
+    requires { ⌜ WholeRule (now rule) ⌝ }
     ensures { λ r. ⌜ r ≡ member j (ruleOf (now (rule .entry)) .sourceOutputs) ⌝ }
 {
     let outputs = rule_fields::output_count(rule);
@@ -98,7 +98,7 @@ fn is_source_output(rule: &[u8], j: usize) -> bool
 
 // Whether source vertex j is neither a rule input nor an output.
 fn is_interior(rule: &[u8], j: usize) -> bool
-    requires { ⌜ rules.Whole (now rule) ⌝ }
+    requires { ⌜ WholeRule (now rule) ⌝ }
     ensures { λ r. ⌜ r ≡ isInterior (ruleOf (now (rule .entry))) j ⌝ }
 {
     if is_rule_input(rule, j) {
@@ -112,8 +112,8 @@ fn is_interior(rule: &[u8], j: usize) -> bool
 
 // Counts the input places of source vertex w, after those of the vertices below it.
 fn add_source_inputs(rule: &[u8], w: usize, places: &mut [u16; SIDE_LIMIT])
-    requires { ⌜ rules.Readable (now rule) ⌝ }
-    requires { ⌜ rules.Layered (now rule) ⌝ }
+    requires { ⌜ ReadableRule (now rule) ⌝ }
+    requires { ⌜ Layered (now rule) ⌝ }
     requires { ⌜ w < sourceCount (now rule) ⌝ }
     requires { ⌜ Counted sideLimit (λ j. total (λ u. count j (sourceInputs (ruleOf (now rule)) u)) w) (now places) ⌝ }
     ensures { λ r. ⌜ Counted sideLimit (λ j. total (λ u. count j (sourceInputs (ruleOf (now (rule .entry))) u)) (w + 1))
@@ -130,8 +130,8 @@ fn add_source_inputs(rule: &[u8], w: usize, places: &mut [u16; SIDE_LIMIT])
 
 // How often input places of source vertices name each source vertex.
 fn count_places(rule: &[u8]) -> [u16; SIDE_LIMIT]
-    requires { ⌜ rules.Readable (now rule) ⌝ }
-    requires { ⌜ rules.Layered (now rule) ⌝ }
+    requires { ⌜ ReadableRule (now rule) ⌝ }
+    requires { ⌜ Layered (now rule) ⌝ }
     ensures { λ r. ⌜ Counted sideLimit (placesOf (ruleOf (now (rule .entry)))) r ⌝ }
 {
     let vertices = source_count(rule);
@@ -146,8 +146,8 @@ fn count_places(rule: &[u8]) -> [u16; SIDE_LIMIT]
 
 // What each source vertex demands of the uses of its image.
 pub fn count_demands(rule: &[u8]) -> [u16; SIDE_LIMIT]
-    requires { ⌜ rules.Readable (now rule) ⌝ }
-    requires { ⌜ rules.Layered (now rule) ⌝ }
+    requires { ⌜ ReadableRule (now rule) ⌝ }
+    requires { ⌜ Layered (now rule) ⌝ }
     ensures { λ r. ⌜ (length r ≡ sideLimit)
         × ((j : ℕ) → j < sourceCount (now (rule .entry)) → getD r j 0 ≡ demandOf (ruleOf (now (rule .entry))) j) ⌝ }
 {

@@ -1,6 +1,8 @@
 // The slots that are Empty after the removal, and the lowest of them, which the target vertices take in order.
+use definitions::KIND_EMPTY;
 use definitions::SIDE_LIMIT;
 use definitions::SLOT_LIMIT;
+use definitions::UNUSED_PLACE;
 use fields::widened;
 use graph_fields::kind_of;
 use graph_fields::slot_count;
@@ -14,8 +16,8 @@ ghost use Rattle.definitions.specs.Graph.{slotLimit, slotCount, graphOf, isVert
 ghost use Rattle.definitions.specs.Rule.{sideLimit, sourceCount, ruleOf};
 ghost use Rattle.definitions.specs.Match.{imageOf};
 ghost use Rattle.definitions.specs.Rewriting.{stays};
-ghost use Rattle.graph_fields.specs.Readable as graphs;
-ghost use Rattle.rule_fields.specs.Readable as rules;
+ghost use Rattle.graph_fields.specs.Layout.{WholeGraph};
+ghost use Rattle.rule_fields.specs.Layout.{WholeRule};
 ghost use Rattle.vacancies.specs.Vacant.{Marks, marked, Lowest};
 
 // How many slots are free, and the lowest of them; 65535 stands in the places after the last.
@@ -26,14 +28,14 @@ pub struct Places {
 
 // Marks the slots that are Empty in the block as it came.
 fn mark_empty(graph: &[u8]) -> [bool; SLOT_LIMIT]
-    requires { ⌜ graphs.Whole (now graph) ⌝ }
+    requires { ⌜ WholeGraph (now graph) ⌝ }
     ensures { λ r. ⌜ Marks (λ k. not (isVertex (graphOf (now (graph .entry))) k)) (slotCount (now (graph .entry))) r ⌝ }
 {
     let slots = slot_count(graph);
     let mut free = [false; SLOT_LIMIT];
     let mut k = 0;
     while k < slots {
-        if kind_of(graph, k) == 0 {
+        if kind_of(graph, k) == KIND_EMPTY {
             free[k] = true;
         }
         k += 1;
@@ -43,8 +45,8 @@ fn mark_empty(graph: &[u8]) -> [bool; SLOT_LIMIT]
 
 // Marks the slots that are Empty after the removal: the images of the source vertices that are no rule inputs too.
 pub fn find_free(graph: &[u8], rule: &[u8], images: &[u16; SIDE_LIMIT]) -> [bool; SLOT_LIMIT]
-    requires { ⌜ graphs.Whole (now graph) ⌝ }
-    requires { ⌜ rules.Whole (now rule) ⌝ }
+    requires { ⌜ WholeGraph (now graph) ⌝ }
+    requires { ⌜ WholeRule (now rule) ⌝ }
     requires { ⌜ length (now images) ≡ sideLimit ⌝ }
     requires { ⌜ ((j : ℕ) → j < sourceCount (now rule) → imageOf (now images) j < slotCount (now graph)) ⌝ }
     ensures { λ r. ⌜ Marks (λ k. not (stays (graphOf (now (graph .entry))) (ruleOf (now (rule .entry))) (now (images .entry)) k))
@@ -69,7 +71,7 @@ pub fn lowest_free(free: &[bool; SLOT_LIMIT], n: usize) -> Places
     requires { ⌜ n ≤ slotLimit ⌝ }
     ensures { λ r. ⌜ Lowest (marked (now (free .entry)) n) (r .count) (r .slots) ⌝ }
 {
-    let mut slots = [65535u16; SIDE_LIMIT];
+    let mut slots = [UNUSED_PLACE; SIDE_LIMIT];
     let mut count = 0;
     let mut k = 0;
     while k < n {

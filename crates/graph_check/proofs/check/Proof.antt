@@ -9,7 +9,7 @@ use Prim.Native.Nat.{ℕ, _≤_}
 use native.Mathlib.Omega.{arith}
 use Rattle.definitions.specs.Lists.{lowest}
 use Rattle.definitions.specs.Graph.{slotCount, outputCount, graphOf, headerFits, badRecord, badInputs, badOutput}
-use Rattle.graph_fields.specs.Readable.{Whole}
+use Rattle.graph_fields.specs.Layout.{WholeGraph}
 use Rattle.graph_check.proofs.Laws.{whole, readable, closed, refused-header, refused-record, refused-input, refused-output, refused-cycle, sound}
 use Rattle.graph_check.proofs.check.Statement.{statement}
 use Rattle.graph_check.proofs.check.Tie as tie
@@ -22,7 +22,7 @@ block₁ c = c .before .before .before .args .graph .now
 header : (c : tie.Else1) → headerFits (block₁ c) ≡ true
 header c = sym (c .before .header-fits .ensures) ∙ not-false (c .before .header-fits .result) (c .if1 .left)
 
-laid-out : (c : tie.Else1) → Whole (block₁ c)
+laid-out : (c : tie.Else1) → WholeGraph (block₁ c)
 laid-out c = whole (block₁ c) (header c)
 
 abbrev to₁ : tie.Else2 → tie.Else1

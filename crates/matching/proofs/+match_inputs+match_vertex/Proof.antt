@@ -25,9 +25,9 @@ use Rattle.matching.proofs.match_vertex.Reads as match-vertex
 use Rattle.matching.proofs.match_vertex.Kinds as match-vertex-kinds
 use Rattle.matching.proofs.+match_inputs+match_vertex.Lts-match_vertex as match-vertex-lts
 use Rattle.graph_fields.proofs.input_at.Reads as input-at-reads
-use Rattle.matching.proofs.greater.Reads as greater-reads
 use Rattle.matching.proofs.is_candidate.Reads as is-candidate-reads
 use Rattle.matching.proofs.settle.Reads as settle-reads
+use Rattle.fields.proofs.greater.Reads as greater-reads
 use Rattle.fields.proofs.widened.Reads as widened-reads
 use Rattle.rule_fields.proofs.source_input.Reads as source-input-reads
 use Rattle.rule_fields.proofs.source_input_count.Reads as source-input-count-reads

@@ -3,8 +3,12 @@
 use mathlib.Core.Path.{refl}
 use Rattle.definitions.specs.Lists.{padded}
 use Rattle.definitions.specs.Graph.{emptySlot}
+use borrow.Author.Needs.{needs}
 use Rattle.new_table.proofs.empty_record.Statement.{statement}
 use Rattle.new_table.proofs.empty_record.Tie as tie
+
+cast-t1 : tie.Need-cast-t1
+cast-t1 c = search needs
 
 returns : tie.Need-returns
 unfolding emptySlot padded
@@ -18,4 +22,4 @@ returns c = record {
 }
 
 pub empty-record-spec : {M : Type 1} → statement M
-empty-record-spec = tie.close (tie.spec returns)
+empty-record-spec = tie.close (tie.spec cast-t1 returns)

@@ -15,7 +15,7 @@ use Rattle.laws.proofs.Rule.{some-rule-outputs}
 use Rattle.search.proofs.Sound.{graph-readable, rule-readable, rule-matchable}
 use Rattle.encoding.specs.Tables.{Table}
 use Rattle.encoding.proofs.Blocks.{block-readable, block-closed, block-cycle}
-use Rattle.graph_fields.specs.Readable.{Readable, Closed}
+use Rattle.graph_fields.specs.Layout.{ReadableGraph, Closed}
 use Rattle.target_attributes.specs.Words.{isGiven}
 use Rattle.vacancies.specs.Vacant.{marked, Lowest}
 use Rattle.vacancies.proofs.Laws.{marked-free}
@@ -159,7 +159,7 @@ has-cycle-requires : tie.Need-has-cycle-requires
 has-cycle-requires c κs =
     let w = c .before .before .before in
     let written = sym (w .write-table .ensures) in
-    (subst Readable written (block-readable (new w) (table w)), subst Closed written (block-closed (new w) (table w)))
+    (subst ReadableGraph written (block-readable (new w) (table w)), subst Closed written (block-closed (new w) (table w)))
 
 same-length : tie.Need-same-length
 same-length c = search needs

@@ -9,7 +9,7 @@ use Prim.Native.Nat.{ℕ, _+_, _≤_}
 use native.Mathlib.Omega.{arith}
 use Rattle.definitions.specs.Lists.{lowest}
 use Rattle.definitions.specs.Rule.{sourceCount, targetCount, nodeCount, ruleOf, ruleHeaderFits, badVertex, inVisitingOrder, outputsFit, badNode}
-use Rattle.rule_fields.specs.Readable.{Whole, Readable, Layered}
+use Rattle.rule_fields.specs.Layout.{WholeRule, ReadableRule, Layered}
 use Rattle.rule_check.proofs.Laws.{whole, readable, layered, refused-header, refused-vertex, refused-order, refused-outputs, refused-node, refused-use, sound}
 use Rattle.rule_check.proofs.check.Statement.{statement}
 use Rattle.rule_check.proofs.check.Tie as tie
@@ -22,7 +22,7 @@ block₁ c = c .before .before .before .args .rule .now
 header : (c : tie.Else1) → ruleHeaderFits (block₁ c) ≡ true
 header c = sym (c .before .header-fits .ensures) ∙ not-false (c .before .header-fits .result) (c .if1 .left)
 
-laid-out : (c : tie.Else1) → Whole (block₁ c)
+laid-out : (c : tie.Else1) → WholeRule (block₁ c)
 laid-out c = whole (block₁ c) (header c)
 
 abbrev to₁ : tie.Else2 → tie.Else1
@@ -37,7 +37,7 @@ vertices c =
     let counts = c .before .before in
     omega (arith, c .before .bad-vertex .ensures, counts .target-count .ensures .0, counts .before .source-count .ensures .0)
 
-read : (c : tie.Else2) → Readable (block₂ c)
+read : (c : tie.Else2) → ReadableRule (block₂ c)
 read c = readable (block₂ c) (vertices c) (laid-out (to₁ c))
 
 layers : (c : tie.Else2) → Layered (block₂ c)

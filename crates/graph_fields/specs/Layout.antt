@@ -7,14 +7,14 @@ use lib.ListN.{length, getD}
 use Rattle.definitions.specs.Graph.{slotLimit, inputLimit, attributeLimit, outputLimit, unusedPlace, slotCount, outputCount, recordAt, graphOf, slotOf, inputsOf}
 
 -- the block holds its header and all the slots that the header counts
-pub record Whole (block : List ℕ) : Type 0 where
+pub record WholeGraph (block : List ℕ) : Type 0 where
   pub size : length block ≡ recordAt (slotCount block)
   pub slots : slotCount block ≤ slotLimit
   pub outputs : outputCount block ≤ outputLimit
 
 -- and no record counts more inputs or attributes than it has places for
-pub record Readable (block : List ℕ) : Type 0 where
-  pub whole : Whole block
+pub record ReadableGraph (block : List ℕ) : Type 0 where
+  pub whole : WholeGraph block
   pub inputs : (k : ℕ) → k < slotCount block → length (inputsOf (graphOf block) k) ≤ inputLimit
   pub attributes : (k : ℕ) → k < slotCount block → length (slotOf (graphOf block) k .attributes) ≤ attributeLimit
 

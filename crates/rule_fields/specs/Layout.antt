@@ -9,7 +9,7 @@ use Rattle.definitions.specs.Graph.{inputLimit, attributeLimit}
 use Rattle.definitions.specs.Rule.{sideLimit, ruleOutputLimit, nodeLimit, sourceCount, targetCount, ruleOutputCount, nodeCount, vertexAt, nodeAt, ruleOf, sourceInputs}
 
 -- the block holds its header and all the vertices and nodes that the header counts
-pub record Whole (block : List ℕ) : Type 0 where
+pub record WholeRule (block : List ℕ) : Type 0 where
   pub size : length block ≡ nodeAt block (nodeCount block)
   pub source : sourceCount block ≤ sideLimit
   pub target : targetCount block ≤ sideLimit
@@ -17,8 +17,8 @@ pub record Whole (block : List ℕ) : Type 0 where
   pub nodes : nodeCount block ≤ nodeLimit
 
 -- and no record counts more inputs or attributes than it has places for
-pub record Readable (block : List ℕ) : Type 0 where
-  pub whole : Whole block
+pub record ReadableRule (block : List ℕ) : Type 0 where
+  pub whole : WholeRule block
   pub inputs : (v : ℕ) → v < sourceCount block + targetCount block → byteAt block (vertexAt v + 2) ≤ inputLimit
   pub attributes : (v : ℕ) → v < sourceCount block + targetCount block → byteAt block (vertexAt v + 3) ≤ attributeLimit
 
