@@ -13,7 +13,7 @@ use lib.ListN.{length}
 use Rattle.definitions.specs.declared.Refusal.{Refusal}
 use Rattle.definitions.specs.declared.Reply.{Reply}
 use Rattle.definitions.specs.declared.Reply.the-variants.{Done, Refused}
-use Rattle.definitions.specs.Reply.{badMapLength, badGraph, badRule, noMatch, noPlace, refused, packed, firstRefusal}
+use Rattle.definitions.specs.Reply.{badMapLength, badGraph, badRule, noMatch, noPlace, refusal, refused, packed, firstRefusal}
 use Rattle.definitions.specs.Graph.{graphFaults, graphReply, SoundGraph}
 use Rattle.definitions.specs.Rule.{ruleFaults, ruleReply, SoundRule}
 use Rattle.definitions.specs.Operations.{Outcome, Returned, outcome, atReturn, returned, mapBytes, mapReply, blocksReply}
@@ -21,6 +21,7 @@ use Rattle.laws.proofs.Lists.{decided}
 use Rattle.laws.proofs.Reply.{packed-refused, done-or-refused, judged-either, first-done, first-refused}
 use Rattle.graph_check.proofs.Sound as GraphSound
 use Rattle.rule_check.proofs.Sound as RuleSound
+use Rattle.answers.specs.Statements.{Good, BlockReplies, Verdict, CheckedGraph, GraphVerdict, CheckedRule, RuleVerdict}
 
 -- ---- replies
 
@@ -61,11 +62,42 @@ module _ (block : List ℕ) where
   rule-decided =
       sound-decided (ruleReply block) badRule (rule-either block) (RuleSound.only-sound block) (RuleSound.every-sound block)
 
--- ---- the stages, in document 01's order
+-- ---- the checks
 
--- a map of 32 bytes, a sound graph and a sound rule
-abbrev pub Good : List ℕ → List ℕ → List ℕ → Type 0
-Good graph rule before = (length before ≡ mapBytes) × SoundGraph graph × SoundRule rule
+-- what the C side gets is 0 exactly for a sound block, and else its number
+module _ {Sound : Type 0} (answer : Reply) (n : ℕ) (some : 0 < n) (either : (answer ≡ Done) ⊎ (answer ≡ refused n))
+    (only : answer ≡ Done → Sound) (every : Sound → answer ≡ Done) (reply : ℕ) (contract : reply ≡ packed answer) where
+  as-done : answer ≡ Done → reply ≡ 0
+  unfolding packed
+  as-done e = contract ∙ ap packed e
+
+  as-refused : answer ≡ refused n → reply ≡ n
+  as-refused e = contract ∙ ap packed e ∙ packed-refused n
+
+  pub verdict : Verdict Sound n reply
+  verdict = record {
+    done = (
+      λ h. ⊎-elim only (λ (e : answer ≡ refused n). absurd (omega (arith, as-refused e))) either,
+      λ s. as-done (every s),
+    );
+    refused = (
+      λ h s. omega (arith, as-done (every s)),
+      λ unsound. as-refused (unsound-refused answer n either only every unsound),
+    );
+    either = ⊎-elim (λ (e : answer ≡ Done). inl (as-done e)) (λ (e : answer ≡ refused n). inr (as-refused e)) either;
+  }
+
+pub graph-verdict : (graph : List ℕ) (reply : ℕ) → CheckedGraph graph reply → GraphVerdict graph reply
+graph-verdict graph reply contract =
+    verdict (graphReply graph) badGraph (omega arith) (graph-either graph) (GraphSound.only-sound graph) (GraphSound.every-sound graph)
+    reply contract
+
+pub rule-verdict : (rule : List ℕ) (reply : ℕ) → CheckedRule rule reply → RuleVerdict rule reply
+rule-verdict rule reply contract =
+    verdict (ruleReply rule) badRule (omega arith) (rule-either rule) (RuleSound.only-sound rule) (RuleSound.every-sound rule)
+    reply contract
+
+-- ---- the stages, in document 01's order
 
 module _ (before : List ℕ) where
   map-good : length before ≡ mapBytes → mapReply before ≡ Done
@@ -104,12 +136,12 @@ pub record Staged (graph rule before : List ℕ) (whole rest : Outcome) : Type 0
 module _ {graph rule before : List ℕ} {whole rest : Outcome} (staged : Staged graph rule before whole rest)
     {reply : ℕ} {graphAfter after : List ℕ} (contract : atReturn reply graphAfter after ≡ returned whole) where
   -- at the return: this reply, and these bytes in the graph and in the map
-  pub ends : (o : Outcome) → whole ≡ o → (reply ≡ packed (o .reply)) × (graphAfter ≡ o .graph) × (after ≡ o .images)
+  pub ends : (o : Outcome) → whole ≡ o → (reply ≡ packed (o .reply)) × (graphAfter ≡ o .graph) × (after ≡ o .map)
   unfolding returned
   ends o e = (
     ap (λ (x : Returned). x .reply) contract ∙ ap (λ (x : Outcome). packed (x .reply)) e,
     ap (λ (x : Returned). x .graph) contract ∙ ap (λ (x : Outcome). x .graph) e,
-    ap (λ (x : Returned). x .images) contract ∙ ap (λ (x : Outcome). x .images) e,
+    ap (λ (x : Returned). x .map) contract ∙ ap (λ (x : Outcome). x .map) e,
   )
 
   -- at the return: this refusal, and every byte as it came
@@ -122,21 +154,21 @@ module _ {graph rule before : List ℕ} {whole rest : Outcome} (staged : Staged 
       (p .0 ∙ packed-refused n, p .1, p .2)
 
   blocks-ends : (n : ℕ) → blocksReply graph rule before ≡ refused n → Refuses n
-  unfolding refused
+  unfolding refusal
   blocks-ends n e = refused-ends n (staged .refusing (record { number = n; place = noPlace }) e)
 
   map-ends : (length before ≡ mapBytes → ⊥) → Refuses badMapLength
-  unfolding blocksReply refused
+  unfolding blocksReply refusal
   map-ends other =
       blocks-ends badMapLength (first-refused _ (graphReply graph ∷ ruleReply rule ∷ []) (map-bad before other))
 
   graph-ends : length before ≡ mapBytes → (SoundGraph graph → ⊥) → Refuses badGraph
-  unfolding refused
+  unfolding refusal
   graph-ends size unsound =
       blocks-ends badGraph (after-map graph rule before size ∙ first-refused _ (ruleReply rule ∷ []) (graph-bad graph unsound))
 
   rule-ends : length before ≡ mapBytes → SoundGraph graph → (SoundRule rule → ⊥) → Refuses badRule
-  unfolding refused
+  unfolding refusal
   rule-ends size sound unsound =
       blocks-ends badRule (after-graph graph rule before size sound ∙ first-refused _ [] (rule-bad rule unsound))
 
@@ -235,3 +267,12 @@ module _ {graph rule before : List ℕ} {whole rest : Outcome} (staged : Staged 
       (λ low high keptGraph keptMap.
       absurd (⊎-elim (λ (e : reply ≡ 0). omega arith) (λ (l : noMatch ≤ reply). omega arith) other))
       (λ good. good)
+
+  -- Replies 1 to 3 are given exactly where they are due.
+  pub block-replies : BlockReplies graph rule before reply
+  block-replies = record {
+    wrongMap = (bad-map-only, bad-map-every);
+    wrongGraph = (bad-graph-only, λ w. bad-graph-every (w .0) (w .1));
+    wrongRule = (bad-rule-only, λ w. bad-rule-every (w .0) (w .1) (w .2));
+    good = good-only;
+  }

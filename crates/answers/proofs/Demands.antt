@@ -8,14 +8,14 @@ use mathlib.Core.Logic.{inl}
 use mathlib.Core.Option.{some, Option·some-injective}
 use Prim.Native.Nat.{ℕ}
 use lib.IntN.{ℤ}
+use lib.ListN.{length, length-map}
 use Rattle.definitions.specs.Fields.{Bytes}
 use Rattle.definitions.specs.Paths.{Acyclic}
 use Rattle.definitions.specs.Graph.{Graph, graphOf, inputsOf, isVertex, graphBlock, SoundGraph}
 use Rattle.definitions.specs.Rule.{sourceCount, Rule, ruleOf, SoundRule}
 use Rattle.definitions.specs.Match.{readAttribute, Match}
-use Rattle.definitions.specs.Rewriting.{targetResults, stays, hasRoom, newGraph}
+use Rattle.definitions.specs.Rewriting.{targetResults, stays, hasRoom, redirect, newGraph}
 use Rattle.definitions.specs.Results.{Meaning}
-use Rattle.definitions.specs.Operations.{Rewrote}
 use Rattle.laws.proofs.Members.{holds, true-holds}
 use Rattle.theory.proofs.Results.{Layout, results-unique, results-exist}
 use Rattle.encoding.specs.Tables.{Table, Words}
@@ -26,8 +26,9 @@ use Rattle.replacement.proofs.Kept.{keeps-untouched, keeps-staying, keeps-outpu
 use Rattle.shapes.proofs.Sound.{new-table, new-table-words}
 use Rattle.answers.specs.Written.{imagesIn}
 use Rattle.answers.specs.Rewritten.{Keeps}
+use Rattle.answers.specs.Statements.{Rewrote, Demand3}
 use Rattle.answers.proofs.Maps.{least-is}
-use Rattle.answers.proofs.Rewriting.{free-acyclic, good, done-leaves, told}
+use Rattle.answers.proofs.Rewriting.{free-acyclic, good, done-leaves, written-images}
 
 -- ---- a rewriting at one match of sound blocks, with room and with no cycle
 
@@ -70,6 +71,10 @@ module _ (graph rule images : List ℕ) (values : List (List ℤ)) where
     newLayout : Layout new
     newLayout = new-layout g r images values at (a .acyclic)
 
+    new-count : length (new .outputs) ≡ length (g .outputs)
+    unfolding newGraph
+    new-count = length-map (g .outputs) (redirect g r images)
+
     keeps {ℓ} : {R : Type ℓ} (m : Meaning R) → Keeps m g r images values new
     keeps m = record {
       someBefore = results-exist m g (at .layout);
@@ -80,6 +85,7 @@ module _ (graph rule images : List ℕ) (values : List (List ℤ)) where
         true-holds (isVertex g v) (stays-vertex g r images v (holds (stays g r images v) t)),
         staying-vertex g r images values at v t,
       );
+      sameCount = new-count;
       named = λ v k. true-holds (isVertex new v) (new-outputs g r images values at v k);
       untouched = λ before after old later. keeps-untouched g r images values at m before after old later;
       staying = λ same before after old later. keeps-staying g r images values at m before after old later (a .acyclic) same;
@@ -98,7 +104,7 @@ module _ (graph rule : List ℕ) (start : ℕ) (before : List ℕ) (reply : ℕ)
       let isMatch = least-is graph rule start (left .0) (blocks .1) (blocks .2) (left .2) in
       let same : left .0 ≡ imagesIn after (sourceCount rule) =
       Option·some-injective (left .0) (imagesIn after (sourceCount rule))
-      (sym (left .2) ∙ told graph rule start before reply graphAfter after contract h) in
+      (sym (left .2) ∙ written-images graph rule start before reply graphAfter after contract h) in
       subst (λ (images : List ℕ). (values : List (List ℤ)) × Accepted graph rule images values graphAfter) same (
         left .1,
         record {
@@ -113,29 +119,30 @@ module _ (graph rule : List ℕ) (start : ℕ) (before : List ℕ) (reply : ℕ)
         },
       )
 
-  -- An accepted rewriting of a block of bytes yields a sound graph, so that rewritings can follow one another.
-  pub yields-sound : Bytes graph → reply ≡ 0 → SoundGraph graphAfter
-  yields-sound bytes h =
+  -- An accepted rewriting yields a sound graph, so that rewritings can follow one another.
+  pub yields-sound : reply ≡ 0 → SoundGraph graphAfter
+  yields-sound h =
       let a = accepted h in
-      accepted-sound graph rule (imagesIn after (sourceCount rule)) (a .0) (a .1) bytes
+      accepted-sound graph rule (imagesIn after (sourceCount rule)) (a .0) (a .1) (contract .lentGraph)
 
   -- Its graph is the one table that document 01 describes, for the match that the map tells.
-  pub yields-table : Bytes graph → reply ≡ 0 → (values : List (List ℤ))
+  pub yields-table : reply ≡ 0 → (values : List (List ℤ))
       × (targetResults (readAttribute (graphOf graph) (imagesIn after (sourceCount rule))) (ruleOf rule .target) ≡ some values)
+      × (graphAfter ≡ graphBlock (newGraph (graphOf graph) (ruleOf rule) (imagesIn after (sourceCount rule)) values))
       × (graphOf graphAfter ≡ newGraph (graphOf graph) (ruleOf rule) (imagesIn after (sourceCount rule)) values)
-  yields-table bytes h =
+  yields-table h =
       let a = accepted h in
-      (a .0, a .1 .fit, accepted-table graph rule (imagesIn after (sourceCount rule)) (a .0) (a .1) bytes)
+      let table = accepted-table graph rule (imagesIn after (sourceCount rule)) (a .0) (a .1) (contract .lentGraph) in
+      (a .0, a .1 .fit, a .1 .block, table)
 
   -- Demand 3, for every result type, every function for kinds and operators, and every results of the variables: "before" is the graph
   -- of the block as it came, and "after" that of the bytes at the return.
-  pub demand-3 {ℓ} : {R : Type ℓ} (m : Meaning R) → Bytes graph → reply ≡ 0 → (values : List (List ℤ))
-      × (targetResults (readAttribute (graphOf graph) (imagesIn after (sourceCount rule))) (ruleOf rule .target) ≡ some values)
-      × Keeps m (graphOf graph) (ruleOf rule) (imagesIn after (sourceCount rule)) values (graphOf graphAfter)
-  demand-3 m bytes h =
+  pub demand-3 {ℓ} : {R : Type ℓ} (m : Meaning R) → reply ≡ 0 → Demand3 m graph rule graphAfter after
+  demand-3 m h =
       let images = imagesIn after (sourceCount rule) in
-      let a = accepted h in (
-        a .0,
-        a .1 .fit,
-        rw (accepted-table graph rule images (a .0) (a .1) bytes) (keeps graph rule images (a .0) (a .1) m),
-      )
+      let a = accepted h in
+      record {
+        values = a .0;
+        fit = a .1 .fit;
+        keeps = rw (accepted-table graph rule images (a .0) (a .1) (contract .lentGraph)) (keeps graph rule images (a .0) (a .1) m);
+      }

@@ -11,11 +11,11 @@ use lib.IntN.{ℤ}
 use Rattle.definitions.specs.Reply.{noMatch, noResult, noRoom, newCycle}
 use Rattle.definitions.specs.Graph.{Graph}
 use Rattle.definitions.specs.Rule.{Rule}
-use Rattle.definitions.specs.Match.{readAttribute, Match, leastMatch}
+use Rattle.definitions.specs.Match.{readAttribute, Match, LeastFrom, leastMatch}
 use Rattle.definitions.specs.Rewriting.{targetResults, hasRoom}
 use Rattle.laws.proofs.Lists.{option-either}
 use Rattle.theory.proofs.Fixing.{Fixing}
-use Rattle.theory.proofs.Least.{least-match}
+use Rattle.theory.proofs.Least.{least-match, least-searched}
 use Rattle.answers.specs.Rewritten.{Due, unmatched, unfit, full, cyclic, done}
 use Rattle.answers.proofs.Fit.{unfit-none, none-unfit}
 use Rattle.answers.proofs.Room.{enough-room, short-room}
@@ -31,8 +31,8 @@ module _ (g : Graph) (r : Rule) (fixing : Fixing r) (s : ℕ) where
     ]
   ]
 
-  is-match : (images : List ℕ) → leastMatch g r s ≡ some images → Match g r images
-  is-match images least = least-match g r fixing s images least .isMatch
+  searched : (images : List ℕ) → LeastFrom g r s images → leastMatch g r s ≡ some images
+  searched = least-searched g r fixing s
 
   -- the tests stop at the number that is due; where 0 is due they come to the last one
   due-stage : {n : ℕ} → Due g r s n → (stage ≡ n) ⊎ ((n ≡ 0) × (stage ≡ newCycle))
@@ -42,21 +42,21 @@ module _ (g : Graph) (r : Rule) (fixing : Fixing r) (s : ℕ) where
       (λ (f : (images : List ℕ) × (leastMatch g r s ≡ some images)).
       absurd (never (f .0) (least-match g r fixing s (f .0) (f .1))))
       (option-either (leastMatch g r s)))
-  due-stage (unfit images least nofit) = inl (rw (least, stage) (rw (unfit-none g r images nofit)))
+  due-stage (unfit images least nofit) = inl (rw (searched images least, stage) (rw (unfit-none g r images nofit)))
   due-stage (full images least fit short) =
       inl (⊎-elim (λ (e : targetResults (readAttribute g images) (r .target) ≡ none). absurd (fit (none-unfit g r images e)))
       (λ (f : (values : List (List ℤ)) × (targetResults (readAttribute g images) (r .target) ≡ some values)).
-      rw (least, stage) (rw (f .1, short-room g r images (is-match images least) short)))
+      rw (searched images least, stage) (rw (f .1, short-room g r images (least .from .isMatch) short)))
       (option-either (targetResults (readAttribute g images) (r .target))))
   due-stage (cyclic images values least fit have enough cycle) =
-      inl (rw (least, stage) (rw (have, enough-room g r images (is-match images least) enough)))
+      inl (rw (searched images least, stage) (rw (have, enough-room g r images (least .from .isMatch) enough)))
   due-stage (done images values least fit have enough acyclic) =
-      inr (refl, rw (least, stage) (rw (have, enough-room g r images (is-match images least) enough)))
+      inr (refl, rw (searched images least, stage) (rw (have, enough-room g r images (least .from .isMatch) enough)))
 
   -- 0 and 7 are told apart by the new table's cycle
   not-both : Due g r s 0 → Due g r s newCycle → ⊥
   not-both (done images values least fit have enough acyclic) (cyclic images' values' least' fit' have' enough' cycle) =
-      let same : images ≡ images' = Option·some-injective images images' (sym least ∙ least') in
+      let same : images ≡ images' = Option·some-injective images images' (sym (searched images least) ∙ searched images' least') in
       let sameValues : values ≡ values' = Option·some-injective values values' (sym (rw same at have) ∙ have') in
       cycle (rw (same, sameValues) at acyclic)
 

@@ -7,3 +7,4 @@ pub mod Exclusive
 pub mod Rewriting
 pub mod Demands
 pub mod Unchanged
+pub mod Statements

@@ -17,10 +17,11 @@ use Rattle.laws.proofs.Graph.{length-slots, few-slots}
 use Rattle.laws.proofs.Rule.{length-source, few-sources}
 use Rattle.laws.proofs.Match.{image-inside}
 use Rattle.theory.proofs.Fixing.{sound-fixing}
-use Rattle.theory.proofs.Least.{least-match}
+use Rattle.theory.proofs.Least.{least-match, search-least}
 use Rattle.encoding.proofs.Numbers.{length-u16, u16-back}
 use Rattle.encoding.proofs.Places.{length-places, place-at}
 use Rattle.answers.specs.Written.{imagesIn}
+use Rattle.answers.specs.Statements.{WritesLeast}
 
 -- ---- what a caller reads
 
@@ -98,9 +99,17 @@ module _ (graph rule : List ℕ) (start : ℕ) (images : List ℕ) (sound : Soun
         least ∙ ap some (sym back)
 
     -- the others are 65535
-    pub least-rest : (j : ℕ) → sourceCount rule ≤ j → j < sideLimit → u16At after (2 * j) ≡ unusedPlace
+    least-rest : (j : ℕ) → sourceCount rule ≤ j → j < sideLimit → u16At after (2 * j) ≡ unusedPlace
     least-rest j past l =
         ap (λ (m : List ℕ). u16At m (2 * j)) written ∙ map-rest images least-fits j (omega (arith, least-length)) l
 
-    pub least-bytes : length after ≡ mapBytes
+    least-bytes : length after ≡ mapBytes
     least-bytes = ap length written ∙ map-length images least-fits
+
+    -- so it is the map of the least match
+    pub least-written : WritesLeast graph rule start after
+    least-written = record {
+      least = search-least (graphOf graph) (ruleOf rule) (sound-fixing rule soundRule) start (imagesIn after (sourceCount rule)) least-told;
+      rest = least-rest;
+      size = least-bytes;
+    }

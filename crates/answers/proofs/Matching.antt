@@ -4,25 +4,24 @@ use mathlib.Core.Path.{_≡_, _∙_}
 use mathlib.Core.List.{List}
 use mathlib.Core.Logic.{_⊎_, inl, inr, ⊎-elim}
 use mathlib.Core.Option.{none, some}
-use Prim.Native.Nat.{ℕ, _*_, _<_, _≤_}
+use Prim.Native.Nat.{ℕ, _≤_}
 use native.Mathlib.Omega.{arith}
 use lib.ListN.{length}
 use Rattle.definitions.specs.declared.Reply.the-variants.{Done}
-use Rattle.definitions.specs.Fields.{u16At}
-use Rattle.definitions.specs.Reply.{badMapLength, badGraph, badRule, noMatch, refused, packed}
-use Rattle.definitions.specs.Graph.{unusedPlace, Graph, graphOf, SoundGraph}
-use Rattle.definitions.specs.Rule.{sideLimit, sourceCount, Rule, ruleOf, SoundRule}
-use Rattle.definitions.specs.Match.{MatchFrom, leastMatch}
-use Rattle.definitions.specs.Operations.{outcome, mapBytes, mapBlock, matched, findMatch, Answered}
+use Rattle.definitions.specs.Reply.{noMatch, refused, packed}
+use Rattle.definitions.specs.Graph.{Graph, graphOf, SoundGraph}
+use Rattle.definitions.specs.Rule.{sourceCount, Rule, ruleOf, SoundRule}
+use Rattle.definitions.specs.Match.{MatchFrom, outputImages, NotAfter, leastMatch}
+use Rattle.definitions.specs.Operations.{outcome, mapBytes, mapBlock, matched, findMatch}
 use Rattle.laws.proofs.Lists.{option-either}
 use Rattle.laws.proofs.Reply.{packed-refused}
 use Rattle.theory.proofs.Fixing.{sound-fixing}
-use Rattle.theory.proofs.Choices.{NotAfter}
-use Rattle.theory.proofs.Least.{outputImages, least-match, least-found, least-least, none-left}
+use Rattle.theory.proofs.Least.{least-match, least-found, none-left}
 use Rattle.answers.specs.Written.{imagesIn}
-use Rattle.answers.proofs.Maps.{least-told, least-rest, least-bytes}
+use Rattle.answers.specs.Statements.{Searched, Good, WritesLeast, MatchReplies}
+use Rattle.answers.proofs.Maps.{least-written}
 use Rattle.answers.proofs.Blocks as Blocks
-use Rattle.answers.proofs.Blocks.{Staged, Good}
+use Rattle.answers.proofs.Blocks.{Staged}
 
 module _ (graph rule : List ℕ) (start : ℕ) (before : List ℕ) where
   -- the graph and the rule for which the lent blocks stand
@@ -57,7 +56,7 @@ module _ (graph rule : List ℕ) (start : ℕ) (before : List ℕ) where
 
   -- ---- what the contract says at each end
 
-  module _ (reply : ℕ) (graphAfter after : List ℕ) (contract : Answered graph rule start before reply graphAfter after) where
+  module _ (reply : ℕ) (graphAfter after : List ℕ) (contract : Searched graph rule start before reply graphAfter after) where
     -- once the blocks are good, the search decides
     module _ (good : Good graph rule before) where
       none-ends : leastMatch g r start ≡ none → (reply ≡ noMatch) × (graphAfter ≡ graph) × (after ≡ before)
@@ -129,30 +128,6 @@ module _ (graph rule : List ℕ) (start : ℕ) (before : List ℕ) where
         absurd (never (f .0) (least-match g r (sound-fixing rule soundRule) start (f .0) (f .1))))
         (option-either (leastMatch g r start))
 
-    -- Reply 1: the map buffer isn't 32 bytes.
-    pub bad-map-only : reply ≡ badMapLength → length before ≡ mapBytes → ⊥
-    bad-map-only = Blocks.bad-map-only staged contract
-
-    -- And 1 is replied wherever that is so.
-    pub bad-map-every : (length before ≡ mapBytes → ⊥) → reply ≡ badMapLength
-    bad-map-every = Blocks.bad-map-every staged contract
-
-    -- Reply 2: the map has 32 bytes, and the graph block is bad.
-    pub bad-graph-only : reply ≡ badGraph → (length before ≡ mapBytes) × (SoundGraph graph → ⊥)
-    bad-graph-only = Blocks.bad-graph-only staged contract
-
-    -- And 2 is replied wherever that is so.
-    pub bad-graph-every : length before ≡ mapBytes → (SoundGraph graph → ⊥) → reply ≡ badGraph
-    bad-graph-every = Blocks.bad-graph-every staged contract
-
-    -- Reply 3: the map has 32 bytes, the graph is sound, and the rule block is bad.
-    pub bad-rule-only : reply ≡ badRule → (length before ≡ mapBytes) × SoundGraph graph × (SoundRule rule → ⊥)
-    bad-rule-only = Blocks.bad-rule-only staged contract
-
-    -- And 3 is replied wherever that is so.
-    pub bad-rule-every : length before ≡ mapBytes → SoundGraph graph → (SoundRule rule → ⊥) → reply ≡ badRule
-    bad-rule-every = Blocks.bad-rule-every staged contract
-
     -- a call is refused with one of 1 to 4, and then every byte is as it came, or it is done, and the graph is as it came
     abbrev Ended : Type 0
     Ended = (graphAfter ≡ graph) × ((reply ≡ 0) ⊎ ((reply ≤ noMatch) × (after ≡ before)))
@@ -186,29 +161,30 @@ module _ (graph rule : List ℕ) (start : ℕ) (before : List ℕ) where
     unchanged refusal =
         ⊎-elim (λ (e : reply ≡ 0). absurd (refusal e)) (λ (e : (reply ≤ noMatch) × (after ≡ before)). e .1) (ended .1)
 
-    written : (f : Found) → leastMatch g r start ≡ some (imagesIn after (sourceCount rule))
-    written f = least-told graph rule start (f .images) (f .good .1) (f .good .2) (f .least) after (f .map)
-
-    -- Done writes the map of a match from the start: number j is the image of source vertex j.
-    pub written-match : reply ≡ 0 → MatchFrom g r start (imagesIn after (sourceCount rule))
-    written-match h =
+    -- Done writes the map of the least match from the start: number j is the image of source vertex j, and 65535 stands from S on.
+    pub written : reply ≡ 0 → WritesLeast graph rule start after
+    written h =
         let f = found h in
-        least-match g r (sound-fixing rule (f .good .2)) start (imagesIn after (sourceCount rule)) (written f)
+        least-written graph rule start (f .images) (f .good .1) (f .good .2) (f .least) after (f .map)
 
-    -- The least match is taken: whose first output's image is least, then whose second is least.
+    -- So it is the map of a match from the start,
+    pub written-match : reply ≡ 0 → MatchFrom g r start (imagesIn after (sourceCount rule))
+    written-match h = written h .least .from
+
+    -- and no other such match has a lesser first image, or the same first and a lesser second one.
     pub written-least : reply ≡ 0 → (other : List ℕ) → MatchFrom g r start other
         → NotAfter (outputImages r (imagesIn after (sourceCount rule))) (outputImages r other)
-    written-least h other from =
-        let f = found h in
-        least-least g r (sound-fixing rule (f .good .2)) start (imagesIn after (sourceCount rule)) other (written f) from
+    written-least h = written h .least .least
 
-    -- The map is sixteen 16-bit numbers, 65535 from S on.
-    pub written-rest : reply ≡ 0 → (j : ℕ) → sourceCount rule ≤ j → j < sideLimit → u16At after (2 * j) ≡ unusedPlace
-    written-rest h j past l =
-        let f = found h in
-        least-rest graph rule start (f .images) (f .good .1) (f .good .2) (f .least) after (f .map) j past l
+    -- ---- all of this at once
 
-    pub written-length : reply ≡ 0 → length after ≡ mapBytes
-    written-length h =
-        let f = found h in
-        least-bytes graph rule start (f .images) (f .good .1) (f .good .2) (f .least) after (f .map)
+    pub match-replies : MatchReplies graph rule start before reply graphAfter after
+    match-replies = record {
+      blocks = Blocks.block-replies staged contract;
+      done = (λ h. let d = done-only h in ((d .0, d .1, d .2), d .3), λ w. done-every (w .0 .0) (w .0 .1) (w .0 .2) (w .1 .0) (w .1 .1));
+      none = (λ h. let d = none-only h in ((d .0, d .1, d .2), d .3), λ w. none-every (w .0 .0) (w .0 .1) (w .0 .2) (w .1));
+      oneOfFive = one-of-five;
+      graphKept = graph-unchanged;
+      refusalKeeps = unchanged;
+      written = written;
+    }

@@ -11,28 +11,28 @@ use borrow.Author.Tests.{not-false}
 use lib.IntN.{ℤ}
 use lib.ListN.{length}
 use Rattle.definitions.specs.declared.Reply.the-variants.{Done}
-use Rattle.definitions.specs.Fields.{u16At}
 use Rattle.definitions.specs.Paths.{Acyclic}
-use Rattle.definitions.specs.Reply.{badMapLength, badGraph, badRule, noMatch, noResult, noRoom, newCycle, refused, packed}
-use Rattle.definitions.specs.Graph.{unusedPlace, Graph, graphOf, inputsOf, graphBlock, hasCycle, SoundGraph}
-use Rattle.definitions.specs.Rule.{sideLimit, sourceCount, Rule, ruleOf, SoundRule}
-use Rattle.definitions.specs.Match.{readAttribute, Match, leastMatch}
+use Rattle.definitions.specs.Reply.{noMatch, noResult, noRoom, newCycle, refusal, refused, packed}
+use Rattle.definitions.specs.Graph.{Graph, graphOf, inputsOf, graphBlock, hasCycle, SoundGraph}
+use Rattle.definitions.specs.Rule.{sourceCount, Rule, ruleOf, SoundRule}
+use Rattle.definitions.specs.Match.{readAttribute, Match, MatchFrom, outputImages, NotAfter, LeastFrom, leastMatch}
 use Rattle.definitions.specs.Rewriting.{targetResults, hasRoom, newGraph}
-use Rattle.definitions.specs.Operations.{Outcome, outcome, mapBytes, mapBlock, accepted, turnedDown, rewritten, replaced, rewrite, Rewrote}
+use Rattle.definitions.specs.Operations.{Outcome, outcome, atReturn, returned, mapBytes, mapBlock, accepted, turnedDown, rewritten, replaced, rewrite}
 use Rattle.laws.proofs.Lists.{decided, true-not-false, option-either}
 use Rattle.laws.proofs.Reply.{packed-refused}
 use Rattle.laws.proofs.Rewriting.{rewritten-unfit, rewritten-full, rewritten-cyclic, rewritten-done}
 use Rattle.theory.proofs.Paths.{Table, acyclic-sound, acyclic-complete}
 use Rattle.theory.proofs.Results.{named-table}
 use Rattle.theory.proofs.Fixing.{sound-fixing}
-use Rattle.theory.proofs.Least.{none-left}
+use Rattle.theory.proofs.Least.{none-left, search-least}
 use Rattle.replacement.proofs.Site.{Site, site}
 use Rattle.replacement.proofs.Table.{new-inputs}
 use Rattle.answers.specs.Written.{imagesIn}
 use Rattle.answers.specs.Rewritten.{Due}
-use Rattle.answers.proofs.Maps.{least-is, least-told, least-rest, least-bytes}
+use Rattle.answers.specs.Statements.{Rewrote, Good, BlockReplies, WritesLeast}
+use Rattle.answers.proofs.Maps.{least-told, least-written}
 use Rattle.answers.proofs.Blocks as Blocks
-use Rattle.answers.proofs.Blocks.{Staged, Good}
+use Rattle.answers.proofs.Blocks.{Staged}
 use Rattle.answers.proofs.Fit.{none-unfit, some-fit}
 use Rattle.answers.proofs.Room.{room-enough, room-short}
 use Rattle.answers.proofs.Exclusive.{due-one}
@@ -84,7 +84,7 @@ module _ (graph rule : List ℕ) (start : ℕ) (before : List ℕ) where
 
   -- the outcome of each test at the least match
   module _ (images : List ℕ) (least : Least images) where
-    down-rest : (n : ℕ) → rewritten g r images ≡ turnedDown n → rest ≡ outcome (refused n) graph before
+    down-rest : (n : ℕ) → rewritten g r images ≡ turnedDown (refusal n) → rest ≡ outcome (refused n) graph before
     unfolding rest replaced
     down-rest n e = rw (least, rest) (rw (e, replaced))
 
@@ -161,7 +161,7 @@ module _ (graph rule : List ℕ) (start : ℕ) (before : List ℕ) where
   outcome-number (refusing n why) = inr (rw (packed-refused n) (reason-number why))
   outcome-number (done images values least have h c) = inl refl
 
-  outcome-keeps : {o : Outcome} → Tested o → (packed (o .reply) ≡ 0 → ⊥) → (o .graph ≡ graph) × (o .images ≡ before)
+  outcome-keeps : {o : Outcome} → Tested o → (packed (o .reply) ≡ 0 → ⊥) → (o .graph ≡ graph) × (o .map ≡ before)
   unfolding packed
   outcome-keeps (refusing n why) refusal = (refl, refl)
   outcome-keeps (done images values least have h c) refusal = absurd (refusal refl)
@@ -172,32 +172,35 @@ module _ (graph rule : List ℕ) (start : ℕ) (before : List ℕ) where
       (images : List ℕ) × (values : List (List ℤ)) × Least images × Values images values × (after ≡ mapBlock images)
       × (graphAfter ≡ graphBlock (new images values)) × (hasRoom g r images ≡ true) × (hasCycle (new images values) ≡ false)
 
-  outcome-leaves : {o : Outcome} → Tested o → packed (o .reply) ≡ 0 → Leaves (o .graph) (o .images)
+  outcome-leaves : {o : Outcome} → Tested o → packed (o .reply) ≡ 0 → Leaves (o .graph) (o .map)
   outcome-leaves (refusing n why) z = absurd (omega (arith, packed-refused n, reason-number why))
   outcome-leaves (done images values least have h c) z = (images, values, least, have, refl, refl, h, c)
 
   -- between sound blocks the number is the one that is due
   module _ (sound : SoundGraph graph) (soundRule : SoundRule rule) where
+    is-least : (images : List ℕ) → Least images → LeastFrom g r start images
+    is-least = search-least g r (sound-fixing rule soundRule) start
+
     is-match : (images : List ℕ) → Least images → Match g r images
-    is-match images least = least-is graph rule start images sound soundRule least
+    is-match images least = is-least images least .from .isMatch
 
     at-match : (images : List ℕ) → Least images → hasRoom g r images ≡ true → Site g r images
     at-match images least h = site graph rule images sound soundRule (is-match images least) h
 
     reason-due : {n : ℕ} → Reason n → Due g r start n
     reason-due (unmatched e) = Due.unmatched (none-left g r (sound-fixing rule soundRule) start e)
-    reason-due (unfit images least e) = Due.unfit images least (none-unfit g r images e)
+    reason-due (unfit images least e) = Due.unfit images (is-least images least) (none-unfit g r images e)
     reason-due (full images values least have h) =
-        Due.full images least (some-fit g r images values have) (room-short g r images (is-match images least) h)
+        Due.full images (is-least images least) (some-fit g r images values have) (room-short g r images (is-match images least) h)
     reason-due (cyclic images values least have h c) =
-        Due.cyclic images values least (some-fit g r images values have) have (room-enough g r images (is-match images least) h)
+        Due.cyclic images values (is-least images least) (some-fit g r images values have) have (room-enough g r images (is-match images least) h)
         (λ acyclic. true-not-false c (acyclic-free g r images values (at-match images least h) acyclic))
 
     outcome-due : {o : Outcome} → Tested o → Due g r start (packed (o .reply))
     unfolding packed
     outcome-due (refusing n why) = rw (packed-refused n) (reason-due why)
     outcome-due (done images values least have h c) =
-        Due.done images values least (some-fit g r images values have) have (room-enough g r images (is-match images least) h)
+        Due.done images values (is-least images least) (some-fit g r images values have) have (room-enough g r images (is-match images least) h)
         (free-acyclic g r images values (at-match images least h) c)
 
   -- the blocks are judged first
@@ -215,6 +218,9 @@ module _ (graph rule : List ℕ) (start : ℕ) (before : List ℕ) where
 
 module _ (graph rule : List ℕ) (start : ℕ) (before : List ℕ) (reply : ℕ) (graphAfter after : List ℕ)
     (contract : Rewrote graph rule start before reply graphAfter after) where
+  met : atReturn reply graphAfter after ≡ returned (rewrite graph rule start before)
+  met = contract .outcome
+
   stages : Staged graph rule before (rewrite graph rule start before) (rest graph rule start before)
   stages = staged graph rule start before
 
@@ -224,36 +230,16 @@ module _ (graph rule : List ℕ) (start : ℕ) (before : List ℕ) (reply : ℕ)
 
   -- at the return from a call on good blocks
   ends : Good graph rule before → (reply ≡ packed (rest graph rule start before .reply))
-      × (graphAfter ≡ rest graph rule start before .graph) × (after ≡ rest graph rule start before .images)
-  ends blocks = Blocks.ends stages contract (rest graph rule start before) (Blocks.passed stages contract blocks)
+      × (graphAfter ≡ rest graph rule start before .graph) × (after ≡ rest graph rule start before .map)
+  ends blocks = Blocks.ends stages met (rest graph rule start before) (Blocks.passed stages met blocks)
 
-  -- Reply 1: the map buffer isn't 32 bytes.
-  pub bad-map-only : reply ≡ badMapLength → length before ≡ mapBytes → ⊥
-  bad-map-only = Blocks.bad-map-only stages contract
-
-  -- And 1 is replied wherever that is so.
-  pub bad-map-every : (length before ≡ mapBytes → ⊥) → reply ≡ badMapLength
-  bad-map-every = Blocks.bad-map-every stages contract
-
-  -- Reply 2: the map has 32 bytes, and the graph block is bad.
-  pub bad-graph-only : reply ≡ badGraph → (length before ≡ mapBytes) × (SoundGraph graph → ⊥)
-  bad-graph-only = Blocks.bad-graph-only stages contract
-
-  -- And 2 is replied wherever that is so.
-  pub bad-graph-every : length before ≡ mapBytes → (SoundGraph graph → ⊥) → reply ≡ badGraph
-  bad-graph-every = Blocks.bad-graph-every stages contract
-
-  -- Reply 3: the map has 32 bytes, the graph is sound, and the rule block is bad.
-  pub bad-rule-only : reply ≡ badRule → (length before ≡ mapBytes) × SoundGraph graph × (SoundRule rule → ⊥)
-  bad-rule-only = Blocks.bad-rule-only stages contract
-
-  -- And 3 is replied wherever that is so.
-  pub bad-rule-every : length before ≡ mapBytes → SoundGraph graph → (SoundRule rule → ⊥) → reply ≡ badRule
-  bad-rule-every = Blocks.bad-rule-every stages contract
+  -- Replies 1 to 3 are given exactly where they are due.
+  pub block-replies : BlockReplies graph rule before reply
+  block-replies = Blocks.block-replies stages met
 
   -- Replies 0 and 4 to 7 are given for good blocks only.
   pub good : (reply ≡ 0) ⊎ (noMatch ≤ reply) → (length before ≡ mapBytes) × SoundGraph graph × SoundRule rule
-  good = Blocks.good-only stages contract
+  good = Blocks.good-only stages met
 
   -- For good blocks the reply is the one that is due: 4, 5, 6, 7 or 0, as document 01's table says when.
   pub due : length before ≡ mapBytes → SoundGraph graph → SoundRule rule → Due (graphOf graph) (ruleOf rule) start reply
@@ -268,9 +254,9 @@ module _ (graph rule : List ℕ) (start : ℕ) (before : List ℕ) (reply : ℕ)
       due-one (graphOf graph) (ruleOf rule) (sound-fixing rule soundRule) start reply n (due size sound soundRule) is
 
   -- Rewriting gives 0 to 7.
-  pub few : reply ≤ newCycle
-  few =
-      Blocks.by-blocks stages contract (reply ≤ newCycle)
+  pub one-of-eight : reply ≤ newCycle
+  one-of-eight =
+      Blocks.by-blocks stages met (reply ≤ newCycle)
       (λ low high keptGraph keptMap. omega arith)
       (λ blocks.
       let n = packed (rest graph rule start before .reply) in
@@ -283,7 +269,7 @@ module _ (graph rule : List ℕ) (start : ℕ) (before : List ℕ) (reply : ℕ)
   -- A refusal returns its number only: every lent byte is as it came.
   pub refusal-keeps : (reply ≡ 0 → ⊥) → (graphAfter ≡ graph) × (after ≡ before)
   refusal-keeps refusal =
-      Blocks.by-blocks stages contract ((graphAfter ≡ graph) × (after ≡ before))
+      Blocks.by-blocks stages met ((graphAfter ≡ graph) × (after ≡ before))
       (λ low high keptGraph keptMap. (keptGraph, keptMap))
       (λ blocks.
       let end = ends blocks in
@@ -304,21 +290,24 @@ module _ (graph rule : List ℕ) (start : ℕ) (before : List ℕ) (reply : ℕ)
       (left .0, left .1, left .2, left .3, end .2 ∙ left .4, end .1 ∙ left .5, left .6, left .7)
 
   -- The map tells the match: its first S numbers are the images of the least match.
-  pub told : reply ≡ 0 → leastMatch (graphOf graph) (ruleOf rule) start ≡ some (imagesIn after (sourceCount rule))
-  told h =
+  pub written-images : reply ≡ 0 → leastMatch (graphOf graph) (ruleOf rule) start ≡ some (imagesIn after (sourceCount rule))
+  written-images h =
       let blocks = good (inl h) in
       let left = done-leaves h in
       least-told graph rule start (left .0) (blocks .1) (blocks .2) (left .2) after (left .4)
 
-  -- The other numbers of the map are 65535.
-  pub told-rest : reply ≡ 0 → (j : ℕ) → sourceCount rule ≤ j → j < sideLimit → u16At after (2 * j) ≡ unusedPlace
-  told-rest h =
+  -- Done writes the map of the least match from the start: number j is the image of source vertex j, and 65535 stands from S on.
+  pub written : reply ≡ 0 → WritesLeast graph rule start after
+  written h =
       let blocks = good (inl h) in
       let left = done-leaves h in
-      least-rest graph rule start (left .0) (blocks .1) (blocks .2) (left .2) after (left .4)
+      least-written graph rule start (left .0) (blocks .1) (blocks .2) (left .2) after (left .4)
 
-  pub told-length : reply ≡ 0 → length after ≡ mapBytes
-  told-length h =
-      let blocks = good (inl h) in
-      let left = done-leaves h in
-      least-bytes graph rule start (left .0) (blocks .1) (blocks .2) (left .2) after (left .4)
+  -- So it is the map of a match from the start,
+  pub written-match : reply ≡ 0 → MatchFrom (graphOf graph) (ruleOf rule) start (imagesIn after (sourceCount rule))
+  written-match h = written h .least .from
+
+  -- and no other such match has a lesser first image, or the same first and a lesser second one.
+  pub written-least : reply ≡ 0 → (other : List ℕ) → MatchFrom (graphOf graph) (ruleOf rule) start other
+      → NotAfter (outputImages (ruleOf rule) (imagesIn after (sourceCount rule))) (outputImages (ruleOf rule) other)
+  written-least h = written h .least .least

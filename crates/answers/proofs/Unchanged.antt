@@ -2,42 +2,38 @@
 -- lg_rewrite alone.
 -- Assumes nothing.
 use mathlib.Core.Path.{_≡_, sym, ap, _∙_}
-use mathlib.Core.Bool.{false}
-use mathlib.Core.List.{List, List·Memᴰ, map-id}
+use mathlib.Core.List.{List, map-id}
 use Prim.Native.Nat.{ℕ, _+_, _<_}
 use lib.Dec.{T}
 use lib.ListN.{length, getD}
-use Rattle.definitions.specs.Lists.{member}
-use Rattle.definitions.specs.Fields.{Bytes, byteAt}
+use Rattle.definitions.specs.Fields.{byteAt}
 use Rattle.definitions.specs.Graph.{slotBytes, recordAt, Slot, Graph, graphOf, slotOf, inputsOf, slotBlock}
 use Rattle.definitions.specs.Rule.{sourceCount, Rule, ruleOf}
+use Rattle.definitions.specs.Match.{outputImages}
 use Rattle.definitions.specs.Rewriting.{stays, redirect, stayingSlot, newGraph}
-use Rattle.definitions.specs.Operations.{Rewrote}
 use Rattle.laws.proofs.Lists.{map-same}
-use Rattle.laws.proofs.Members.{holds}
+use Rattle.laws.proofs.Members.{holds, no-member}
 use Rattle.laws.proofs.Rewriting.{new-length}
 use Rattle.encoding.proofs.Blocks.{record-held}
 use Rattle.encoding.proofs.Graphs.{table-of, canonical}
-use Rattle.replacement.proofs.Table.{replacedOutputs, stays-inside, redirect-other, slot-staying}
+use Rattle.replacement.proofs.Table.{stays-inside, redirect-other, slot-staying}
 use Rattle.answers.specs.Written.{imagesIn}
+use Rattle.answers.specs.Rewritten.{ReadsNone}
+use Rattle.answers.specs.Statements.{Rewrote}
 use Rattle.answers.proofs.Demands.{accepted, table, at}
-
--- slot k reads no replaced output
-abbrev pub ReadsNone : Graph → Rule → List ℕ → ℕ → Type 0
-ReadsNone g r images k = (v : ℕ) → List·Memᴰ v (inputsOf g k) → member v (replacedOutputs r images) ≡ false
 
 slot-kept : (g : Graph) (r : Rule) (images : List ℕ) (k : ℕ) → ReadsNone g r images k → stayingSlot g r images k ≡ slotOf g k
 unfolding stayingSlot
 slot-kept g r images k none =
     ap (λ l. record { kind = slotOf g k .kind; operator = slotOf g k .operator; inputs = l; attributes = slotOf g k .attributes })
-    (map-same (redirect g r images) (λ v. v) (inputsOf g k) (λ v m. redirect-other g r images v (none v m)) ∙ map-id (inputsOf g k))
+    (map-same (redirect g r images) (λ v. v) (inputsOf g k) (λ v m. redirect-other g r images v (no-member v (outputImages r images) (none v m))) ∙ map-id (inputsOf g k))
 
 module _ (graph rule : List ℕ) (start : ℕ) (before : List ℕ) (reply : ℕ) (graphAfter after : List ℕ)
     (contract : Rewrote graph rule start before reply graphAfter after) where
-  pub keeps-record : Bytes graph → reply ≡ 0 → (k : ℕ) → T (stays (graphOf graph) (ruleOf rule) (imagesIn after (sourceCount rule)) k)
+  pub keeps-record : reply ≡ 0 → (k : ℕ) → T (stays (graphOf graph) (ruleOf rule) (imagesIn after (sourceCount rule)) k)
       → ReadsNone (graphOf graph) (ruleOf rule) (imagesIn after (sourceCount rule)) k
       → (i : ℕ) → i < slotBytes → byteAt graphAfter (recordAt k + i) ≡ byteAt graph (recordAt k + i)
-  keeps-record bytes h k t none i l =
+  keeps-record h k t none i l =
       let images = imagesIn after (sourceCount rule) in
       let g = graphOf graph in
       let r = ruleOf rule in
@@ -52,4 +48,4 @@ module _ (graph rule : List ℕ) (start : ℕ) (before : List ℕ) (reply : ℕ)
       ∙ record-held new (table graph rule images values (a .1)) k insideNew i l
       ∙ ap (λ (s : Slot). getD (slotBlock s) i 0) (slot-staying g r images values site k stay ∙ slot-kept g r images k none)
       ∙ sym (record-held g (table-of graph (a .1 .sound)) k inside i l)
-      ∙ ap (λ block. byteAt block (recordAt k + i)) (canonical graph (a .1 .sound) bytes)
+      ∙ ap (λ block. byteAt block (recordAt k + i)) (canonical graph (a .1 .sound) (contract .lentGraph))

@@ -1,4 +1,4 @@
--- The words of the theorems about lg_rewrite: when each of its replies is due, and demand 3 sentence by sentence.
+-- The words of the theorems about lg_rewrite: when each of its replies is due, what else it keeps, and demand 3 sentence by sentence.
 -- Assumes nothing.
 use mathlib.Core.Path.{_≡_}
 use mathlib.Core.Bool.{false, not}
@@ -16,7 +16,7 @@ use Rattle.definitions.specs.Reply.{noMatch, noResult, noRoom, newCycle}
 use Rattle.definitions.specs.Graph.{Graph, inputsOf, isVertex, atLeastOne}
 use Rattle.definitions.specs.Rule.{anything, Rule, targetOf}
 use Rattle.definitions.specs.Attributes.{result}
-use Rattle.definitions.specs.Match.{readAttribute, innerImages, MatchFrom, leastMatch}
+use Rattle.definitions.specs.Match.{readAttribute, innerImages, MatchFrom, outputImages, LeastFrom}
 use Rattle.definitions.specs.Rewriting.{targetResults, stays, newGraph}
 use Rattle.definitions.specs.Results.{Meaning, AreResults, SameOutputs, KeepsUntouched, KeepsStaying, KeepsOutputs}
 
@@ -46,24 +46,30 @@ pub record NoFit (g : Graph) (r : Rule) (images : List ℕ) : Type 0 where
 abbrev pub room : Graph → Rule → List ℕ → ℕ
 room g r images = length (filter (λ k. not (isVertex g k)) (range 0 (length (g .slots)))) + length (innerImages r images)
 
--- ---- when each reply is due, once map length, graph and rule are good; 5 to 7 concern the least match
+-- ---- when each reply is due, once map length, graph and rule are good; 5 to 7 and 0 concern the least match, "no other is tried"
 
 pub data Due (g : Graph) (r : Rule) (s : ℕ) : ℕ → Type 0 where
   -- 4: there is no match from s
   unmatched : ((images : List ℕ) → MatchFrom g r s images → ⊥) → Due g r s noMatch
   -- 5: there is a least match, and a target attribute is unfit for it
-  unfit : (images : List ℕ) → leastMatch g r s ≡ some images → NoFit g r images → Due g r s noResult
+  unfit : (images : List ℕ) → LeastFrom g r s images → NoFit g r images → Due g r s noResult
   -- 6: all attributes are fit, and T exceeds the Empty slots plus the removed ones
-  full : (images : List ℕ) → leastMatch g r s ≡ some images → (NoFit g r images → ⊥)
+  full : (images : List ℕ) → LeastFrom g r s images → (NoFit g r images → ⊥)
       → room g r images < length (r .target) → Due g r s noRoom
   -- 7: there is room too, and the table so made has a cycle
-  cyclic : (images : List ℕ) (values : List (List ℤ)) → leastMatch g r s ≡ some images → (NoFit g r images → ⊥)
+  cyclic : (images : List ℕ) (values : List (List ℤ)) → LeastFrom g r s images → (NoFit g r images → ⊥)
       → targetResults (readAttribute g images) (r .target) ≡ some values → length (r .target) ≤ room g r images
       → (Acyclic (inputsOf (newGraph g r images values)) → ⊥) → Due g r s newCycle
   -- 0: it has none
-  done : (images : List ℕ) (values : List (List ℤ)) → leastMatch g r s ≡ some images → (NoFit g r images → ⊥)
+  done : (images : List ℕ) (values : List (List ℤ)) → LeastFrom g r s images → (NoFit g r images → ⊥)
       → targetResults (readAttribute g images) (r .target) ≡ some values → length (r .target) ≤ room g r images
       → Acyclic (inputsOf (newGraph g r images values)) → Due g r s 0
+
+-- ---- 'Nothing else changes'
+
+-- slot k reads no replaced output
+abbrev pub ReadsNone : Graph → Rule → List ℕ → ℕ → Type 0
+ReadsNone g r images k = (v : ℕ) → List·Memᴰ v (inputsOf g k) → List·Memᴰ v (outputImages r images) → ⊥
 
 -- ---- demand 3
 
@@ -75,8 +81,9 @@ pub record Keeps {ℓ} {R : Type ℓ} (m : Meaning R) (g : Graph) (r : Rule) (im
   pub someAfter : (after : ℕ → R) × AreResults m new after
   pub oneBefore : (one other : ℕ → R) → AreResults m g one → AreResults m g other → (v : ℕ) → T (isVertex g v) → one v ≡ other v
   pub oneAfter : (one other : ℕ → R) → AreResults m new one → AreResults m new other → (v : ℕ) → T (isVertex new v) → one v ≡ other v
-  -- a vertex that stays is one of both tables, and every graph output names one
+  -- a vertex that stays is one of both tables; both tables have as many outputs, and every one names a vertex
   pub remains : (v : ℕ) → T (stays g r images v) → T (isVertex g v) × T (isVertex new v)
+  pub sameCount : length (new .outputs) ≡ length (g .outputs)
   pub named : (v : ℕ) → List·Memᴰ v (new .outputs) → T (isVertex new v)
   -- "Every vertex that stays and has no path to it from a replaced output has the same result after as before."
   pub untouched : (before after : ℕ → R) → AreResults m g before → AreResults m new after → KeepsUntouched g r images before after

@@ -1,4 +1,5 @@
--- Everything that document 01 means, in its order. A reader who believes these files, the toolchain and the C boundary need believe nothing else.
+-- Everything that document 01 means, in its order. What is promised in these words stands in answers/specs/Statements; docs/EVIDENCE.md
+-- says what a reader has to believe beside the two.
 pub mod Lists
 pub mod Fields
 pub mod Operators

@@ -4,6 +4,7 @@
 use mathlib.Core.Path.{_≡_}
 use mathlib.Core.Bool.{Bool, cond, not, _&&_, _||_}
 use mathlib.Core.List.{List, [], _∷_, map, List·Memᴰ}
+use mathlib.Core.Logic.{_⊎_}
 use mathlib.Core.Option.{Option, none, some}
 use Prim.Native.Nat.{ℕ, zero, suc, _-_, _<_, _≤_}
 use lib.Dec.{eqb, T}
@@ -64,6 +65,22 @@ pub record MatchFrom (g : Graph) (r : Rule) (s : ℕ) (images : List ℕ) : Type
   pub isMatch : Match g r images
   pub first : s ≤ imageOf images (getD (r .sourceOutputs) 0 0)
 
+-- the images of the source outputs, in order; a rewriting replaces these
+abbrev pub outputImages : Rule → List ℕ → List ℕ
+outputImages r images = map (imageOf images) (r .sourceOutputs)
+
+-- one list is before the other, or equal: the first place that differs decides
+abbrev pub NotAfter : List ℕ → List ℕ → Type 0
+NotAfter [] ys = Unit {0}
+NotAfter (x ∷ xs) [] = ⊥
+NotAfter (x ∷ xs) (y ∷ ys) = (x < y) ⊎ ((x ≡ y) × NotAfter xs ys)
+
+-- the match whose first output's image is at least s and least, then whose second is least: a match from s, such that no other has a
+-- lesser first image, or the same first and a lesser second one
+pub record LeastFrom (g : Graph) (r : Rule) (s : ℕ) (images : List ℕ) : Type 0 where
+  pub from : MatchFrom g r s images
+  pub least : (other : List ℕ) → MatchFrom g r s other → NotAfter (outputImages r images) (outputImages r other)
+
 -- ---- what computes; it is proved that this is the meaning
 
 unfoldable pub takes : Graph → List ℕ → Pattern ℕ → Slot → Bool
@@ -108,11 +125,13 @@ imagesFrom g outputs chosen (p ∷ ps) v =
 unfoldable pub imagesFor : Graph → Rule → List ℕ → List ℕ
 imagesFor g r chosen = imagesFrom g (r .sourceOutputs) chosen (r .source) 0
 
--- the choices of output images, in the order in which they are tried: the first from s up, each with every second one from 0 up
+-- every list of k numbers below n, in ascending order
 unfoldable pub choicesOf : ℕ → ℕ → List (List ℕ)
 choicesOf n zero = [] ∷ []
 choicesOf n (suc k) = concatMap (λ image. map (λ rest. image ∷ rest) (choicesOf n k)) (range 0 n)
 
+-- the choices of k output images among n slots, in the order in which they are tried: the first image from s up, and for each of these
+-- every choice of the others
 unfoldable pub choices : ℕ → ℕ → ℕ → List (List ℕ)
 choices n k s = concatMap (λ image. map (λ rest. image ∷ rest) (choicesOf n (k - 1))) (range s n)
 

@@ -6,6 +6,7 @@ use mathlib.Core.Bool.{Bool, cond}
 use Prim.Native.Nat.{ℕ, _+_, _*_, _^_}
 use lib.Dec.{ltb}
 use Rattle.definitions.specs.declared.Place.{Place}
+use Rattle.definitions.specs.declared.Refusal.{Refusal}
 use Rattle.definitions.specs.declared.Reply.{Reply}
 use Rattle.definitions.specs.declared.Reply.the-variants.{Done, Refused}
 
@@ -34,18 +35,22 @@ newCycle = 7
 unfoldable pub noPlace : Place
 noPlace = record { index = 0; reason = 0 }
 
-unfoldable pub refused : ℕ → Reply
-refused number = Refused (record { number = number; place = noPlace })
+unfoldable pub refusal : ℕ → Refusal
+refusal number = record { number = number; place = noPlace }
+
+abbrev pub refused : ℕ → Reply
+refused number = Refused (refusal number)
 
 -- the paper's number for each case
 unfoldable pub numberOf : Reply → ℕ
 numberOf Done = 0
-numberOf (Refused refusal) = refusal .number
+numberOf (Refused why) = why .number
 
--- what the C side gets: the number in bits 0 to 7, the place's index in bits 8 to 39, its reason in bits 40 to 63
+-- what the C side gets: the number in bits 0 to 7, the place's index in bits 8 to 39, its reason in the bits from 40 on; as the
+-- reason has 16 bits, the highest 8 of the word are zero
 unfoldable pub packed : Reply → ℕ
 packed Done = 0
-packed (Refused refusal) = refusal .number + 2 ^ 8 * refusal .place .index + 2 ^ 40 * refusal .place .reason
+packed (Refused why) = why .number + 2 ^ 8 * why .place .index + 2 ^ 40 * why .place .reason
 
 -- A block's faults are listed by kind, in document 01's order; each kind has the lowest place with that fault, or none.
 -- Such a fault without a place counts as at 0.
@@ -67,4 +72,4 @@ judged number (some at ∷ faults) = refused number
 unfoldable pub firstRefusal : List Reply → Reply
 firstRefusal [] = Done
 firstRefusal (Done ∷ replies) = firstRefusal replies
-firstRefusal (Refused refusal ∷ replies) = Refused refusal
+firstRefusal (Refused why ∷ replies) = Refused why

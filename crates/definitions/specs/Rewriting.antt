@@ -13,7 +13,7 @@ use Rattle.definitions.specs.Operators.{kindProj}
 use Rattle.definitions.specs.Graph.{unusedPlace, Slot, Graph, emptySlot, slotOf, isVertex, atLeastOne}
 use Rattle.definitions.specs.Rule.{Expression, Origin, given, made, Pattern, Rule, targetOf}
 use Rattle.definitions.specs.Attributes.{result}
-use Rattle.definitions.specs.Match.{imageOf, innerImages}
+use Rattle.definitions.specs.Match.{imageOf, innerImages, outputImages}
 
 -- ---- attributes of the target vertices, read from the old table
 
@@ -75,7 +75,7 @@ hasRoom g r images = leb (length (r .target)) (length (freeSlots g r images))
 -- an input place of a staying vertex, or a graph output, that names the image of source output k names the place of target output k
 unfoldable pub redirect : Graph → Rule → List ℕ → ℕ → ℕ
 redirect g r images v =
-    let replaced = map (imageOf images) (r .sourceOutputs) in
+    let replaced = outputImages r images in
     cond (member v replaced) (resolve g r images (getD (r .targetOutputs) (position v replaced) (made (length (r .target))))) v
 
 unfoldable pub targetSlot : Graph → Rule → List ℕ → List (List ℤ) → ℕ → Slot

@@ -160,7 +160,7 @@ ruleOf block = record {
   targetOutputs = tabulate (ruleOutputCount block) (λ i. originOf (byteAt block (12 + i)));
 }
 
--- past the end stands a wildcard, which no test below meets
+-- for a number past the last vertex stands a wildcard, which has no inputs
 unfoldable pub wildcard : {P : Type 0} → Pattern P
 wildcard = record { kind = kindEmpty; operator = 0; inputs = []; attributes = [] }
 
@@ -338,8 +338,11 @@ ruleFaults block =
 unfoldable pub ruleReply : List ℕ → Reply
 ruleReply block = judged badRule (ruleFaults block)
 
--- ---- a sound rule, in the paper's words; it is proved that the reply is done exactly for these
+-- ---- a sound rule; it is proved that the reply is done exactly for these
 
+-- The paper's sentences and no tests are: order ("in the visiting order of 002's traversal from the listed outputs", the traversal being
+-- the function above) and connection ("some source vertex reaches both", by a path). The other parts are the tests above, for each
+-- vertex, node and use: they say by bytes, or of the rule's lists, what the paper says.
 pub record SoundRule (block : List ℕ) : Type 0 where
   pub header : ruleHeaderFits block ≡ true
   pub patterns : (v : ℕ) → v < sourceCount block + targetCount block → patternFits block (vertexAt v) ≡ true

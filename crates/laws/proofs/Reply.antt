@@ -13,7 +13,7 @@ use lib.Dec.{ltb}
 use Rattle.definitions.specs.declared.Refusal.{Refusal}
 use Rattle.definitions.specs.declared.Reply.{Reply}
 use Rattle.definitions.specs.declared.Reply.the-variants.{Done, Refused}
-use Rattle.definitions.specs.Reply.{noPlace, refused, packed, flag, place, judged, firstRefusal}
+use Rattle.definitions.specs.Reply.{noPlace, refusal, refused, packed, flag, place, judged, firstRefusal}
 use Rattle.laws.proofs.Lists.{decided}
 
 pub flag-none : (b : Bool) → flag b ≡ none → b ≡ false
@@ -34,12 +34,12 @@ place-none n found h =
 -- ---- done, or a refusal without a place
 
 pub done-or-refused : (n : ℕ) → Done ≡ refused n → ⊥
-unfolding refused
+unfolding refusal
 done-or-refused n e = let z : _≡_ {A = ℕ} 0 1 = cc in omega arith
 
 -- what the C side gets for such a refusal is its number
 pub packed-refused : (n : ℕ) → packed (refused n) ≡ n
-unfolding packed refused noPlace
+unfolding packed refusal noPlace
 packed-refused n = simp add-zero
 
 -- faults are judged by done or by one number

@@ -7,7 +7,7 @@ use mathlib.Core.Option.{none, some}
 use Prim.Native.Nat.{ℕ, _<_}
 use lib.IntN.{ℤ}
 use lib.ListN.{length}
-use Rattle.definitions.specs.Reply.{noResult, noRoom, newCycle}
+use Rattle.definitions.specs.Reply.{noResult, noRoom, newCycle, refusal}
 use Rattle.definitions.specs.Graph.{Graph, emptySlot, slotOf, hasCycle}
 use Rattle.definitions.specs.Rule.{Rule, isRuleInput}
 use Rattle.definitions.specs.Match.{imageOf, readAttribute, innerImages}
@@ -43,7 +43,7 @@ module _ (g : Graph) (r : Rule) (images : List ℕ) where
 
   -- ---- the tests, in document 01's order
 
-  pub rewritten-unfit : targetResults (readAttribute g images) (r .target) ≡ none → rewritten g r images ≡ turnedDown noResult
+  pub rewritten-unfit : targetResults (readAttribute g images) (r .target) ≡ none → rewritten g r images ≡ turnedDown (refusal noResult)
   unfolding rewritten
   rewritten-unfit e = rw (e, rewritten)
 
@@ -52,12 +52,12 @@ module _ (g : Graph) (r : Rule) (images : List ℕ) where
     unfolding rewritten
     with-values = rw (have, rewritten)
 
-    pub rewritten-full : hasRoom g r images ≡ false → rewritten g r images ≡ turnedDown noRoom
+    pub rewritten-full : hasRoom g r images ≡ false → rewritten g r images ≡ turnedDown (refusal noRoom)
     unfolding rewrittenWith
     rewritten-full h = with-values ∙ simp h
 
     pub rewritten-cyclic : hasRoom g r images ≡ true → hasCycle (newGraph g r images values) ≡ true
-        → rewritten g r images ≡ turnedDown newCycle
+        → rewritten g r images ≡ turnedDown (refusal newCycle)
     unfolding rewrittenWith
     rewritten-cyclic h c = with-values ∙ simp (h, c)
 

@@ -1,16 +1,13 @@
 // The operations that the app's C++ host calls, over the bytes that it lends. include/leafgraph.h has
-// their C prototypes. None has a `requires`: any bytes are answered.
+// their C prototypes. None has a `requires`: any bytes are answered. The contracts stand in
+// answers/specs/Statements, each with what follows from it.
 use reply::pack;
-ghost use mathlib.Core.Path.{_≡_};
-ghost use Rattle.definitions.specs.Reply as answer;
-ghost use Rattle.definitions.specs.Graph.{graphReply};
-ghost use Rattle.definitions.specs.Rule.{ruleReply};
-ghost use Rattle.definitions.specs.Operations as operation;
+ghost use Rattle.answers.specs.Statements.{CheckedGraph, CheckedRule, Searched, Rewrote};
 
 // Checks a graph block: 0 or 2.
 #[no_mangle]
 pub extern "C" fn lg_check_graph(graph: &[u8]) -> u64
-    ensures { λ r. ⌜ r ≡ answer.packed (graphReply (now (graph .entry))) ⌝ }
+    ensures { λ r. ⌜ CheckedGraph (now (graph .entry)) r ⌝ }
 {
     pack(graph_check::check(graph))
 }
@@ -18,7 +15,7 @@ pub extern "C" fn lg_check_graph(graph: &[u8]) -> u64
 // Checks a rule block: 0 or 3.
 #[no_mangle]
 pub extern "C" fn lg_check_rule(rule: &[u8]) -> u64
-    ensures { λ r. ⌜ r ≡ answer.packed (ruleReply (now (rule .entry))) ⌝ }
+    ensures { λ r. ⌜ CheckedRule (now (rule .entry)) r ⌝ }
 {
     pack(rule_check::check(rule))
 }
@@ -26,7 +23,7 @@ pub extern "C" fn lg_check_rule(rule: &[u8]) -> u64
 // Finds the least match from `start`: 0 to 4. Done writes the map; a refusal leaves every byte as it came.
 #[no_mangle]
 pub extern "C" fn lg_find_match(graph: &[u8], rule: &[u8], start: usize, map: &mut [u8]) -> u64
-    ensures { λ r. ⌜ operation.Answered (now (graph .entry)) (now (rule .entry)) start (now (map .entry))
+    ensures { λ r. ⌜ Searched (now (graph .entry)) (now (rule .entry)) start (now (map .entry))
         r (now (graph .entry)) (now (map .exit)) ⌝ }
 {
     pack(find_match::find_match(graph, rule, start, map))
@@ -35,7 +32,7 @@ pub extern "C" fn lg_find_match(graph: &[u8], rule: &[u8], start: usize, map: &m
 // Rewrites at the least match from `start`: 0 to 7. Done writes the graph and the map; a refusal leaves every byte as it came.
 #[no_mangle]
 pub extern "C" fn lg_rewrite(graph: &mut [u8], rule: &[u8], start: usize, map: &mut [u8]) -> u64
-    ensures { λ r. ⌜ operation.Rewrote (now (graph .entry)) (now (rule .entry)) start (now (map .entry))
+    ensures { λ r. ⌜ Rewrote (now (graph .entry)) (now (rule .entry)) start (now (map .entry))
         r (now (graph .exit)) (now (map .exit)) ⌝ }
 {
     pack(rewriting::rewrite(graph, rule, start, map))

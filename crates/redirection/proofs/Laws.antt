@@ -13,7 +13,7 @@ use lib.ListN.{length, getD, length-map}
 use Rattle.definitions.specs.Lists.{all, member, position}
 use Rattle.definitions.specs.Graph.{unusedPlace, Graph}
 use Rattle.definitions.specs.Rule.{sideLimit, targetCount, ruleOutputCount, Origin, given, made, Rule, originOf, ruleOf, targetOf, inputKind, originFits, targetInputsFit, SoundRule}
-use Rattle.definitions.specs.Match.{imageOf}
+use Rattle.definitions.specs.Match.{imageOf, outputImages}
 use Rattle.definitions.specs.Rewriting.{placeOf, resolve, redirect}
 use Rattle.laws.proofs.Lists.{decided, and-right, getD-any, map-same, all-at}
 use Rattle.laws.proofs.Members.{mem-place, position-inside}
@@ -103,7 +103,7 @@ pub redirect-same : (g : Graph) (block : List ℕ) (images places : List ℕ) �
 unfolding redirectBy redirect
 redirect-same g block images places inside h v =
     let r = ruleOf block in
-    let replaced = map (imageOf images) (r .sourceOutputs) in
+    let replaced = outputImages r images in
     let none = made (length (r .target)) in
     ⊎-elim (λ (t : member v replaced ≡ true).
     let few : position v replaced < ruleOutputCount block =

@@ -2,14 +2,14 @@
 -- Assumes nothing.
 use mathlib.Core.Path.{_≡_}
 use mathlib.Core.Bool.{Bool, true, cond}
-use mathlib.Core.List.{List, map}
+use mathlib.Core.List.{List}
 use Prim.Native.Nat.{ℕ, _<_}
 use lib.Dec.{eqb, ltb}
 use lib.ListN.{length, getD}
 use Rattle.definitions.specs.Lists.{member, position}
 use Rattle.definitions.specs.Graph.{unusedPlace}
 use Rattle.definitions.specs.Rule.{sideLimit, targetCount, ruleOutputCount, Origin, given, made, Rule, ruleOf, targetOf}
-use Rattle.definitions.specs.Match.{imageOf}
+use Rattle.definitions.specs.Match.{imageOf, outputImages}
 use Rattle.redirection.specs.declared.Move.{Move}
 use Rattle.redirection.specs.declared.Redirection.{Redirection}
 
@@ -32,7 +32,7 @@ resolveIn images places (made t) = getD places t unusedPlace
 -- a replaced output gives way to what its target output names, as `place` resolves it
 unfoldable pub redirectBy : (Origin → ℕ) → Rule → List ℕ → ℕ → ℕ
 redirectBy place r images v =
-    let replaced = map (imageOf images) (r .sourceOutputs) in
+    let replaced = outputImages r images in
     cond (member v replaced) (place (getD (r .targetOutputs) (position v replaced) (made (length (r .target))))) v
 
 -- what output i of the rule moves

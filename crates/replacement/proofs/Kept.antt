@@ -19,14 +19,14 @@ use Rattle.definitions.specs.Operators.{kindEmpty, kindVariable}
 use Rattle.definitions.specs.Paths.{Reads, here, onward, Acyclic}
 use Rattle.definitions.specs.Graph.{unusedPlace, Slot, Graph, slotOf, inputsOf, isVertex}
 use Rattle.definitions.specs.Rule.{Origin, given, made, Rule, sourceOf, targetOf, isRuleInput, originFits}
-use Rattle.definitions.specs.Match.{imageOf}
+use Rattle.definitions.specs.Match.{imageOf, outputImages}
 use Rattle.definitions.specs.Rewriting.{stays, placeOf, resolve, redirect, targetSlot, stayingSlot, newGraph}
 use Rattle.definitions.specs.Results.{Meaning, originResult, resultAt, AreResults, AreSourceResults, AreTargetResults, SameOutputs, Untouched, KeepsUntouched, KeepsStaying, KeepsOutputs}
 use Rattle.laws.proofs.Lists.{decided, map-at, map-same, all-member}
 use Rattle.laws.proofs.Members.{holds, true-holds, mem-at, no-member}
 use Rattle.theory.proofs.Results.{along-edges}
 use Rattle.replacement.proofs.Site.{Site}
-use Rattle.replacement.proofs.Table.{replacedOutputs, ReplacedOrStays, other-kinds, read-named, output-named, stays-other, stays-vertex, input-stays, inner-kind, target-fits, redirect-other, redirect-replaced, slot-staying, slot-target, staying-vertex, target-vertex, staying-reads, target-reads, new-layout}
+use Rattle.replacement.proofs.Table.{ReplacedOrStays, other-kinds, read-named, output-named, stays-other, stays-vertex, input-stays, inner-kind, target-fits, redirect-other, redirect-replaced, slot-staying, slot-target, staying-vertex, target-vertex, staying-reads, target-reads, new-layout}
 
 -- ---- the rule's results on the target side exist
 
@@ -100,7 +100,7 @@ module _ {ℓ} {R : Type ℓ} (g : Graph) (r : Rule) (images : List ℕ) (values
       (λ v earlier t untouched.
       let s : stays g r images v ≡ true = holds (stays g r images v) t in
       staying-result v s (λ u e.
-      let other : member u (replacedOutputs r images) ≡ false = no-member u (replacedOutputs r images) (λ k.
+      let other : member u (outputImages r images) ≡ false = no-member u (outputImages r images) (λ k.
       let found = Memᴰ·of-map (imageOf images) (r .sourceOutputs) k in
       untouched (found .0) (found .1) (onward here (subst (Reads (inputsOf g) v) (sym (found .2)) e))) in
       let kept : stays g r images u ≡ true = stays-other g r images u other (read-named g r images site v u s e) in
@@ -167,17 +167,17 @@ module _ {ℓ} {R : Type ℓ} (g : Graph) (r : Rule) (images : List ℕ) (values
     redirected : (u : ℕ) → ReplacedOrStays g r images u → Right (redirect g r images u) → after (redirect g r images u) ≡ before u
     unfolding source
     redirected u named right = ⊎-elim
-        (λ (t : member u (replacedOutputs r images) ≡ true).
+        (λ (t : member u (outputImages r images) ≡ true).
         let found = redirect-replaced g r images site u t in
         let o : Origin = getD (r .targetOutputs) (found .place) (made 0) in
         ap after (found .target)
         ∙ resolved o (found .fits) (subst Right (found .target) right)
         ∙ same source target source-results target-right (found .place) (found .inside)
         ∙ ap before (found .source))
-        (λ (t : member u (replacedOutputs r images) ≡ false).
+        (λ (t : member u (outputImages r images) ≡ false).
         let other : redirect g r images u ≡ u = redirect-other g r images u t in
         ap after other ∙ subst Right other right .0 (stays-other g r images u t named))
-        (decided (member u (replacedOutputs r images)))
+        (decided (member u (outputImages r images)))
 
     -- all of the new table, from inputs to readers
     every : (v : ℕ) → Right v

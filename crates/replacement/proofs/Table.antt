@@ -15,7 +15,7 @@ use Rattle.definitions.specs.Operators.{kindEmpty, kindVariable}
 use Rattle.definitions.specs.Paths.{Reads, Acyclic}
 use Rattle.definitions.specs.Graph.{unusedPlace, Slot, Graph, emptySlot, slotOf, inputsOf, isVertex}
 use Rattle.definitions.specs.Rule.{Origin, given, made, Rule, sourceOf, targetOf, inputKind, isRuleInput, originFits}
-use Rattle.definitions.specs.Match.{imageOf, isInterior, Private}
+use Rattle.definitions.specs.Match.{imageOf, isInterior, Private, outputImages}
 use Rattle.definitions.specs.Rewriting.{isRemoved, stays, freeSlots, placeOf, resolve, hasRoom, redirect, targetSlot, stayingSlot, newSlot, newGraph}
 use Rattle.laws.proofs.Lists.{decided, true-not-false, fails, and-left, and-right, getD-any, map-at, all-member}
 use Rattle.laws.proofs.Members.{holds, true-holds, mem-member, member-mem, mem-at, mem-range, position-at, position-inside}
@@ -26,13 +26,9 @@ use Rattle.laws.proofs.Rewriting.{removed-image, new-length, new-slot-at}
 use Rattle.theory.proofs.Results.{Layout}
 use Rattle.replacement.proofs.Site.{Site}
 
--- the images of the source outputs, in their order
-abbrev pub replacedOutputs : Rule → List ℕ → List ℕ
-replacedOutputs r images = map (imageOf images) (r .sourceOutputs)
-
 -- v is a replaced output, or it stays
 abbrev pub ReplacedOrStays : Graph → Rule → List ℕ → ℕ → Type 0
-ReplacedOrStays g r images v = (member v (replacedOutputs r images) ≡ true) ⊎ (stays g r images v ≡ true)
+ReplacedOrStays g r images v = (member v (outputImages r images) ≡ true) ⊎ (stays g r images v ≡ true)
 
 -- a place that fits a target vertex fits a later one
 fits-later : (r : Rule) (t n : ℕ) (o : Origin) → t ≤ n → originFits r t o ≡ true → originFits r n o ≡ true
@@ -70,7 +66,7 @@ module _ (g : Graph) (r : Rule) (images : List ℕ) where
   pub stays-inside : (v : ℕ) → stays g r images v ≡ true → v < length (g .slots)
   stays-inside v h = vertex-inside g v (stays-vertex v h)
 
-  pub stays-other : (v : ℕ) → member v (replacedOutputs r images) ≡ false
+  pub stays-other : (v : ℕ) → member v (outputImages r images) ≡ false
       → ReplacedOrStays g r images v → stays g r images v ≡ true
   stays-other v h (inl t) = absurd (true-not-false t h)
   stays-other v h (inr s) = s
@@ -84,7 +80,7 @@ module _ (g : Graph) (r : Rule) (images : List ℕ) where
       position-at k (freeSlots g r images) unusedPlace
       (mem-member (mem-filter free (range 0 (length (g .slots))) (mem-range 0 (length (g .slots)) k (omega arith) l) (simp h)))
 
-  pub redirect-other : (v : ℕ) → member v (replacedOutputs r images) ≡ false → redirect g r images v ≡ v
+  pub redirect-other : (v : ℕ) → member v (outputImages r images) ≡ false → redirect g r images v ≡ v
   unfolding redirect
   redirect-other v h = simp h
 
@@ -161,18 +157,18 @@ module _ (g : Graph) (r : Rule) (images : List ℕ) (site : Site g r images) whe
     unfolding placeOf freeSlots
     place-position = filtered-place (λ k. not (stays g r images k)) (length (g .slots)) t unusedPlace listed
 
-  pub redirect-replaced : (v : ℕ) → member v (replacedOutputs r images) ≡ true → Replaced g r images v
+  pub redirect-replaced : (v : ℕ) → member v (outputImages r images) ≡ true → Replaced g r images v
   unfolding redirect
   redirect-replaced v h =
-      let k : ℕ = position v (replacedOutputs r images) in
+      let k : ℕ = position v (outputImages r images) in
       let inside : k < length (r .sourceOutputs) =
-      rw (length-map (r .sourceOutputs) (imageOf images)) at (position-inside v (replacedOutputs r images) h) in
+      rw (length-map (r .sourceOutputs) (imageOf images)) at (position-inside v (outputImages r images) h) in
       let within : k < length (r .targetOutputs) = rw (site .sameCount) inside in
       record {
         place = k;
         inside = inside;
         source = sym (map-at (imageOf images) (r .sourceOutputs) k unusedPlace 0 inside)
-            ∙ position-at v (replacedOutputs r images) unusedPlace h;
+            ∙ position-at v (outputImages r images) unusedPlace h;
         target = rw h (ap (resolve g r images) (getD-any (r .targetOutputs) k (made (length (r .target))) (made 0) within));
         fits = all-member (originFits r (length (r .target))) (site .targetOutputs) (mem-at (r .targetOutputs) k (made 0) within);
       }
@@ -243,14 +239,14 @@ module _ (g : Graph) (r : Rule) (images : List ℕ) (values : List (List ℤ)) (
   -- and so does a redirected place, where it named a replaced output or a vertex that stays
   redirected-vertex : (v : ℕ) → ReplacedOrStays g r images v → isVertex new (redirect g r images v) ≡ true
   redirected-vertex v h = ⊎-elim
-      (λ (t : member v (replacedOutputs r images) ≡ true).
+      (λ (t : member v (outputImages r images) ≡ true).
       let found = redirect-replaced g r images site v t in
       rw (found .target) (resolved-vertex (getD (r .targetOutputs) (found .place) (made 0)) (found .fits)))
-      (λ (t : member v (replacedOutputs r images) ≡ false).
+      (λ (t : member v (outputImages r images) ≡ false).
       let s : stays g r images v ≡ true = stays-other g r images v t h in
       rw (redirect-other g r images v t)
       (holds (isVertex new v) (staying-vertex v (true-holds (stays g r images v) s))))
-      (decided (member v (replacedOutputs r images)))
+      (decided (member v (outputImages r images)))
 
   -- what a slot of the new table reads: a staying vertex reads what it read, redirected, and a target vertex what its places name
   pub reads-staying : (k v : ℕ) → stays g r images k ≡ true → Reads (inputsOf new) k v

@@ -1,3 +1,4 @@
 pub mod Same
 pub mod Stages
+pub mod Replies
 pub mod Outcome

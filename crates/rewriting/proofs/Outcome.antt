@@ -35,10 +35,10 @@ module _ (graph rule : List ℕ) (start : ℕ) (images : List ℕ) where
       unfolding rewrite
       at-match = rw (h, k, rewrite)
 
-      pub turned-down : (number : ℕ) → rewritten (graphOf graph) (ruleOf rule) found ≡ turnedDown number
-          → outcome (refused number) graph images ≡ rewrite graph rule start images
+      pub turned-down : (why : Refusal) → rewritten (graphOf graph) (ruleOf rule) found ≡ turnedDown why
+          → outcome (Refused why) graph images ≡ rewrite graph rule start images
       unfolding replaced
-      turned-down number e = sym (rw (e, replaced)) ∙ at-match
+      turned-down why e = sym (rw (e, replaced)) ∙ at-match
 
       pub table-left : (new : Graph) → rewritten (graphOf graph) (ruleOf rule) found ≡ accepted new
           → outcome Done (graphBlock new) (mapBlock found) ≡ rewrite graph rule start images

@@ -15,7 +15,7 @@ use Rattle.definitions.specs.Graph.{unusedPlace, Slot, Graph, emptySlot, slotOf
 use Rattle.definitions.specs.Rule.{Rule, Origin, given, made, targetOf}
 use Rattle.definitions.specs.Match.{imageOf, attributeOf, readAttribute, innerImages}
 use Rattle.definitions.specs.Rewriting.{isRemoved, stays, freeSlots, placeOf, resolve, hasRoom, redirect, targetSlot, stayingSlot, newSlot, newGraph, targetResults}
-use Rattle.definitions.specs.Reply.{noResult, noRoom, newCycle}
+use Rattle.definitions.specs.Reply.{noResult, noRoom, newCycle, refusal}
 use Rattle.definitions.specs.Operations.{accepted, turnedDown, rewrittenWith, rewritten}
 
 module _ (g : Graph) (r : Rule) (one other : List ℕ) (same : (j : ℕ) → imageOf one j ≡ imageOf other j) where
@@ -91,11 +91,11 @@ module _ (g : Graph) (r : Rule) (one other : List ℕ) (same : (j : ℕ) → ima
   with-same : rewrittenWith g r one ≡ rewrittenWith g r other
   unfolding rewrittenWith
   with-same = λ i values.
-      cond (room-same i) (cond (hasCycle (new-same i values)) (turnedDown newCycle) (accepted (new-same i values))) (turnedDown noRoom)
+      cond (room-same i) (cond (hasCycle (new-same i values)) (turnedDown (refusal newCycle)) (accepted (new-same i values))) (turnedDown (refusal noRoom))
 
   pub rewritten-same : rewritten g r one ≡ rewritten g r other
   unfolding rewritten
   rewritten-same = λ i. elim (targetResults (read-same i) (r .target)) [
-    | none ↦ turnedDown noResult
+    | none ↦ turnedDown (refusal noResult)
     | some values ↦ with-same i values
   ]

@@ -9,7 +9,7 @@ use native.Mathlib.Omega.{arith}
 use borrow.Author.Tests.{le-leb, lt-leb}
 use lib.IntN.{ℤ}
 use lib.ListN.{length, take}
-use Rattle.definitions.specs.Reply.{noResult, noRoom, newCycle}
+use Rattle.definitions.specs.Reply.{noResult, noRoom, newCycle, refusal}
 use Rattle.definitions.specs.Graph.{unusedPlace, slotCount, Graph, graphOf, hasCycle, SoundGraph}
 use Rattle.definitions.specs.Rule.{sideLimit, sourceCount, targetCount, Rule, ruleOf, SoundRule}
 use Rattle.definitions.specs.Match.{imageOf, readAttribute}
@@ -58,7 +58,7 @@ module _ (graph rule images : List ℕ) (sound : SoundGraph graph) (soundRule : 
 
   -- ---- the stages
 
-  pub unfit : isGiven (fitResults graph rule images) ≡ false → rewritten g r found ≡ turnedDown noResult
+  pub unfit : isGiven (fitResults graph rule images) ≡ false → rewritten g r found ≡ turnedDown (refusal noResult)
   unfolding fitResults
   unfit h =
       sym (rewritten-same g r images found same) ∙ rewritten-unfit g r images (none-given (fitResults graph rule images) h)
@@ -72,7 +72,7 @@ module _ (graph rule images : List ℕ) (sound : SoundGraph graph) (soundRule : 
     known = known-values (fitResults graph rule images) fit
 
     module _ (count : ℕ) (slots : List ℕ) (places : Lowest (freeSlots g r images) count slots) where
-      pub full : count < targetCount rule → rewritten g r found ≡ turnedDown noRoom
+      pub full : count < targetCount rule → rewritten g r found ≡ turnedDown (refusal noRoom)
       unfolding hasRoom
       full l =
           sym (rewritten-same g r images found same)
@@ -104,7 +104,7 @@ module _ (graph rule images : List ℕ) (sound : SoundGraph graph) (soundRule : 
             (new-table graph rule found values sound soundRule (isMatched .isMatch)
             (rw (← read-same g r images found same) known) (rw (← room-same g r images found same) room))
 
-        pub cyclic : hasCycle (newTable graph rule images) ≡ true → rewritten g r found ≡ turnedDown newCycle
+        pub cyclic : hasCycle (newTable graph rule images) ≡ true → rewritten g r found ≡ turnedDown (refusal newCycle)
         unfolding newTable
         cyclic h = sym (rewritten-same g r images found same) ∙ rewritten-cyclic g r images values known room h
 

@@ -1,9 +1,12 @@
--- What a rewriting at one match comes to, as the code tells it: 0 where it is accepted, or the number of the refusal.
+-- What a rewriting at one match comes to, as the code tells it: done where it is accepted, or the refusal.
 -- Assumes nothing.
 use mathlib.Core.Path.{_≡_}
 use mathlib.Core.List.{List}
 use Prim.Native.Nat.{ℕ, _≤_}
 use lib.ListN.{length, take}
+use Rattle.definitions.specs.declared.Refusal.{Refusal}
+use Rattle.definitions.specs.declared.Reply.{Reply}
+use Rattle.definitions.specs.declared.Reply.the-variants.{Done, Refused}
 use Rattle.definitions.specs.Graph.{unusedPlace, Graph, graphOf, graphBlock}
 use Rattle.definitions.specs.Rule.{sideLimit, sourceCount, ruleOf}
 use Rattle.definitions.specs.Match.{imageOf, Match}
@@ -16,11 +19,11 @@ pub record Matched (graph rule images : List ℕ) : Type 0 where
   pub rest : (i : ℕ) → sourceCount rule ≤ i → imageOf images i ≡ unusedPlace
 
 -- the new table is made in a block of its own
-pub record Planned (best : Rewritten) (number : ℕ) (table : List ℕ) : Type 0 where
-  pub done : number ≡ 0 → (new : Graph) × (best ≡ accepted new) × (table ≡ graphBlock new)
-  pub refused : (number ≡ 0 → ⊥) → best ≡ turnedDown number
+pub record Planned (best : Rewritten) (reply : Reply) (table : List ℕ) : Type 0 where
+  pub done : reply ≡ Done → (new : Graph) × (best ≡ accepted new) × (table ≡ graphBlock new)
+  pub refused : (why : Refusal) → reply ≡ Refused why → best ≡ turnedDown why
 
 -- the graph block holds the new table, or is as it was
-pub record Replaced (best : Rewritten) (number : ℕ) (before after : List ℕ) : Type 0 where
-  pub done : number ≡ 0 → (new : Graph) × (best ≡ accepted new) × (after ≡ graphBlock new)
-  pub refused : (number ≡ 0 → ⊥) → (best ≡ turnedDown number) × (after ≡ before)
+pub record Replaced (best : Rewritten) (reply : Reply) (before after : List ℕ) : Type 0 where
+  pub done : reply ≡ Done → (new : Graph) × (best ≡ accepted new) × (after ≡ graphBlock new)
+  pub refused : (why : Refusal) → reply ≡ Refused why → (best ≡ turnedDown why) × (after ≡ before)

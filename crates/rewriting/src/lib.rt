@@ -31,9 +31,9 @@ ghost use Rattle.rewriting.specs.Planned.{Matched, Planned, Replaced};
 // The length of the longest graph block.
 const BLOCK_LIMIT: usize = HEADER_BYTES + SLOT_BYTES * SLOT_LIMIT;
 
-// What a rewriting at this match comes to: 5, 6 or 7, in that order, or 0 with the new table in `table`. The cycle is looked for in the
-// new table, and the room counted after the removal.
-fn plan(graph: &[u8], rule: &[u8], images: &[u16; SIDE_LIMIT], table: &mut [u8]) -> u8
+// What a rewriting at this match comes to: refusal 5, 6 or 7, in that order, or done with the new table in `table`. The cycle is
+// looked for in the new table, and the room counted after the removal.
+fn plan(graph: &[u8], rule: &[u8], images: &[u16; SIDE_LIMIT], table: &mut [u8]) -> Reply
     requires { ⌜ SoundGraph (now graph) ⌝ }
     requires { ⌜ SoundRule (now rule) ⌝ }
     requires { ⌜ Matched (now graph) (now rule) (now images) ⌝ }
@@ -42,20 +42,20 @@ fn plan(graph: &[u8], rule: &[u8], images: &[u16; SIDE_LIMIT], table: &mut [u8])
         (take (sourceCount (now (rule .entry))) (now (images .entry)))) r (now (table .exit)) ⌝ }
 {
     if !all_fit(graph, rule, images) {
-        return NO_RESULT;
+        return refuse(NO_RESULT);
     }
     let free = find_free(graph, rule, images);
     let places = lowest_free(&free, slot_count(graph));
     if places.count < target_count(rule) {
-        return NO_ROOM;
+        return refuse(NO_ROOM);
     }
     let slots = places.slots;
     write_table(graph, rule, images, &slots, &free, table);
     let made = &table[..];
     if has_cycle(made) {
-        return NEW_CYCLE;
+        return refuse(NEW_CYCLE);
     }
-    0
+    Reply::Done
 }
 
 // Room for a table: zeros, as many as the longest block has bytes.
@@ -65,8 +65,8 @@ fn blank() -> [u8; BLOCK_LIMIT]
     [0u8; BLOCK_LIMIT]
 }
 
-// Rewrites the graph at this match, or says with which number that is refused, and then leaves the graph as it is.
-fn replace(graph: &mut [u8], rule: &[u8], images: &[u16; SIDE_LIMIT]) -> u8
+// Rewrites the graph at this match, or says how that is refused, and then leaves the graph as it is.
+fn replace(graph: &mut [u8], rule: &[u8], images: &[u16; SIDE_LIMIT]) -> Reply
     requires { ⌜ SoundGraph (now graph) ⌝ }
     requires { ⌜ SoundRule (now rule) ⌝ }
     requires { ⌜ Matched (now graph) (now rule) (now images) ⌝ }
@@ -75,12 +75,12 @@ fn replace(graph: &mut [u8], rule: &[u8], images: &[u16; SIDE_LIMIT]) -> u8
 {
     let mut table = blank();
     let size = graph.len();
-    let answer = plan(graph, rule, images, &mut table[0..size]);
-    if answer != 0 {
-        return answer;
+    match plan(graph, rule, images, &mut table[0..size]) {
+        Reply::Refused(why) => return Reply::Refused(why),
+        Reply::Done => {}
     }
     copy(graph, &table[0..size]);
-    0
+    Reply::Done
 }
 
 // Rewrites at the least match from `start`; no other is tried.
@@ -97,9 +97,9 @@ pub fn rewrite(graph: &mut [u8], rule: &[u8], start: usize, map: &mut [u8]) -> R
         return refuse(NO_MATCH);
     }
     let images = found.images;
-    let number = replace(graph, rule, &images);
-    if number != 0 {
-        return refuse(number);
+    match replace(graph, rule, &images) {
+        Reply::Refused(refusal) => return Reply::Refused(refusal),
+        Reply::Done => {}
     }
     write_map(map, &images);
     Reply::Done

@@ -9,10 +9,9 @@ use Prim.Native.Nat.{ℕ}
 use native.Mathlib.Omega.{arith}
 use Rattle.definitions.specs.Graph.{Graph}
 use Rattle.definitions.specs.Rule.{Rule}
-use Rattle.definitions.specs.Match.{MatchFrom, imagesFor, leastMatch}
-use Rattle.theory.proofs.Choices.{NotAfter}
+use Rattle.definitions.specs.Match.{MatchFrom, outputImages, NotAfter, imagesFor, leastMatch}
 use Rattle.theory.proofs.Fixing.{Fixing, images-fixed}
-use Rattle.theory.proofs.Least.{outputImages, least-match, least-found, least-least}
+use Rattle.theory.proofs.Least.{least-match, least-found, least-least}
 
 -- neither is after the other only where they are the same
 not-after-same : (xs ys : List ℕ) → NotAfter xs ys → NotAfter ys xs → xs ≡ ys

@@ -12,15 +12,13 @@ use lib.Dec.{eqb, ltb}
 use lib.ListN.{length, getD, take, replicate, length-replicate}
 use Rattle.definitions.specs.Graph.{unusedPlace, slotCount, Graph, graphOf}
 use Rattle.definitions.specs.Rule.{sideLimit, sourceCount, ruleOutputCount, Rule, ruleOf, SoundRule}
-use Rattle.definitions.specs.Match.{imageOf, Match, MatchFrom, leastMatch}
+use Rattle.definitions.specs.Match.{imageOf, Match, MatchFrom, outputImages, NotAfter, leastMatch}
 use Rattle.laws.proofs.Lists.{decided, true-not-false}
 use Rattle.laws.proofs.Builds.{getD-none}
 use Rattle.laws.proofs.Graph.{length-slots}
 use Rattle.laws.proofs.Match.{image-inside}
 use Rattle.laws.proofs.Rule.{length-source, length-source-outputs}
-use Rattle.theory.proofs.Choices.{NotAfter}
 use Rattle.theory.proofs.Fixing.{sound-fixing}
-use Rattle.theory.proofs.Least.{outputImages}
 use Rattle.rule_order.specs.InOrder.{InOrder, visitedAfter}
 use Rattle.rule_order.proofs.InOrder.{in-order-first, in-order-rest, in-order-start, in-order-whole}
 use Rattle.matching.specs.Partial.{Partial, Extends, Sends, Step}

@@ -14,19 +14,23 @@ use lib.ListN.{length, getD, take, drop, length-append, length-map, length-drop,
 use lib.Seq.{length-take-le, getD-take, getD-drop, getD-append-add, drop-cons}
 use Rattle.definitions.specs.Lists.{tabulate, concatMap, firstSome, member, position, range}
 use Rattle.definitions.specs.Graph.{unusedPlace}
-use Rattle.definitions.specs.Match.{choicesOf, choices}
+use Rattle.definitions.specs.Match.{NotAfter, choicesOf, choices}
 use Rattle.laws.proofs.Lists.{decided, map-at}
 use Rattle.laws.proofs.Members.{mem-member, mem-at, position-image, position-at, position-least, mem-range, range-mem, tabulate-mem, mem-concat, concat-mem}
-
--- x is before y, or equal: the first place that differs decides
-abbrev pub NotAfter : List ℕ → List ℕ → Type 0
-NotAfter [] ys = Unit {0}
-NotAfter (x ∷ xs) [] = ⊥
-NotAfter (x ∷ xs) (y ∷ ys) = (x < y) ⊎ ((x ≡ y) × NotAfter xs ys)
 
 pub not-after-self : (xs : List ℕ) → NotAfter xs xs
 not-after-self [] = tt
 not-after-self (x ∷ xs) = inr (refl, not-after-self xs)
+
+-- of two lists, neither is after the other only where they are equal
+pub not-after-both : (xs ys : List ℕ) → NotAfter xs ys → NotAfter ys xs → xs ≡ ys
+not-after-both [] [] p q = refl
+not-after-both [] (y ∷ ys) p q = absurd q
+not-after-both (x ∷ xs) [] p q = absurd p
+not-after-both (x ∷ xs) (y ∷ ys) (inl p) (inl q) = absurd (omega arith)
+not-after-both (x ∷ xs) (y ∷ ys) (inl p) (inr q) = absurd (omega (arith, q .0))
+not-after-both (x ∷ xs) (y ∷ ys) (inr p) (inl q) = absurd (omega (arith, p .0))
+not-after-both (x ∷ xs) (y ∷ ys) (inr p) (inr q) = rw (p .0, not-after-both xs ys (p .1) (q .1))
 
 -- where the two agree before place j, the first is not the greater at j
 not-after-at : (xs ys : List ℕ) (j d : ℕ) → NotAfter xs ys → ((i : ℕ) → i < j → getD xs i d ≡ getD ys i d) → j < length xs

@@ -4,7 +4,7 @@ use mathlib.Core.Path.{refl}
 use Rattle.definitions.specs.Lists.{allBelow, anyBelow, lowest, tabulate, build, all, any, filter, padded, foldl, concatMap, allPairs, firstSome, member, position, distinct, range}
 use Rattle.definitions.specs.Fields.{u16At, u32At, filled, markFits, signed, wordOf, u16Bytes, u32Bytes}
 use Rattle.definitions.specs.Operators.{operators, countsOf, kinds, rowOf, shapeFits}
-use Rattle.definitions.specs.Reply.{noPlace, refused, flag, place, judged, firstRefusal}
+use Rattle.definitions.specs.Reply.{noPlace, refusal, flag, place, judged, firstRefusal}
 use Rattle.definitions.specs.Paths.{shallow, acyclicBelow}
 use Rattle.definitions.specs.Graph.{emptySlot, slotFrom, graphOf, slotOf, isVertex, slotTail, slotBlock, headerBlock, graphBlock, outputPlacesFit, headerFits, atLeastOne, recordFits, badRecord, badInputs, badOutput, hasCycle, graphFaults, graphReply}
 use Rattle.definitions.specs.Rule.{originOf, operations, nodeFrom, expressions, expressionOf, patternFrom, ruleOf, wildcard, sourceOf, targetOf, inputKind, isRuleInput, ruleSizesFit, ruleOutputPlacesFit, ruleHeaderFits, patternFits, originFits, sourceInputsFit, targetInputsFit, badVertex, visit, traversal, inVisitingOrder, reached, reaches, sourceOutputsFit, connected, sameOrigin, named, allNamed, outputsFit, operandFits, nodeFits, badNode, accessesBelow, useFits, badUse, ruleFaults, ruleReply}
@@ -15,5 +15,5 @@ use Rattle.definitions.specs.Operations.{mapBlock, mapReply, blocksReply, match
 use Rattle.theory.specs.Examples.{AllHold, examples}
 
 pub examples-hold : AllHold examples
-unfolding examples allBelow anyBelow lowest tabulate build all any filter padded foldl concatMap allPairs firstSome member position distinct range u16At u32At filled markFits signed wordOf u16Bytes u32Bytes operators countsOf kinds rowOf shapeFits noPlace refused flag place judged firstRefusal shallow acyclicBelow emptySlot slotFrom graphOf slotOf isVertex slotTail slotBlock headerBlock graphBlock outputPlacesFit headerFits atLeastOne recordFits badRecord badInputs badOutput hasCycle graphFaults graphReply originOf operations nodeFrom expressions expressionOf patternFrom ruleOf wildcard sourceOf targetOf inputKind isRuleInput ruleSizesFit ruleOutputPlacesFit ruleHeaderFits patternFits originFits sourceInputsFit targetInputsFit badVertex visit traversal inVisitingOrder reached reaches sourceOutputsFit connected sameOrigin named allNamed outputsFit operandFits nodeFits badNode accessesBelow useFits badUse ruleFaults ruleReply inRange fit quotient isZero operate combine result sameNumber gives agrees imageOf attributeOf readAttribute isInterior innerImages takes isPrivate isMatch fromReader imagesFrom imagesFor choicesOf choices attempt leastMatch results indexFits vertexResults targetResults isRemoved stays freeSlots placeOf resolve hasRoom redirect targetSlot stayingSlot newSlot newGraph mapBlock mapReply blocksReply matched findMatch rewrittenWith rewritten replaced rewrite
+unfolding examples allBelow anyBelow lowest tabulate build all any filter padded foldl concatMap allPairs firstSome member position distinct range u16At u32At filled markFits signed wordOf u16Bytes u32Bytes operators countsOf kinds rowOf shapeFits noPlace refusal flag place judged firstRefusal shallow acyclicBelow emptySlot slotFrom graphOf slotOf isVertex slotTail slotBlock headerBlock graphBlock outputPlacesFit headerFits atLeastOne recordFits badRecord badInputs badOutput hasCycle graphFaults graphReply originOf operations nodeFrom expressions expressionOf patternFrom ruleOf wildcard sourceOf targetOf inputKind isRuleInput ruleSizesFit ruleOutputPlacesFit ruleHeaderFits patternFits originFits sourceInputsFit targetInputsFit badVertex visit traversal inVisitingOrder reached reaches sourceOutputsFit connected sameOrigin named allNamed outputsFit operandFits nodeFits badNode accessesBelow useFits badUse ruleFaults ruleReply inRange fit quotient isZero operate combine result sameNumber gives agrees imageOf attributeOf readAttribute isInterior innerImages takes isPrivate isMatch fromReader imagesFrom imagesFor choicesOf choices attempt leastMatch results indexFits vertexResults targetResults isRemoved stays freeSlots placeOf resolve hasRoom redirect targetSlot stayingSlot newSlot newGraph mapBlock mapReply blocksReply matched findMatch rewrittenWith rewritten replaced rewrite
 examples-hold = (refl, (refl, (refl, (refl, (refl, (refl, (refl, (refl, (refl, (refl, (refl, (refl, (refl, (refl, (refl, (refl, (refl, (refl, (refl, tt)))))))))))))))))))

@@ -18,7 +18,7 @@ use Rattle.definitions.specs.Operators.{kindEmpty, kinds, rowOf}
 use Rattle.definitions.specs.Graph.{unusedPlace, Graph, inputsOf}
 use Rattle.definitions.specs.Paths.{Reads}
 use Rattle.definitions.specs.Rule.{sourceCount, vertexAt, Pattern, Rule, ruleOf, wildcard, sourceOf, sourceInputs, visit, traversal, SoundRule}
-use Rattle.definitions.specs.Match.{imageOf, Match, fromReader, imagesFrom, imagesFor}
+use Rattle.definitions.specs.Match.{imageOf, Match, outputImages, fromReader, imagesFrom, imagesFor}
 use Rattle.laws.proofs.Lists.{decided, true-not-false, length-none}
 use Rattle.laws.proofs.Rule.{source-reader, length-source, length-source-outputs, source-kind-at, source-count-at, some-rule-outputs, pattern-shape, outputs-below, inputs-lower}
 use Rattle.laws.proofs.Operators.{row-inputs}
@@ -123,9 +123,9 @@ module _ (g : Graph) (r : Rule) (fixing : Fixing r) (images : List ℕ) (m : Mat
 -- Output images fix the whole map: a match is what is made from the images that it gives to the outputs. So two matches with the
 -- same output images are the same, and a search need only choose those.
 pub images-fixed : (g : Graph) (r : Rule) → Fixing r → (images : List ℕ) → Match g r images
-    → images ≡ imagesFor g r (map (imageOf images) (r .sourceOutputs))
+    → images ≡ imagesFor g r (outputImages r images)
 images-fixed g r fixing images m =
-    images-chosen g r fixing images m (map (imageOf images) (r .sourceOutputs))
+    images-chosen g r fixing images m (outputImages r images)
     (λ o t. position-image (imageOf images) unusedPlace o (r .sourceOutputs) t)
 
 -- ---- a sound rule

@@ -13,13 +13,13 @@ use lib.ListN.{length, getD, take, drop, length-map}
 use Rattle.definitions.specs.Lists.{member, position}
 use Rattle.definitions.specs.Graph.{unusedPlace, Graph, isVertex}
 use Rattle.definitions.specs.Rule.{Pattern, Rule}
-use Rattle.definitions.specs.Match.{imageOf, Match, MatchFrom, isMatch, imagesFrom, imagesFor, choices, attempt, leastMatch}
+use Rattle.definitions.specs.Match.{imageOf, Match, MatchFrom, outputImages, NotAfter, LeastFrom, isMatch, imagesFrom, imagesFor, choices, attempt, leastMatch}
 use Rattle.laws.proofs.Lists.{decided, map-at}
 use Rattle.laws.proofs.Graph.{vertex-inside}
 use Rattle.laws.proofs.Members.{holds, member-mem, mem-member, mem-at, position-least}
 use Rattle.theory.proofs.Match.{test-sound, test-complete}
 use Rattle.theory.proofs.Fixing.{Fixing, Chosen, images-chosen, images-fixed}
-use Rattle.theory.proofs.Choices.{NotAfter, not-after-self, first-found, first-least, sorted-choices, Numbers, mem-choices, choices-mem, numbers-mixed, first-mixed, least-values}
+use Rattle.theory.proofs.Choices.{not-after-self, not-after-both, first-found, first-least, sorted-choices, Numbers, mem-choices, choices-mem, numbers-mixed, first-mixed, least-values}
 
 -- what is made from a choice gives an output its chosen image
 from-choice : (g : Graph) (outputs chosen : List ℕ) (ps : List (Pattern ℕ)) (v i : ℕ) → i < length ps → member (v + i) outputs ≡ true
@@ -49,10 +49,6 @@ module _ (g : Graph) (r : Rule) where
   attempt-match : (chosen images : List ℕ) → Match g r images → images ≡ imagesFor g r chosen → attempt g r chosen ≡ some images
   unfolding attempt
   attempt-match chosen images m e = rw (← e, test-complete g r images m)
-
--- the images of the outputs, in order: the choice to which a match belongs
-abbrev pub outputImages : Rule → List ℕ → List ℕ
-outputImages r images = map (imageOf images) (r .sourceOutputs)
 
 module _ (g : Graph) (r : Rule) (fixing : Fixing r) (s : ℕ) where
   -- the choices that are tried
@@ -147,3 +143,25 @@ module _ (g : Graph) (r : Rule) (fixing : Fixing r) (s : ℕ) where
   none-left h images from =
       let found = least-found images from in
       Option·none-ne-some (found .0) (sym h ∙ found .1)
+
+  -- ---- the least match, by its meaning
+
+  -- What the search finds is the least match,
+  pub search-least : (images : List ℕ) → leastMatch g r s ≡ some images → LeastFrom g r s images
+  search-least images h = record {
+    from = least-match images h;
+    least = λ other from. least-least images other h from;
+  }
+
+  -- and the least match is what the search finds: there is no other, since output images fix the whole map.
+  pub least-searched : (images : List ℕ) → LeastFrom g r s images → leastMatch g r s ≡ some images
+  least-searched images is =
+      let found = least-found images (is .from) in
+      let best : List ℕ = found .0 in
+      let from = least-match best (found .1) in
+      let same : outputImages r best ≡ outputImages r images =
+      not-after-both (outputImages r best) (outputImages r images) (least-least best images (found .1) (is .from))
+      (is .least best from) in
+      found .1
+      ∙ ap some (images-fixed g r fixing best (from .isMatch) ∙ ap (imagesFor g r) same
+      ∙ sym (images-fixed g r fixing images (is .from .isMatch)))

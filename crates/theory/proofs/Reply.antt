@@ -6,21 +6,21 @@ use mathlib.Core.Logic.{_⊎_, inl, inr, ⊎-elim}
 use mathlib.Core.Option.{Option}
 use Prim.Native.Nat.{ℕ}
 use Rattle.definitions.specs.declared.Reply.the-variants.{Done}
-use Rattle.definitions.specs.Reply.{badGraph, badRule, refused, numberOf, packed, judged}
+use Rattle.definitions.specs.Reply.{badGraph, badRule, refusal, refused, numberOf, packed, judged}
 use Rattle.definitions.specs.Graph.{graphFaults, graphReply}
 use Rattle.definitions.specs.Rule.{ruleFaults, ruleReply}
 use Rattle.laws.proofs.Reply.{packed-refused, judged-either}
 
 module _ (number : ℕ) (faults : List (Option ℕ)) where
   judged-number : (numberOf (judged number faults) ≡ 0) ⊎ (numberOf (judged number faults) ≡ number)
-  unfolding refused numberOf
+  unfolding refusal numberOf
   judged-number =
       ⊎-elim (λ (e : judged number faults ≡ Done). inl (ap numberOf e))
       (λ (e : judged number faults ≡ refused number). inr (ap numberOf e))
       (judged-either number faults)
 
   judged-packed : packed (judged number faults) ≡ numberOf (judged number faults)
-  unfolding refused numberOf packed
+  unfolding refusal numberOf packed
   judged-packed =
       ⊎-elim (λ (e : judged number faults ≡ Done). rw e)
       (λ (e : judged number faults ≡ refused number). rw e (packed-refused number))

@@ -1,5 +1,6 @@
--- Document 01's worked examples P1 to P10 as one list. What the paper leaves open (attributes of the Variables and of conv2d and
--- mean, the targets of P5 and P6, the map's bytes before) is chosen here once.
+-- Document 01's worked examples P1 to P10 as one list. What the paper leaves open is chosen here once: attributes of the Variables and
+-- of conv2d and mean, the targets of P5 and P6, the map's bytes before; for P10 a graph of one Variable and two gains, whose first
+-- attributes are the paper's two numbers and whose others are 1, and a rule that multiplies each of the three with its like.
 -- Assumes nothing.
 use mathlib.Core.Path.{_≡_}
 use mathlib.Core.List.{List, [], _∷_, _++_}
@@ -113,12 +114,12 @@ AllHold [] = Unit {0}
 AllHold (e ∷ es) = Holds e × AllHold es
 
 done : List ℕ → List ℕ → Outcome
-done graph images = record { reply = Done; graph = graph; images = mapBlock images }
+done graph images = record { reply = Done; graph = graph; map = mapBlock images }
 
 -- a refusal leaves both blocks as they came
 refusal : ℕ → List ℕ → Outcome
 unfolding blank
-refusal number graph = record { reply = refused number; graph = graph; images = blank }
+refusal number graph = record { reply = refused number; graph = graph; map = blank }
 
 -- ---- the examples
 

@@ -1,6 +1,7 @@
--- The outcome, with its reply packed.
+-- The outcome, with its reply packed; and what is lent are slices of bytes.
 -- Assumes nothing.
 use mathlib.Core.Path.{ap, _∙_}
+use native.Mathlib.Omega.{arith}
 use Rattle.definitions.specs.Operations.{atReturn, returned}
 use borrow.Author.Needs.{needs}
 use Rattle.leafgraph.proofs.lg_rewrite.Statement.{statement}
@@ -22,7 +23,13 @@ returns : tie.Need-returns
 unfolding returned
 returns c =
     let f = c .before .before .before .before .before in
-    ap (λ n. atReturn n (f .rewrite .last .0) (f .rewrite .last .1 .1 .1 .0)) (c .pack .ensures) ∙ ap returned (f .rewrite .ensures)
+    let lent = f .before .before .before in
+    record {
+      outcome = ap (λ n. atReturn n (f .rewrite .last .0) (f .rewrite .last .1 .1 .1 .0)) (c .pack .ensures) ∙ ap returned (f .rewrite .ensures);
+      lentGraph = λ at. omega (arith, lent .before .before .slice-known .given at);
+      lentRule = λ at. omega (arith, lent .before .shared-slice-known .given at);
+      lentMap = λ at. omega (arith, lent .slice-known2 .given at);
+    }
 
 pub lg-rewrite-spec : {M : Type 1} → statement M
 lg-rewrite-spec =

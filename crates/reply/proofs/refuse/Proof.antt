@@ -1,12 +1,12 @@
 -- The refusal is built as the definition has it.
 -- Assumes nothing.
 use mathlib.Core.Path.{refl}
-use Rattle.definitions.specs.Reply.{refused, noPlace}
+use Rattle.definitions.specs.Reply.{refusal, refused, noPlace}
 use Rattle.reply.proofs.refuse.Statement.{statement}
 use Rattle.reply.proofs.refuse.Tie as tie
 
 returns : tie.Need-returns
-unfolding refused noPlace
+unfolding refusal noPlace
 returns c = refl
 
 pub refuse-spec : {M : Type 1} → statement M

@@ -7,6 +7,8 @@ use mathlib.Core.List.{List}
 use Prim.Native.Nat.{ℕ, _≤_}
 use native.Mathlib.Omega.{arith}
 use borrow.Author.Tests.{not-true, not-false}
+use Rattle.definitions.specs.declared.Reply.the-variants.{Done}
+use Rattle.definitions.specs.Reply.{noResult, noRoom, newCycle, refusal}
 use Rattle.definitions.specs.Graph.{Graph, graphOf, hasCycle}
 use Rattle.definitions.specs.Rule.{targetCount, ruleOf}
 use Rattle.definitions.specs.Rewriting.{freeSlots}
@@ -20,6 +22,7 @@ use Rattle.target_attributes.specs.Words.{isGiven}
 use Rattle.vacancies.specs.Vacant.{marked, Lowest}
 use Rattle.vacancies.proofs.Laws.{marked-free}
 use Rattle.new_table.specs.Slots.{fitResults, newTable}
+use Rattle.rewriting.proofs.Replies.{planned-refused, planned-done}
 use Rattle.rewriting.proofs.Stages.{images-inside, unfit, full, prepared, new-table-of, cyclic, done}
 use borrow.Author.Needs.{needs}
 use Rattle.rewriting.proofs.plan.Statement.{statement}
@@ -45,16 +48,18 @@ all-fit-requires c κs =
       ),
     )
 
+refuse-requires : tie.Need-refuse-requires
+refuse-requires c κs = search needs
+
 returns : tie.Need-returns
 unfolding fitResults
 returns c =
-    let a = c .before in
+    let t = c .before in
+    let a = t .before in
     let s = a .before .before .before .before in
-    record {
-      done = λ h. absurd (omega arith);
-      refused = λ h. unfit (graph s) (rule s) (images s) (s .pre .0) (s .pre .1 .0) (s .pre .1 .1 .0)
-          (sym (a .all-fit .ensures) ∙ not-true _ (c .if1 .taken));
-    }
+    planned-refused _ _ _ (refusal noResult) (c .refuse .ensures)
+    (unfit (graph s) (rule s) (images s) (s .pre .0) (s .pre .1 .0) (s .pre .1 .1 .0)
+    (sym (a .all-fit .ensures) ∙ not-true _ (t .if1 .taken)))
 
 find-free-requires : tie.Need-find-free-requires
 find-free-requires c κs =
@@ -108,16 +113,18 @@ module _ (c : tie.After-lowest-free) where
       (rw (← length-slots (graph begun)) at (marks .ensures)))
       (c .lowest-free .ensures)
 
+refuse-requires-2 : tie.Need-refuse-requires-2
+refuse-requires-2 c κs = search needs
+
 returns-2 : tie.Need-returns-2
 returns-2 c =
-    let t = c .before .before in
+    let t = c .before .before .before in
     let l = t .before in
     let s = begun l in
-    record {
-      done = λ h. absurd (omega arith);
-      refused = λ h. full (graph s) (rule s) (images s) (s .pre .0) (s .pre .1 .0) (s .pre .1 .1 .0) (fit l)
-          (l .lowest-free .result .count) (l .lowest-free .result .slots) (places l) (omega (arith, t .target-count .ensures .0));
-    }
+    planned-refused _ _ _ (refusal noRoom) (c .refuse2 .ensures)
+    (full (graph s) (rule s) (images s) (s .pre .0) (s .pre .1 .0) (s .pre .1 .1 .0) (fit l)
+    (l .lowest-free .result .count) (l .lowest-free .result .slots) (places l)
+    (omega (arith, t .target-count .ensures .0, c .before .if2 .taken)))
 
 write-table-requires : tie.Need-write-table-requires
 write-table-requires c κs =
@@ -161,20 +168,22 @@ has-cycle-requires c κs =
     let written = sym (w .write-table .ensures) in
     (subst ReadableGraph written (block-readable (new w) (table w)), subst Closed written (block-closed (new w) (table w)))
 
+refuse-requires-3 : tie.Need-refuse-requires-3
+refuse-requires-3 c κs = search needs
+
 same-length : tie.Need-same-length
 same-length c = search needs
 
 returns-3 : tie.Need-returns-3
 returns-3 c =
-    let h = c .before in
+    let t = c .before in
+    let h = t .before in
     let w = h .before .before .before .before in
     let l = listed w in
     let s = begun l in
-    record {
-      done = λ e. absurd (omega arith);
-      refused = λ e. cyclic (graph s) (rule s) (images s) (s .pre .0) (s .pre .1 .0) (s .pre .1 .1 .0) (fit l)
-          (l .lowest-free .result .count) (l .lowest-free .result .slots) (places l) (enough w) (sym (judged h) ∙ c .if3 .taken);
-    }
+    planned-refused _ _ _ (refusal newCycle) (c .refuse3 .ensures)
+    (cyclic (graph s) (rule s) (images s) (s .pre .0) (s .pre .1 .0) (s .pre .1 .1 .0) (fit l)
+    (l .lowest-free .result .count) (l .lowest-free .result .slots) (places l) (enough w) (sym (judged h) ∙ t .if3 .taken))
 
 same-length-2 : tie.Need-same-length-2
 same-length-2 c = search needs
@@ -185,29 +194,27 @@ returns-4 c =
     let w = h .before .before .before .before in
     let l = listed w in
     let s = begun l in
-    record {
-      done = λ e. (
-        new w,
-        done (graph s) (rule s) (images s) (s .pre .0) (s .pre .1 .0) (s .pre .1 .1 .0) (fit l)
-            (l .lowest-free .result .count) (l .lowest-free .result .slots) (places l) (enough w) (sym (judged h) ∙ c .if3 .left),
-        w .write-table .ensures,
-      );
-      refused = λ e. absurd (e refl);
-    }
+    planned-done _ Done _ (new w) refl
+    (done (graph s) (rule s) (images s) (s .pre .0) (s .pre .1 .0) (s .pre .1 .1 .0) (fit l)
+    (l .lowest-free .result .count) (l .lowest-free .result .slots) (places l) (enough w) (sym (judged h) ∙ c .if3 .left))
+    (w .write-table .ensures)
 
 pub plan-spec : {M : Type 1} → statement M
 plan-spec =
     tie.close
     (tie.spec
     all-fit-requires
+    refuse-requires
     returns
     find-free-requires
     slot-count-requires
     lowest-free-requires
     target-count-requires
+    refuse-requires-2
     returns-2
     write-table-requires
     has-cycle-requires
+    refuse-requires-3
     same-length
     returns-3
     same-length-2

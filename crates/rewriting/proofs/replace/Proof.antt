@@ -6,8 +6,10 @@ use Prim.Native.Nat.{ℕ, _-_, _≤_}
 use native.Mathlib.Omega.{arith}
 use lib.ListN.{length, take, length-append}
 use lib.Seq.{take-append-seam}
+use Rattle.definitions.specs.declared.Reply.the-variants.{Done, Refused}
 use Rattle.definitions.specs.Graph.{slotLimit, recordAt, SoundGraph}
 use Rattle.search.proofs.Sound.{graph-readable}
+use Rattle.rewriting.proofs.Replies.{replaced-refused, replaced-done}
 use borrow.Author.Needs.{needs}
 use Rattle.rewriting.proofs.replace.Statement.{statement}
 use Rattle.rewriting.proofs.replace.Tie as tie
@@ -47,17 +49,21 @@ plan-requires c κs =
     let s = c .before .before .before .before .before in
     (s .pre .0, (s .pre .1 .0, (s .pre .1 .1, c .table .given .2 ∙ omega arith)))
 
+enum-known-why : tie.Need-enum-known-why
+enum-known-why c = search needs
+
 same-length : tie.Need-same-length
 same-length c = search needs
 
 returns : tie.Need-returns
 returns c =
-    let p = c .before .before in
-    let turned : p .plan .result ≡ 0 → ⊥ = c .if1 .taken in
-    record {
-      done = λ e. absurd (turned e);
-      refused = λ e. (p .plan .ensures .refused e, refl);
-    }
+    let r = c .before in
+    let p = r .before .before .before in
+    let why = r .why .given .0 .0 in
+    replaced-refused _ (Refused why) _ _ why refl (p .plan .ensures .refused why (r .why .given .1)) refl
+
+enum-told : tie.Need-enum-told
+enum-told c = search needs
 
 sub-copy : tie.Need-sub-copy
 sub-copy c = search needs
@@ -67,7 +73,7 @@ part-copy-start c = search needs
 
 part-copy-end : tie.Need-part-copy-end
 part-copy-end c =
-    let t = c .before .before .before in
+    let t = c .before .before .before .before in
     let a = t .before .before in
     reaches (length (start a .args .graph .now)) (t .before .plan .last .1 .1 .1 .0) _ (filled t ∙ omega arith)
 
@@ -80,13 +86,11 @@ same-length-2 c = search needs
 returns-2 : tie.Need-returns-2
 returns-2 c =
     let y = c .before .before in
-    let t = y .before .before .before .before .before in
+    let z = y .before .before .before .before in
+    let t = z .before .before in
     let p = t .before in
-    let made = p .plan .ensures .done (y .before .before .before .before .if1 .left) in
-    record {
-      done = λ e. (made .0, made .1, y .copy .ensures ∙ front _ (p .plan .last .1 .1 .1 .0) _ (filled t) ∙ made .2);
-      refused = λ e. absurd (e refl);
-    }
+    let made = p .plan .ensures .done (z .enum-told .given .1) in
+    replaced-done _ Done _ _ (made .0) refl (made .1) (y .copy .ensures ∙ front _ (p .plan .last .1 .1 .1 .0) _ (filled t) ∙ made .2)
 
 pub replace-spec : {M : Type 1} → statement M
 replace-spec =
@@ -97,8 +101,10 @@ replace-spec =
     part-table-start
     part-table-end
     plan-requires
+    enum-known-why
     same-length
     returns
+    enum-told
     sub-copy
     part-copy-start
     part-copy-end

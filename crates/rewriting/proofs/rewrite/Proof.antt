@@ -7,7 +7,7 @@ use mathlib.Core.List.{List}
 use Prim.Native.Nat.{ℕ}
 use borrow.Author.Tests.{not-true, not-false}
 use lib.ListN.{take}
-use Rattle.definitions.specs.declared.Reply.the-variants.{Done}
+use Rattle.definitions.specs.declared.Reply.the-variants.{Done, Refused}
 use Rattle.definitions.specs.Rule.{sourceCount}
 use Rattle.definitions.specs.Operations.{outcome, blocksReply}
 use Rattle.blocks.proofs.Laws.{map-bytes, blocks-done}
@@ -106,8 +106,8 @@ replace-requires c κs =
       ),
     )
 
-refuse-requires-2 : tie.Need-refuse-requires-2
-refuse-requires-2 c κs = search needs
+enum-known-refusal-2 : tie.Need-enum-known-refusal-2
+enum-known-refusal-2 c = search needs
 
 same-length-5 : tie.Need-same-length-5
 same-length-5 c = search needs
@@ -117,18 +117,22 @@ same-length-6 c = search needs
 
 returns-3 : tie.Need-returns-3
 returns-3 c =
-    let t = c .before in
-    let p = t .before .before .before in
+    let r = c .before in
+    let p = r .before .before .before .before in
     let e = p .before .before .before .before in
     let b = begun e in
-    let left = p .replace .ensures .refused (t .if2 .taken) in
-    ap₂ (λ r g. outcome r g (map b)) (c .refuse2 .ensures) (left .1)
+    let why = r .refusal2 .given .0 .0 in
+    let left = p .replace .ensures .refused why (r .refusal2 .given .1) in
+    ap (λ g. outcome (Refused why) g (map b)) (left .1)
     ∙ turned-down (graph b) (rule b) (start b .args .start) (map b) (good b) (found e) (searched e .least-match .ensures .found (success e))
-    (p .replace .result) (left .0)
+    why (left .0)
+
+enum-told-2 : tie.Need-enum-told-2
+enum-told-2 c = search needs
 
 write-map-requires : tie.Need-write-map-requires
 write-map-requires c κs =
-    let e = c .before .before .before .before .before .before .before .before .before in
+    let e = c .before .before .before .before .before .before .before .before .before .before in
     let b = begun e in
     (blocks-done (graph b) (rule b) (map b) (good b) .0, search (needs, searched e .least-match .ensures .size (success e)))
 
@@ -142,11 +146,11 @@ returns-4 : tie.Need-returns-4
 returns-4 c =
     let w = c .before .before in
     let z = w .before .before .before in
-    let p = z .before .before .before in
+    let p = z .before .before .before .before in
     let e = p .before .before .before .before in
     let b = begun e in
     let finds = searched e .least-match .ensures in
-    let left = p .replace .ensures .done (z .if2 .left) in
+    let left = p .replace .ensures .done (z .enum-told2 .given .1) in
     ap₂ (outcome Done) (left .2)
     (w .write-map .ensures
     ∙ map-bytes (sourceCount (rule b)) (images e) (finds .size (success e)) (finds .small (success e)) (finds .rest (success e)))
@@ -168,10 +172,11 @@ rewrite-spec =
     same-length-4
     returns-2
     replace-requires
-    refuse-requires-2
+    enum-known-refusal-2
     same-length-5
     same-length-6
     returns-3
+    enum-told-2
     write-map-requires
     same-length-7
     same-length-8

@@ -1,0 +1,61 @@
+-- The statements of specs/Statements, each from its contract alone.
+-- Assumes nothing.
+use mathlib.Core.Path.{_≡_, subst}
+use mathlib.Core.List.{List}
+use Prim.Native.Nat.{ℕ}
+use Rattle.definitions.specs.Graph.{graphOf}
+use Rattle.definitions.specs.Rule.{sourceCount, ruleOf}
+use Rattle.definitions.specs.Results.{Meaning}
+use Rattle.answers.specs.Written.{imagesIn}
+use Rattle.answers.specs.Rewritten.{Due}
+use Rattle.answers.specs.Statements.{CheckedGraph, CheckedRule, Searched, Rewrote, GraphVerdict, RuleVerdict, MatchReplies, Yields, RewriteReplies, Demand3}
+use Rattle.answers.proofs.Blocks.{graph-verdict, rule-verdict}
+use Rattle.answers.proofs.Matching.{match-replies}
+use Rattle.answers.proofs.Rewriting.{block-replies, due, replied, one-of-eight, refusal-keeps, written}
+use Rattle.answers.proofs.Demands.{yields-sound, yields-table, demand-3}
+use Rattle.answers.proofs.Unchanged.{keeps-record}
+
+-- lg_check_graph
+pub checked-graph : (graph : List ℕ) (reply : ℕ) → CheckedGraph graph reply → GraphVerdict graph reply
+checked-graph = graph-verdict
+
+-- lg_check_rule
+pub checked-rule : (rule : List ℕ) (reply : ℕ) → CheckedRule rule reply → RuleVerdict rule reply
+checked-rule = rule-verdict
+
+module _ (graph rule : List ℕ) (start : ℕ) (map : List ℕ) (reply : ℕ) (graphAfter mapAfter : List ℕ) where
+  -- lg_find_match
+  pub searched : Searched graph rule start map reply graphAfter mapAfter → MatchReplies graph rule start map reply graphAfter mapAfter
+  searched = match-replies graph rule start map reply graphAfter mapAfter
+
+  -- lg_rewrite
+  module _ (contract : Rewrote graph rule start map reply graphAfter mapAfter) where
+    yielded : reply ≡ 0 → Yields graph rule (imagesIn mapAfter (sourceCount rule)) graphAfter
+    yielded h =
+        let table = yields-table graph rule start map reply graphAfter mapAfter contract h in
+        record {
+          values = table .0;
+          fit = table .1;
+          block = table .2;
+          table = table .3;
+          sound = yields-sound graph rule start map reply graphAfter mapAfter contract h;
+          records = keeps-record graph rule start map reply graphAfter mapAfter contract h;
+        }
+
+    pub rewrote : RewriteReplies graph rule start map reply graphAfter mapAfter
+    rewrote = record {
+      blocks = block-replies graph rule start map reply graphAfter mapAfter contract;
+      due = λ good n. (
+        λ e. subst (Due (graphOf graph) (ruleOf rule) start) e
+            (due graph rule start map reply graphAfter mapAfter contract (good .0) (good .1) (good .2)),
+        replied graph rule start map reply graphAfter mapAfter contract (good .0) (good .1) (good .2) n,
+      );
+      oneOfEight = one-of-eight graph rule start map reply graphAfter mapAfter contract;
+      refusalKeeps = refusal-keeps graph rule start map reply graphAfter mapAfter contract;
+      written = written graph rule start map reply graphAfter mapAfter contract;
+      yields = yielded;
+    }
+
+    -- demand 3
+    pub accepted-keeps {ℓ} : {R : Type ℓ} (m : Meaning R) → reply ≡ 0 → Demand3 m graph rule graphAfter mapAfter
+    accepted-keeps = demand-3 graph rule start map reply graphAfter mapAfter contract

@@ -1,0 +1,132 @@
+-- What to read first. The contracts say what the exported functions answer, for any bytes; crates/leafgraph/src/lib.rt cites them, and the
+-- code is proved to meet them. Below each stands what follows from it alone, whatever the code: proofs/Statements has the theorems. Words
+-- in quotation marks are the owner's demands and document 01. What the words used here mean stands in the crate definitions and in
+-- Written and Rewritten beside this file.
+-- Assumes nothing.
+use mathlib.Core.Path.{_≡_}
+use mathlib.Core.List.{List}
+use mathlib.Core.Logic.{_⊎_, _↔_}
+use mathlib.Core.Option.{some}
+use Prim.Native.Nat.{ℕ, _+_, _*_, _<_, _≤_}
+use lib.Dec.{T}
+use lib.IntN.{ℤ}
+use lib.ListN.{length}
+use Rattle.definitions.specs.Fields.{Bytes, byteAt, u16At}
+use Rattle.definitions.specs.Reply.{badMapLength, badGraph, badRule, noMatch, newCycle, packed}
+use Rattle.definitions.specs.Graph.{unusedPlace, slotBytes, recordAt, Graph, graphOf, graphBlock, graphReply, SoundGraph}
+use Rattle.definitions.specs.Rule.{sideLimit, sourceCount, Rule, ruleOf, ruleReply, SoundRule}
+use Rattle.definitions.specs.Match.{readAttribute, MatchFrom, LeastFrom}
+use Rattle.definitions.specs.Rewriting.{targetResults, stays, newGraph}
+use Rattle.definitions.specs.Operations.{atReturn, returned, mapBytes, findMatch, rewrite}
+use Rattle.definitions.specs.Results.{Meaning}
+use Rattle.answers.specs.Written.{imagesIn}
+use Rattle.answers.specs.Rewritten.{Due, ReadsNone, Keeps}
+
+-- ==== the contracts; names with After are the lent bytes at the return, the others as they came
+
+-- lg_check_graph and lg_check_rule: the reply is the definition's. Both are lent their block to read only.
+abbrev pub CheckedGraph : List ℕ → ℕ → Type 0
+CheckedGraph graph reply = reply ≡ packed (graphReply graph)
+
+abbrev pub CheckedRule : List ℕ → ℕ → Type 0
+CheckedRule rule reply = reply ≡ packed (ruleReply rule)
+
+-- lg_find_match: reply, graph bytes and map bytes are the definition's
+abbrev pub Searched : List ℕ → List ℕ → ℕ → List ℕ → ℕ → List ℕ → List ℕ → Type 0
+Searched graph rule start map reply graphAfter mapAfter = atReturn reply graphAfter mapAfter ≡ returned (findMatch graph rule start map)
+
+-- lg_rewrite: likewise; and what it is lent are bytes
+pub record Rewrote (graph rule : List ℕ) (start : ℕ) (map : List ℕ) (reply : ℕ) (graphAfter mapAfter : List ℕ) : Type 0 where
+  pub outcome : atReturn reply graphAfter mapAfter ≡ returned (rewrite graph rule start map)
+  pub lentGraph : Bytes graph
+  pub lentRule : Bytes rule
+  pub lentMap : Bytes map
+
+-- ==== what follows: the checks
+
+-- "Checking a graph gives 0 or 2, a rule 0 or 3": 0 exactly where the block is sound, and the other exactly where it isn't.
+pub record Verdict (Sound : Type 0) (bad reply : ℕ) : Type 0 where
+  pub done : (reply ≡ 0) ↔ Sound
+  pub refused : (reply ≡ bad) ↔ (Sound → ⊥)
+  pub either : (reply ≡ 0) ⊎ (reply ≡ bad)
+
+-- follows from CheckedGraph
+abbrev pub GraphVerdict : List ℕ → ℕ → Type 0
+GraphVerdict graph reply = Verdict (SoundGraph graph) badGraph reply
+
+-- follows from CheckedRule
+abbrev pub RuleVerdict : List ℕ → ℕ → Type 0
+RuleVerdict rule reply = Verdict (SoundRule rule) badRule reply
+
+-- ==== what follows: matching and rewriting
+
+-- a map of 32 bytes, a sound graph and a sound rule
+abbrev pub Good : List ℕ → List ℕ → List ℕ → Type 0
+Good graph rule map = (length map ≡ mapBytes) × SoundGraph graph × SoundRule rule
+
+-- "Bad ones are refused by number": replies 1 to 3, "tested in that order, the lowest that applies"
+pub record BlockReplies (graph rule map : List ℕ) (reply : ℕ) : Type 0 where
+  -- "1: map buffer isn't 32 bytes"
+  pub wrongMap : (reply ≡ badMapLength) ↔ (length map ≡ mapBytes → ⊥)
+  -- "2: bad graph block"
+  pub wrongGraph : (reply ≡ badGraph) ↔ ((length map ≡ mapBytes) × (SoundGraph graph → ⊥))
+  -- "3: bad rule block"
+  pub wrongRule : (reply ≡ badRule) ↔ ((length map ≡ mapBytes) × SoundGraph graph × (SoundRule rule → ⊥))
+  -- every other reply is for good blocks only
+  pub good : (reply ≡ 0) ⊎ (noMatch ≤ reply) → Good graph rule map
+
+-- "Done, in matching and in rewriting, writes the map: sixteen 16-bit numbers, 65535 from S on." The first S of them are the images.
+pub record WritesLeast (graph rule : List ℕ) (start : ℕ) (mapAfter : List ℕ) : Type 0 where
+  -- "The least match is taken."
+  pub least : LeastFrom (graphOf graph) (ruleOf rule) start (imagesIn mapAfter (sourceCount rule))
+  pub rest : (j : ℕ) → sourceCount rule ≤ j → j < sideLimit → u16At mapAfter (2 * j) ≡ unusedPlace
+  pub size : length mapAfter ≡ mapBytes
+
+-- follows from Searched
+pub record MatchReplies (graph rule : List ℕ) (start : ℕ) (map : List ℕ) (reply : ℕ) (graphAfter mapAfter : List ℕ) : Type 0 where
+  pub blocks : BlockReplies graph rule map reply
+  -- "A match is found whenever one exists."
+  pub done : (reply ≡ 0) ↔ (Good graph rule map × ((images : List ℕ) × MatchFrom (graphOf graph) (ruleOf rule) start images))
+  -- "4: no match from s"
+  pub none : (reply ≡ noMatch)
+      ↔ (Good graph rule map × ((images : List ℕ) → MatchFrom (graphOf graph) (ruleOf rule) start images → ⊥))
+  -- "matching 0 to 4"
+  pub oneOfFive : reply ≤ noMatch
+  -- "Only rewriting writes the graph." "After a refusal each lent byte is as it came."
+  pub graphKept : graphAfter ≡ graph
+  pub refusalKeeps : (reply ≡ 0 → ⊥) → mapAfter ≡ map
+  pub written : reply ≡ 0 → WritesLeast graph rule start mapAfter
+
+-- "An accepted rewriting yields the one table that document 01 describes": for the match `images`, with the results of the target
+-- vertices' expressions. Its block is sound, so that rewritings can follow one another.
+pub record Yields (graph rule images graphAfter : List ℕ) : Type 0 where
+  pub values : List (List ℤ)
+  pub fit : targetResults (readAttribute (graphOf graph) images) (ruleOf rule .target) ≡ some values
+  pub block : graphAfter ≡ graphBlock (newGraph (graphOf graph) (ruleOf rule) images values)
+  pub table : graphOf graphAfter ≡ newGraph (graphOf graph) (ruleOf rule) images values
+  pub sound : SoundGraph graphAfter
+  -- "Nothing else changes": a vertex that stays and reads no replaced output keeps every byte of its record
+  pub records : (k : ℕ) → T (stays (graphOf graph) (ruleOf rule) images k) → ReadsNone (graphOf graph) (ruleOf rule) images k
+      → (i : ℕ) → i < slotBytes → byteAt graphAfter (recordAt k + i) ≡ byteAt graph (recordAt k + i)
+
+-- follows from Rewrote
+pub record RewriteReplies (graph rule : List ℕ) (start : ℕ) (map : List ℕ) (reply : ℕ) (graphAfter mapAfter : List ℕ) : Type 0 where
+  pub blocks : BlockReplies graph rule map reply
+  -- "No match, an attribute without a fit result, no room and a cycle are each reported exactly when they are so and nothing earlier in
+  -- document 01's order is." Done is due where none of them is so.
+  pub due : Good graph rule map → (n : ℕ) → (reply ≡ n) ↔ (Due (graphOf graph) (ruleOf rule) start n)
+  -- "rewriting 0 to 7"
+  pub oneOfEight : reply ≤ newCycle
+  -- "After a refusal each lent byte is as it came."
+  pub refusalKeeps : (reply ≡ 0 → ⊥) → (graphAfter ≡ graph) × (mapAfter ≡ map)
+  pub written : reply ≡ 0 → WritesLeast graph rule start mapAfter
+  pub yields : reply ≡ 0 → Yields graph rule (imagesIn mapAfter (sourceCount rule)) graphAfter
+
+-- ==== what follows: demand 3, of every accepted rewriting
+
+-- "Before" is the graph of the block as it came, "after" that of the bytes at the return; the match is the one that the map tells. Keeps
+-- has the demand sentence by sentence. Follows from Rewrote and reply 0, for every result type R and every meaning m.
+pub record Demand3 {ℓ} {R : Type ℓ} (m : Meaning R) (graph rule graphAfter mapAfter : List ℕ) : Type ℓ where
+  pub values : List (List ℤ)
+  pub fit : targetResults (readAttribute (graphOf graph) (imagesIn mapAfter (sourceCount rule))) (ruleOf rule .target) ≡ some values
+  pub keeps : Keeps m (graphOf graph) (ruleOf rule) (imagesIn mapAfter (sourceCount rule)) values (graphOf graphAfter)
