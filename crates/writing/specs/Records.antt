@@ -1,12 +1,12 @@
--- The bytes that a record and a header are written as, and the slot for which a record stands.
+-- The bytes that a record and a header are written as, the slot for which a record stands, and what is read of a record.
 -- Assumes nothing.
 use mathlib.Core.Path.{_≡_}
 use mathlib.Core.List.{List, [], _∷_, _++_}
-use Prim.Native.Nat.{ℕ}
-use lib.ListN.{length, replicate}
-use Rattle.definitions.specs.Lists.{padded, concatMap}
-use Rattle.definitions.specs.Fields.{u16Bytes, u32Bytes}
-use Rattle.definitions.specs.Graph.{inputLimit, attributeLimit, unusedPlace, graphLetter, graphVersion, Slot, slotTail}
+use Prim.Native.Nat.{ℕ, _+_, _-_, _*_}
+use lib.ListN.{length, take, drop, replicate}
+use Rattle.definitions.specs.Lists.{tabulate, padded, concatMap}
+use Rattle.definitions.specs.Fields.{u16At, u32At, u16Bytes, u32Bytes}
+use Rattle.definitions.specs.Graph.{slotBytes, inputLimit, attributeLimit, unusedPlace, graphLetter, graphVersion, Slot, slotTail}
 use Rattle.writing.specs.declared.Record.{Record}
 
 unfoldable pub recordBytes : Record → List ℕ
@@ -34,3 +34,18 @@ pub record Stands (r : Record) (s : Slot) : Type 0 where
   pub attributeCount : r .m ≡ length (s .attributes)
   pub inputs : r .inputs ≡ padded inputLimit unusedPlace (s .inputs)
   pub attributes : r .attributes ≡ padded attributeLimit 0 (s .attributes)
+
+-- ---- what stands in the record that starts at `at`, also in its unused places
+
+unfoldable pub inputsAt : List ℕ → ℕ → List ℕ
+inputsAt block at = tabulate inputLimit (λ i. u16At block (at + 4 + 2 * i))
+
+unfoldable pub attributesAt : List ℕ → ℕ → List ℕ
+attributesAt block at = tabulate attributeLimit (λ i. u32At block (at + 16 + 4 * i))
+
+-- the bytes of a record's fields: all but the tail's 8
+abbrev pub fieldBytes : ℕ
+fieldBytes = slotBytes - 8
+
+unfoldable pub fieldsAt : List ℕ → ℕ → List ℕ
+fieldsAt block at = take fieldBytes (drop at block)
