@@ -9,7 +9,7 @@ use borrow.Author.Tests.{leb-true, ltb-true, ltb-false}
 use lib.Dec.{eqb, ltb, leb}
 use lib.ListN.{length, getD, List·getD-eq-default}
 use Rattle.definitions.specs.Lists.{concatMap}
-use Rattle.definitions.specs.Fields.{byteAt, signed}
+use Rattle.definitions.specs.Fields.{byteAt, signed, filled}
 use Rattle.definitions.specs.Operators.{kindEmpty, kindProj, shapeFits}
 use Rattle.definitions.specs.Paths.{Acyclic}
 use Rattle.definitions.specs.Graph.{slotLimit, outputLimit, inputLimit, attributeLimit, unusedPlace, slotCount, recordAt, Slot, Graph, emptySlot, slotFrom, graphOf, slotOf, inputsOf, isVertex, slotBlock, headerBlock, graphBlock, atLeastOne, hasCycle, SoundGraph}
@@ -21,7 +21,7 @@ use Rattle.laws.proofs.Graph.{slot-past, vertex-inside, slot-of, length-slots, 
 use Rattle.graph_fields.specs.Layout.{ReadableGraph, Closed}
 use Rattle.encoding.specs.Tables.{slotFits, Table, Words}
 use Rattle.encoding.proofs.Pieces.{at-first, at-second, length-two, tabulated, piece-at}
-use Rattle.encoding.proofs.Records.{length-slot, kind-back, operator-back, attribute-count-back, inputs-back, attributes-back, record-fits}
+use Rattle.encoding.proofs.Records.{length-slot, zero-tail, kind-back, operator-back, attribute-count-back, inputs-back, attributes-back, record-fits}
 use Rattle.encoding.proofs.Headers.{length-header, count-back, output-count-back, outputs-back, header-fits}
 
 module _ (g : Graph) (table : Table g) where
@@ -88,6 +88,10 @@ module _ (g : Graph) (table : Table g) where
       rw e (at-second (headerBlock (length (g .slots)) (g .outputs)) (concatMap slotBlock (g .slots)) 24 (48 * k + i) 0
       (length-header (length (g .slots)) (g .outputs) few-outputs)
       ∙ piece-at slotBlock 48 emptySlot (g .slots) sized k i 0 l m)
+
+  -- whose last 8 bytes are zero
+  pub tail-held : (k : ℕ) → k < length (g .slots) → filled (graphBlock g) (recordAt k + 40) (recordAt k + 48) 0 ≡ true
+  tail-held k l = zero-tail (slotOf g k) (inputs-fit k l) (attributes-fit k l) (graphBlock g) (recordAt k) (record-held k l)
 
   -- ---- what is read from it
 

@@ -125,7 +125,7 @@ module _ (s : Slot) (fewInputs : length (s .inputs) ≤ inputLimit) (fewAttribut
         others-filled u32Bytes 4 attributeLimit 0 (s .attributes) length-u32 fewAttributes block (at + 16) (at + 40) 0
         (omega arith) u32-unused (omega arith) attributes-held
 
-    zero-tail : filled block (at + 40) (at + 48) 0 ≡ true
+    pub zero-tail : filled block (at + 40) (at + 48) 0 ≡ true
     zero-tail =
         filled-every block (at + 40) (at + 48) 0
         (λ i l. rw add-assoc (held (40 + i) (omega arith)) ∙ tail-byte i (omega arith))

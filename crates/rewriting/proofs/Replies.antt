@@ -1,6 +1,6 @@
 -- What is planned and what is replaced, told by the reply's case: a reply is done or a refusal, never both, and holds one refusal.
 -- Assumes nothing.
-use mathlib.Core.Path.{_≡_, refl, sym, ap, _∙_}
+use mathlib.Core.Path.{_≡_, ap, _∙_}
 use mathlib.Core.List.{List}
 use Prim.Native.Nat.{ℕ}
 use native.Mathlib.Omega.{arith}
@@ -9,6 +9,7 @@ use Rattle.definitions.specs.declared.Reply.{Reply}
 use Rattle.definitions.specs.declared.Reply.the-variants.{Done, Refused}
 use Rattle.definitions.specs.Graph.{Graph, graphBlock}
 use Rattle.definitions.specs.Operations.{Rewritten, accepted, turnedDown}
+use Rattle.encoding.specs.Tables.{Table}
 use Rattle.rewriting.specs.Planned.{Planned, Replaced}
 
 -- one case only
@@ -26,9 +27,10 @@ module _ (best : Rewritten) (reply : Reply) where
       refused = λ other o. h ∙ ap turnedDown (one-refusal reply why other e o);
     }
 
-    pub planned-done : (new : Graph) → reply ≡ Done → best ≡ accepted new → table ≡ graphBlock new → Planned best reply table
-    planned-done new e h made = record {
-      done = λ d. (new, h, made);
+    pub planned-done : (new : Graph) → Table new → reply ≡ Done → best ≡ accepted new → table ≡ graphBlock new
+        → Planned best reply table
+    planned-done new sound e h made = record {
+      done = λ d. (new, sound, h, made);
       refused = λ why r. absurd (not-both reply why e r);
     }
 

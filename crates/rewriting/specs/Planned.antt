@@ -11,6 +11,7 @@ use Rattle.definitions.specs.Graph.{unusedPlace, Graph, graphOf, graphBlock}
 use Rattle.definitions.specs.Rule.{sideLimit, sourceCount, ruleOf}
 use Rattle.definitions.specs.Match.{imageOf, Match}
 use Rattle.definitions.specs.Operations.{Rewritten, accepted, turnedDown}
+use Rattle.encoding.specs.Tables.{Table}
 
 -- an array that begins with the images of a match, and holds 65535 after them
 pub record Matched (graph rule images : List ℕ) : Type 0 where
@@ -18,9 +19,9 @@ pub record Matched (graph rule images : List ℕ) : Type 0 where
   pub isMatch : Match (graphOf graph) (ruleOf rule) (take (sourceCount rule) images)
   pub rest : (i : ℕ) → sourceCount rule ≤ i → imageOf images i ≡ unusedPlace
 
--- the new table is made in a block of its own
+-- the new table is made in a block of its own, which can be committed
 pub record Planned (best : Rewritten) (reply : Reply) (table : List ℕ) : Type 0 where
-  pub done : reply ≡ Done → (new : Graph) × (best ≡ accepted new) × (table ≡ graphBlock new)
+  pub done : reply ≡ Done → (new : Graph) × Table new × (best ≡ accepted new) × (table ≡ graphBlock new)
   pub refused : (why : Refusal) → reply ≡ Refused why → best ≡ turnedDown why
 
 -- the graph block holds the new table, or is as it was

@@ -3,6 +3,7 @@
 use acyclic::has_cycle;
 use blocks::check_blocks;
 use blocks::write_map;
+use commit::commit;
 use definitions::HEADER_BYTES;
 use definitions::Reply;
 use definitions::SIDE_LIMIT;
@@ -20,7 +21,6 @@ use search::least_match;
 use target_attributes::all_fit;
 use vacancies::find_free;
 use vacancies::lowest_free;
-use writing::copy;
 ghost use mathlib.Core.Path.{_≡_};
 ghost use lib.ListN.{length, take};
 ghost use Rattle.definitions.specs.Graph.{slotLimit, recordAt, graphOf, SoundGraph};
@@ -79,7 +79,7 @@ fn replace(graph: &mut [u8], rule: &[u8], images: &[u16; SIDE_LIMIT]) -> Reply
         Reply::Refused(why) => return Reply::Refused(why),
         Reply::Done => {}
     }
-    copy(graph, &table[0..size]);
+    commit(graph, &table[0..size]);
     Reply::Done
 }
 

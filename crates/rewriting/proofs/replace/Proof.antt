@@ -1,6 +1,6 @@
--- The new table is made in the first part of a local block, as long as the graph's, and copied from there.
+-- The new table is made in the first part of a local block, as long as the graph's, and committed from there.
 -- Assumes nothing.
-use mathlib.Core.Path.{_≡_, refl, sym, ap, _∙_}
+use mathlib.Core.Path.{_≡_, refl, sym, ap, _∙_, subst}
 use mathlib.Core.List.{List, _++_}
 use Prim.Native.Nat.{ℕ, _-_, _≤_}
 use native.Mathlib.Omega.{arith}
@@ -8,7 +8,11 @@ use lib.ListN.{length, take, length-append}
 use lib.Seq.{take-append-seam}
 use Rattle.definitions.specs.declared.Reply.the-variants.{Done, Refused}
 use Rattle.definitions.specs.Graph.{slotLimit, recordAt, SoundGraph}
+use Rattle.graph_fields.specs.Layout.{WholeGraph}
 use Rattle.search.proofs.Sound.{graph-readable}
+use Rattle.encoding.proofs.Blocks.{block-readable}
+use Rattle.commit.specs.Tables.{ClearTails}
+use Rattle.commit.proofs.Blocks.{clear-tails}
 use Rattle.rewriting.proofs.Replies.{replaced-refused, replaced-done}
 use borrow.Author.Needs.{needs}
 use Rattle.rewriting.proofs.replace.Statement.{statement}
@@ -65,20 +69,31 @@ returns c =
 enum-told : tie.Need-enum-told
 enum-told c = search needs
 
-sub-copy : tie.Need-sub-copy
-sub-copy c = search needs
+sub-commit : tie.Need-sub-commit
+sub-commit c = search needs
 
-part-copy-start : tie.Need-part-copy-start
-part-copy-start c = search needs
+part-commit-start : tie.Need-part-commit-start
+part-commit-start c = search needs
 
-part-copy-end : tie.Need-part-copy-end
-part-copy-end c =
+part-commit-end : tie.Need-part-commit-end
+part-commit-end c =
     let t = c .before .before .before .before in
     let a = t .before .before in
     reaches (length (start a .args .graph .now)) (t .before .plan .last .1 .1 .1 .0) _ (filled t ∙ omega arith)
 
-copy-requires : tie.Need-copy-requires
-copy-requires c κs = search needs
+commit-requires : tie.Need-commit-requires
+commit-requires c κs =
+    let z = c .before .before .before in
+    let t = z .before .before in
+    let p = t .before in
+    let made = p .plan .ensures .done (z .enum-told .given .1) in
+    let same = front _ (p .plan .last .1 .1 .1 .0) _ (filled t) ∙ made .3 in (
+      search needs,
+      (
+        subst WholeGraph (sym same) (block-readable (made .0) (made .1) .whole),
+        subst ClearTails (sym same) (clear-tails (made .0) (made .1)),
+      ),
+    )
 
 same-length-2 : tie.Need-same-length-2
 same-length-2 c = search needs
@@ -90,7 +105,7 @@ returns-2 c =
     let t = z .before .before in
     let p = t .before in
     let made = p .plan .ensures .done (z .enum-told .given .1) in
-    replaced-done _ Done _ _ (made .0) refl (made .1) (y .copy .ensures ∙ front _ (p .plan .last .1 .1 .1 .0) _ (filled t) ∙ made .2)
+    replaced-done _ Done _ _ (made .0) refl (made .2) (y .commit .ensures ∙ front _ (p .plan .last .1 .1 .1 .0) _ (filled t) ∙ made .3)
 
 pub replace-spec : {M : Type 1} → statement M
 replace-spec =
@@ -105,9 +120,9 @@ replace-spec =
     same-length
     returns
     enum-told
-    sub-copy
-    part-copy-start
-    part-copy-end
-    copy-requires
+    sub-commit
+    part-commit-start
+    part-commit-end
+    commit-requires
     same-length-2
     returns-2)
