@@ -1,4 +1,4 @@
--- What is planned and what is replaced, told by the reply's case: a reply is done or a refusal, never both, and holds one refusal.
+-- What is planned, told by the reply's case: a reply is done or a refusal, never both, and holds one refusal.
 -- Assumes nothing.
 use mathlib.Core.Path.{_≡_, ap, _∙_}
 use mathlib.Core.List.{List}
@@ -10,41 +10,24 @@ use Rattle.definitions.specs.declared.Reply.the-variants.{Done, Refused}
 use Rattle.definitions.specs.Graph.{Graph, graphBlock}
 use Rattle.definitions.specs.Operations.{Rewritten, accepted, turnedDown}
 use Rattle.encoding.specs.Tables.{Table}
-use Rattle.rewriting.specs.Planned.{Planned, Replaced}
+use Rattle.rewriting.specs.Planned.{Planned}
 
 -- one case only
-not-both : (reply : Reply) (why : Refusal) → reply ≡ Done → reply ≡ Refused why → ⊥
+pub not-both : (reply : Reply) (why : Refusal) → reply ≡ Done → reply ≡ Refused why → ⊥
 not-both reply why d r = let z : _≡_ {A = ℕ} 0 1 = cc in omega arith
 
 one-refusal : (reply : Reply) (why other : Refusal) → reply ≡ Refused why → reply ≡ Refused other → why ≡ other
 one-refusal reply why other r s = cc
 
-module _ (best : Rewritten) (reply : Reply) where
-  module _ (table : List ℕ) where
-    pub planned-refused : (why : Refusal) → reply ≡ Refused why → best ≡ turnedDown why → Planned best reply table
-    planned-refused why e h = record {
-      done = λ d. absurd (not-both reply why d e);
-      refused = λ other o. h ∙ ap turnedDown (one-refusal reply why other e o);
-    }
+module _ (best : Rewritten) (reply : Reply) (table : List ℕ) where
+  pub planned-refused : (why : Refusal) → reply ≡ Refused why → best ≡ turnedDown why → Planned best reply table
+  planned-refused why e h = record {
+    done = λ d. absurd (not-both reply why d e);
+    refused = λ other o. h ∙ ap turnedDown (one-refusal reply why other e o);
+  }
 
-    pub planned-done : (new : Graph) → Table new → reply ≡ Done → best ≡ accepted new → table ≡ graphBlock new
-        → Planned best reply table
-    planned-done new sound e h made = record {
-      done = λ d. (new, sound, h, made);
-      refused = λ why r. absurd (not-both reply why e r);
-    }
-
-  module _ (before after : List ℕ) where
-    pub replaced-refused : (why : Refusal) → reply ≡ Refused why → best ≡ turnedDown why → after ≡ before
-        → Replaced best reply before after
-    replaced-refused why e h same = record {
-      done = λ d. absurd (not-both reply why d e);
-      refused = λ other o. (h ∙ ap turnedDown (one-refusal reply why other e o), same);
-    }
-
-    pub replaced-done : (new : Graph) → reply ≡ Done → best ≡ accepted new → after ≡ graphBlock new
-        → Replaced best reply before after
-    replaced-done new e h made = record {
-      done = λ d. (new, h, made);
-      refused = λ why r. absurd (not-both reply why e r);
-    }
+  pub planned-done : (new : Graph) → Table new → reply ≡ Done → best ≡ accepted new → table ≡ graphBlock new → Planned best reply table
+  planned-done new sound e h made = record {
+    done = λ d. (new, sound, h, made);
+    refused = λ why r. absurd (not-both reply why e r);
+  }

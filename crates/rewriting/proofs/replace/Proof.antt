@@ -13,7 +13,7 @@ use Rattle.search.proofs.Sound.{graph-readable}
 use Rattle.encoding.proofs.Blocks.{block-readable}
 use Rattle.commit.specs.Tables.{ClearTails}
 use Rattle.commit.proofs.Blocks.{clear-tails}
-use Rattle.rewriting.proofs.Replies.{replaced-refused, replaced-done}
+use Rattle.rewriting.proofs.Replies.{not-both}
 use borrow.Author.Needs.{needs}
 use Rattle.rewriting.proofs.replace.Statement.{statement}
 use Rattle.rewriting.proofs.replace.Tie as tie
@@ -64,7 +64,10 @@ returns c =
     let r = c .before in
     let p = r .before .before .before in
     let why = r .why .given .0 .0 in
-    replaced-refused _ (Refused why) _ _ why refl (p .plan .ensures .refused why (r .why .given .1)) refl
+    record {
+      done = λ d. absurd (not-both (Refused why) why d refl);
+      refused = λ other o. (p .plan .ensures .refused other (r .why .given .1 ∙ o), refl);
+    }
 
 enum-told : tie.Need-enum-told
 enum-told c = search needs
@@ -105,7 +108,10 @@ returns-2 c =
     let t = z .before .before in
     let p = t .before in
     let made = p .plan .ensures .done (z .enum-told .given .1) in
-    replaced-done _ Done _ _ (made .0) refl (made .2) (y .commit .ensures ∙ front _ (p .plan .last .1 .1 .1 .0) _ (filled t) ∙ made .3)
+    record {
+      done = λ d. (made .0, made .2, y .commit .ensures ∙ front _ (p .plan .last .1 .1 .1 .0) _ (filled t) ∙ made .3);
+      refused = λ why e. absurd (not-both Done why refl e);
+    }
 
 pub replace-spec : {M : Type 1} → statement M
 replace-spec =
