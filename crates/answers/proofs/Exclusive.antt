@@ -15,7 +15,7 @@ use Rattle.definitions.specs.Match.{readAttribute, Match, LeastFrom, leastMatch
 use Rattle.definitions.specs.Rewriting.{targetResults, hasRoom}
 use Rattle.laws.proofs.Lists.{option-either}
 use Rattle.theory.proofs.Fixing.{Fixing}
-use Rattle.theory.proofs.Least.{least-match, least-searched}
+use Rattle.theory.proofs.Least.{none-found, least-searched}
 use Rattle.answers.specs.Rewritten.{Due, unmatched, unfit, full, cyclic, done}
 use Rattle.answers.proofs.Fit.{unfit-none, none-unfit}
 use Rattle.answers.proofs.Room.{enough-room, short-room}
@@ -37,11 +37,7 @@ module _ (g : Graph) (r : Rule) (fixing : Fixing r) (s : ℕ) where
   -- the tests stop at the number that is due; where 0 is due they come to the last one
   due-stage : {n : ℕ} → Due g r s n → (stage ≡ n) ⊎ ((n ≡ 0) × (stage ≡ newCycle))
   unfolding stage
-  due-stage (unmatched never) =
-      inl (⊎-elim (λ (e : leastMatch g r s ≡ none). rw (e, stage))
-      (λ (f : (images : List ℕ) × (leastMatch g r s ≡ some images)).
-      absurd (never (f .0) (least-match g r fixing s (f .0) (f .1))))
-      (option-either (leastMatch g r s)))
+  due-stage (unmatched never) = inl (rw (none-found g r fixing s never, stage))
   due-stage (unfit images least nofit) = inl (rw (searched images least, stage) (rw (unfit-none g r images nofit)))
   due-stage (full images least fit short) =
       inl (⊎-elim (λ (e : targetResults (readAttribute g images) (r .target) ≡ none). absurd (fit (none-unfit g r images e)))

@@ -16,7 +16,7 @@ use Rattle.definitions.specs.Operations.{outcome, mapBytes, mapBlock, matched, 
 use Rattle.laws.proofs.Lists.{option-either}
 use Rattle.laws.proofs.Reply.{packed-refused}
 use Rattle.theory.proofs.Fixing.{sound-fixing}
-use Rattle.theory.proofs.Least.{least-match, least-found, none-left}
+use Rattle.theory.proofs.Least.{least-match, least-found, none-left, none-found}
 use Rattle.answers.specs.Written.{imagesIn}
 use Rattle.answers.specs.Statements.{Searched, Good, WritesLeast, MatchReplies}
 use Rattle.answers.proofs.Maps.{least-written}
@@ -123,10 +123,7 @@ module _ (graph rule : List ℕ) (start : ℕ) (before : List ℕ) where
     pub none-every : length before ≡ mapBytes → SoundGraph graph → SoundRule rule
         → ((images : List ℕ) → MatchFrom g r start images → ⊥) → reply ≡ noMatch
     none-every size sound soundRule never =
-        ⊎-elim (λ (e : leastMatch g r start ≡ none). none-ends (size, sound, soundRule) e .0)
-        (λ (f : (images : List ℕ) × (leastMatch g r start ≡ some images)).
-        absurd (never (f .0) (least-match g r (sound-fixing rule soundRule) start (f .0) (f .1))))
-        (option-either (leastMatch g r start))
+        none-ends (size, sound, soundRule) (none-found g r (sound-fixing rule soundRule) start never) .0
 
     -- a call is refused with one of 1 to 4, and then every byte is as it came, or it is done, and the graph is as it came
     abbrev Ended : Type 0

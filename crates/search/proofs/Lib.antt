@@ -1,4 +1,3 @@
-pub mod Least
 pub mod Sound
 pub mod Steps
 pub mod Whole

@@ -19,13 +19,13 @@ use Rattle.laws.proofs.Graph.{length-slots}
 use Rattle.laws.proofs.Match.{image-inside}
 use Rattle.laws.proofs.Rule.{length-source, length-source-outputs}
 use Rattle.theory.proofs.Fixing.{sound-fixing}
+use Rattle.theory.proofs.Least.{least-searched, none-found}
 use Rattle.rule_order.specs.InOrder.{InOrder, visitedAfter}
 use Rattle.rule_order.proofs.InOrder.{in-order-first, in-order-rest, in-order-start, in-order-whole}
 use Rattle.matching.specs.Partial.{Partial, Extends, Sends, Step}
 use Rattle.matching.proofs.Candidates.{Formed, formed}
 use Rattle.matching.proofs.Maps.{partial-same}
 use Rattle.search.specs.Finds.{Finds}
-use Rattle.search.proofs.Least.{least-is, least-none}
 use Rattle.search.proofs.Sound.{rule-readable, rule-matchable, output-counts}
 use Rattle.search.proofs.Whole.{short-images, partial-match}
 
@@ -191,8 +191,8 @@ module _ (graph rule : List ℕ) (sound : SoundRule rule) where
       let same = short-images g r f made whole (blank .rest) fits in
       let isMatch = partial-match g r f made whole (blank .rest) fits in
       record {
-        found = λ b. rw (← length-source rule) (least-is g r (sound-fixing rule sound) start (take (length (r .source)) made)
-            (record { isMatch = isMatch; first = rw same from }) (rw same least));
+        found = λ b. rw (← length-source rule) (least-searched g r (sound-fixing rule sound) start (take (length (r .source)) made)
+            (record { from = record { isMatch = isMatch; first = rw same from }; least = rw same least }));
         none = λ f. absurd (true-not-false refl f);
         size = λ b. blank .size;
         small = λ b. rule-readable rule sound .whole .source;
@@ -227,7 +227,7 @@ module _ (graph rule : List ℕ) (sound : SoundRule rule) where
           → Finds (leastMatch g r start) (sourceCount rule) ok images
       nothing-found l h f = record {
         found = λ t. absurd (true-not-false t f);
-        none = λ t. least-none g r (sound-fixing rule sound) start
+        none = λ t. none-found g r (sound-fixing rule sound) start
             (λ whole from. omega (
               arith,
               first-from whole from,

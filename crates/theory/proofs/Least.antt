@@ -14,7 +14,7 @@ use Rattle.definitions.specs.Lists.{member, position}
 use Rattle.definitions.specs.Graph.{unusedPlace, Graph, isVertex}
 use Rattle.definitions.specs.Rule.{Pattern, Rule}
 use Rattle.definitions.specs.Match.{imageOf, Match, MatchFrom, outputImages, NotAfter, LeastFrom, isMatch, imagesFrom, imagesFor, choices, attempt, leastMatch}
-use Rattle.laws.proofs.Lists.{decided, map-at}
+use Rattle.laws.proofs.Lists.{decided, map-at, option-either}
 use Rattle.laws.proofs.Graph.{vertex-inside}
 use Rattle.laws.proofs.Members.{holds, member-mem, mem-member, mem-at, position-least}
 use Rattle.theory.proofs.Match.{test-sound, test-complete}
@@ -143,6 +143,13 @@ module _ (g : Graph) (r : Rule) (fixing : Fixing r) (s : ℕ) where
   none-left h images from =
       let found = least-found images from in
       Option·none-ne-some (found .0) (sym h ∙ found .1)
+
+  -- And where there is none, it finds nothing.
+  pub none-found : ((images : List ℕ) → MatchFrom g r s images → ⊥) → leastMatch g r s ≡ none
+  none-found never =
+      ⊎-elim (λ (e : leastMatch g r s ≡ none). e)
+      (λ (f : (images : List ℕ) × (leastMatch g r s ≡ some images)). absurd (never (f .0) (least-match (f .0) (f .1))))
+      (option-either (leastMatch g r s))
 
   -- ---- the least match, by its meaning
 
