@@ -5,7 +5,7 @@ use mathlib.Core.Bool.{Bool, true, false, cond}
 use mathlib.Core.Logic.{⊎-elim}
 use mathlib.Core.Option.{Option, none, some}
 use Prim.Native.Nat.{ℕ, zero, suc, _+_, _-_, _*_, _/_, _%_, _^_, _<_, _≤_, min}
-use native.Mathlib.Nat.{min-eq-left, min-eq-right, div-lt-iff-lt-mul, le-div-iff-mul-le}
+use native.Mathlib.Nat.{min-eq-left, min-eq-right, div-lt-iff-lt-mul, le-div-iff-mul-le, add-div-right, add-mod-right, mod-lt}
 use native.Mathlib.Omega.{arith}
 use borrow.Author.Tests.{ltb-true, ltb-false, lt-ltb, le-ltb, leb-true, leb-false, eqb-false}
 use lib.Dec.{ltb, leb}
@@ -98,15 +98,25 @@ pub divisor : {y : Integer} {n : ℕ} → isZero (integerOf y) ≡ false → y �
 unfolding isZero integerOf
 divisor {n = n} f e = eqb-false n 0 (rw e at f)
 
+-- the magnitude a + 1 by b, rounded up
+pub rounded-up : (a b : ℕ) → (b ≡ 0 → ⊥) → negℤ (pos ((a + b) / b)) ≡ negsuc (a / b)
+rounded-up a b h =
+    let up : (a + b) / b ≡ suc (a / b) = add-div-right a {k = b} (omega arith) ∙ omega arith in
+    ap (λ (n : ℕ). negℤ (pos n)) up
+
 pub rest-plus-plus : (a b : ℕ) → (b ≡ 0 → ⊥) → pos a -ℤ pos b *ℤ quotient (pos a) (pos b) ≡ pos (a % b)
 unfolding rounds-down-positive remainder-positive
 rest-plus-plus a zero h = absurd (h refl)
 rest-plus-plus a (suc n) h = remainder-positive (pos a) n .2
 
-pub rest-minus-plus : (a b : ℕ) → (b ≡ 0 → ⊥) → negsuc a -ℤ pos b *ℤ quotient (negsuc a) (pos b) ≡ pos (b - 1 - a % b)
+pub rest-minus-plus : (a b : ℕ) → (b ≡ 0 → ⊥) → negsuc a -ℤ pos b *ℤ quotient (negsuc a) (pos b) ≡ subℕ (b - 1) ((a + b) % b)
 unfolding rounds-down-positive remainder-positive
 rest-minus-plus a zero h = absurd (h refl)
-rest-minus-plus a (suc n) h = remainder-positive (negsuc a) n .2 ∙ ap pos (omega arith)
+rest-minus-plus a (suc n) h =
+    let left = add-mod-right a (suc n) in
+    let less = mod-lt a {m = suc n} (omega arith) in
+    let same : n - a % suc n ≡ suc n - 1 - (a + suc n) % suc n = omega arith in
+    remainder-positive (negsuc a) n .2 ∙ ap pos same ∙ sym (not-less (suc n - 1) ((a + suc n) % suc n) (omega arith))
 
 pub rest-plus-minus : (a n : ℕ) → pos a -ℤ negsuc n *ℤ quotient (pos a) (negsuc n) ≡ negℤ (pos (n - (a + n) % suc n))
 unfolding rounds-down-negative remainder-negative

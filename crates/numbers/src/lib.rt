@@ -172,13 +172,15 @@ fn divide(x: Integer, y: Integer) -> Value
             Integer::Minus(b) => fit_negated((a + b) / (b + 1)),
         },
         Integer::Minus(a) => match y {
-            Integer::Plus(b) => fit_minus(a / b),
+            // Here the magnitude is a + 1, and one less than the divisor's is b - 1.
+            Integer::Plus(b) => fit_negated((a + b) / b),
             Integer::Minus(b) => fit_plus((a + 1) / (b + 1)),
         },
     }
 }
 
-// What the quotient leaves, without the product of the quotient and the divisor.
+// What the quotient leaves, without the product of the quotient and the divisor. Where the quotient's magnitude is rounded up, that
+// is what was added for it, less what the division of the sum leaves.
 fn remainder(x: Integer, y: Integer) -> Value
     requires { ⌜ inRange (integerOf x) ≡ true ⌝ }
     requires { ⌜ inRange (integerOf y) ≡ true ⌝ }
@@ -193,7 +195,7 @@ fn remainder(x: Integer, y: Integer) -> Value
             Integer::Minus(b) => fit_negated(b - (a + b) % (b + 1)),
         },
         Integer::Minus(a) => match y {
-            Integer::Plus(b) => fit_plus(b - 1 - a % b),
+            Integer::Plus(b) => fit_difference(b - 1, (a + b) % b),
             Integer::Minus(b) => fit_negated((a + 1) % (b + 1)),
         },
     }

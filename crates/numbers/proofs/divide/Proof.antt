@@ -1,14 +1,14 @@
--- By the signs, as `quotient` goes; of a positive number by a negative one it is minus the quotient rounded up.
+-- By the signs, as `quotient` goes; of numbers with different signs it is minus the quotient rounded up.
 -- Assumes nothing.
-use mathlib.Core.Path.{_≡_, sym, _∙_}
+use mathlib.Core.Path.{_≡_, sym, ap, _∙_}
 use mathlib.Core.Bool.{false}
 use borrow.Author.Tests.{ne-eqb}
 use native.Mathlib.Omega.{arith}
 use native.Mathlib.Numerals.{add-one}
-use Rattle.definitions.specs.Attributes.{operate, quotient, isZero}
+use Rattle.definitions.specs.Attributes.{fit, operate, quotient, isZero}
 use Rattle.fields.specs.Integer.{integerOf}
 use Rattle.numbers.specs.Value.{valueOf}
-use Rattle.numbers.proofs.Laws.{plus-limit, minus-limit, divisor}
+use Rattle.numbers.proofs.Laws.{plus-limit, minus-limit, divisor, rounded-up}
 use borrow.Author.Needs.{needs}
 use Rattle.numbers.proofs.divide.Statement.{statement}
 use Rattle.numbers.proofs.divide.Tie as tie
@@ -72,11 +72,18 @@ enum-known-x-2 c = search needs
 enum-known-y-3 : tie.Need-enum-known-y-3
 enum-known-y-3 c = search needs
 
-div-fit-minus : tie.Need-div-fit-minus
-div-fit-minus c = omega (arith, by-y3 (c .before))
+add-fit-negated-3 : tie.Need-add-fit-negated-3
+add-fit-negated-3 c =
+    let y = c .before in
+    let x = y .before .before .before in
+    let start = x .before .before .before .before in
+    omega (arith, minus-limit (start .pre .0) (x .x2 .given .1), plus-limit (start .pre .1) (y .y3 .given .1))
 
-fit-minus-requires : tie.Need-fit-minus-requires
-fit-minus-requires c κs = search needs
+div-fit-negated-2 : tie.Need-div-fit-negated-2
+div-fit-negated-2 c = omega (arith, by-y3 (c .before))
+
+fit-negated-requires-2 : tie.Need-fit-negated-requires-2
+fit-negated-requires-2 c κs = search needs
 
 enum-known-y-4 : tie.Need-enum-known-y-4
 enum-known-y-4 c = search needs
@@ -120,7 +127,7 @@ unfolding operate quotient isZero integerOf
 returns-4 c =
     let y = c .before .before in
     let x = y .before .before .before in
-    rw (x .x2 .given .1, y .y3 .given .1, ne-eqb _ 0 (by-y3 y)) (c .fit-minus .ensures)
+    rw (x .x2 .given .1, y .y3 .given .1, ne-eqb _ 0 (by-y3 y)) (c .fit-negated2 .ensures ∙ ap fit (rounded-up _ _ (by-y3 y)))
 
 returns-5 : tie.Need-returns-5
 unfolding operate quotient isZero integerOf
@@ -146,8 +153,9 @@ divide-spec =
     fit-negated-requires
     enum-known-x-2
     enum-known-y-3
-    div-fit-minus
-    fit-minus-requires
+    add-fit-negated-3
+    div-fit-negated-2
+    fit-negated-requires-2
     enum-known-y-4
     add-fit-plus
     add-fit-plus-2

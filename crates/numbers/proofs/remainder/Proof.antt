@@ -81,21 +81,21 @@ enum-known-x-2 c = search needs
 enum-known-y-3 : tie.Need-enum-known-y-3
 enum-known-y-3 c = search needs
 
-sub-fit-plus : tie.Need-sub-fit-plus
-sub-fit-plus c = omega (arith, by-y3 (c .before))
+sub-fit-difference : tie.Need-sub-fit-difference
+sub-fit-difference c = omega (arith, by-y3 (c .before))
 
-rem-fit-plus-2 : tie.Need-rem-fit-plus-2
-rem-fit-plus-2 c = omega (arith, by-y3 (c .before))
-
-sub-fit-plus-2 : tie.Need-sub-fit-plus-2
-sub-fit-plus-2 c =
+add-fit-difference : tie.Need-add-fit-difference
+add-fit-difference c =
     let y = c .before in
     let x = y .before .before .before in
-    let not-zero = by-y3 y in
-    omega (arith, mod-lt (x .x2 .given .0 .0) {m = y .y3 .given .0 .0} (omega arith))
+    let start = x .before .before .before .before in
+    omega (arith, minus-limit (start .pre .0) (x .x2 .given .1), plus-limit (start .pre .1) (y .y3 .given .1))
 
-fit-plus-requires-2 : tie.Need-fit-plus-requires-2
-fit-plus-requires-2 c κs = search needs
+rem-fit-difference : tie.Need-rem-fit-difference
+rem-fit-difference c = omega (arith, by-y3 (c .before))
+
+fit-difference-requires : tie.Need-fit-difference-requires
+fit-difference-requires c κs = search needs
 
 enum-known-y-4 : tie.Need-enum-known-y-4
 enum-known-y-4 c = search needs
@@ -139,7 +139,7 @@ unfolding operate isZero integerOf
 returns-4 c =
     let y = c .before .before in
     let x = y .before .before .before in
-    rw (x .x2 .given .1, y .y3 .given .1, ne-eqb _ 0 (by-y3 y), rest-minus-plus _ _ (by-y3 y)) (c .fit-plus2 .ensures)
+    rw (x .x2 .given .1, y .y3 .given .1, ne-eqb _ 0 (by-y3 y), rest-minus-plus _ _ (by-y3 y)) (c .fit-difference .ensures)
 
 returns-5 : tie.Need-returns-5
 unfolding operate isZero integerOf
@@ -166,10 +166,10 @@ remainder-spec =
     fit-negated-requires
     enum-known-x-2
     enum-known-y-3
-    sub-fit-plus
-    rem-fit-plus-2
-    sub-fit-plus-2
-    fit-plus-requires-2
+    sub-fit-difference
+    add-fit-difference
+    rem-fit-difference
+    fit-difference-requires
     enum-known-y-4
     add-fit-negated-3
     add-fit-negated-4
