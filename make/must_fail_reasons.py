@@ -6,9 +6,10 @@
 `rt ci` shows that each is refused. An edit that only makes its proof file unfit
 for the code is refused too, and shows nothing: then the first error is about
 a name or about the order of the needs, and not about a fact. docs/PROOFS.md has
-examples. Run from the repository's root, after `rt ci`; exit status 1 if an edit
-has no log, or was refused for one of these two reasons. That what remains is a fact
-that fails is not shown here: whoever adds an edit reads its log.
+examples. The first line of an edit has to say what its wrong program does, in
+a sentence. Run from the repository's root, after `rt ci`; exit status 1 if an edit
+has no such line or no log, or was refused for one of these two reasons. That what
+remains is a fact that fails is not shown here: whoever adds an edit reads its log.
 """
 
 import re
@@ -20,6 +21,15 @@ NO_FACT = [
     (re.compile(r"expected type `[\w·.-]*\b(?:Need-|After-|Else)|"
                 r"`[\w·.-]*\b(?:Need-|After-|Else)[\w-]*` \(expected\)"), "the needs moved"),
 ]
+
+# What the lines of an edit begin with that are no comment.
+WORDS = ("file:", "old:", "new:")
+
+
+def says_what_is_wrong(edit):
+    """Whether the first line is a sentence, and not yet a part of the edit."""
+    lines = edit.read_text(encoding="utf-8").split("\n")
+    return not lines[0].startswith(WORDS) and lines[0].endswith(".")
 
 
 def first_error(log):
@@ -33,7 +43,9 @@ def first_error(log):
 
 
 def fault_of(edit, target):
-    """What is wrong with the refusal of an edit; None if neither reason is found."""
+    """What is wrong with an edit or its refusal; None if nothing is found."""
+    if not says_what_is_wrong(edit):
+        return "its first line is no sentence that says what the wrong program does"
     crate = edit.parent.parent.name
     log = target / "must-fail" / crate / edit.stem / ".log"
     if not log.is_file():
@@ -57,7 +69,7 @@ def main():
         if fault is not None:
             wrong += 1
             print(f"{edit}: {fault}")
-    print(f"must-fail edits: {len(edits)}, {wrong} of them refused for no fact or not tried")
+    print(f"must-fail edits: {len(edits)}, {wrong} of them without a sentence, refused for no fact or not tried")
     sys.exit(1 if wrong or not edits else 0)
 
 
