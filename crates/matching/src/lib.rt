@@ -21,7 +21,7 @@ ghost use mathlib.Core.Bool.{true};
 ghost use mathlib.Core.List.{[], _∷_};
 ghost use Prim.Native.Nat.{suc, _<_, _≤_, max};
 ghost use lib.Dec.{eqb};
-ghost use lib.ListN.{length, drop};
+ghost use lib.ListN.{length, getD, drop};
 ghost use Rattle.definitions.specs.Lists.{anyBelow};
 ghost use Rattle.definitions.specs.Graph.{slotCount, graphOf, slotOf, inputsOf};
 ghost use Rattle.definitions.specs.Rule.{sideLimit, sourceCount, ruleOf, sourceOf, sourceInputs};
@@ -159,6 +159,16 @@ fn settle(graph: &[u8], rule: &[u8], j: usize, v: usize, images: &mut [u16; SIDE
     true
 }
 
+// Whether v is the image that source vertex j has. The slots are compared, and not what they hold: two Variables alike are still two
+// vertices.
+fn is_image(images: &[u16; SIDE_LIMIT], j: usize, v: usize) -> bool
+    requires { ⌜ j < sideLimit ⌝ }
+    requires { ⌜ length (now images) ≡ sideLimit ⌝ }
+    ensures { λ r. ⌜ r ≡ eqb (getD (now (images .entry)) j 0) v ⌝ }
+{
+    widened(images[j]) == v
+}
+
 // Matches source vertex j with slot v, its inputs first. A vertex that has its image is compared, not entered again. Where it
 // succeeds, the images are those of the first `next` vertices and of all up to j.
 pub fn match_vertex(
@@ -180,7 +190,7 @@ pub fn match_vertex(
         (max next (suc j)) r (now (images .exit)) ⌝ }
 {
     if j < next {
-        return widened(images[j]) == v;
+        return is_image(images, j, v);
     }
     if !is_candidate(graph, rule, uses, demands, j, v) {
         return false;

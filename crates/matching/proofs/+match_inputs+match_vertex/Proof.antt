@@ -4,11 +4,10 @@ use mathlib.Core.Path.{_≡_, sym, _∙_}
 use mathlib.Core.Bool.{true}
 use Prim.Native.Nat.{ℕ, suc, _+_, _-_, _*_, _<_, max}
 use native.Mathlib.Omega.{arith}
-use borrow.Author.Needs.{needs}
 use borrow.Author.Tests.{not-true, not-false}
 use borrow.Fn.Kinds.{In}
 use borrow.Fn.PlainCycle.{Measures, is, falls, and}
-use lib.ListN.{length}
+use lib.ListN.{length, getD}
 use Rattle.definitions.specs.Graph.{slotCount, graphOf, inputsOf}
 use Rattle.definitions.specs.Rule.{ruleOf, sourceInputs}
 use Rattle.laws.proofs.Rule.{length-source}
@@ -26,9 +25,9 @@ use Rattle.matching.proofs.match_vertex.Kinds as match-vertex-kinds
 use Rattle.matching.proofs.+match_inputs+match_vertex.Lts-match_vertex as match-vertex-lts
 use Rattle.graph_fields.proofs.input_at.Reads as input-at-reads
 use Rattle.matching.proofs.is_candidate.Reads as is-candidate-reads
+use Rattle.matching.proofs.is_image.Reads as is-image-reads
 use Rattle.matching.proofs.settle.Reads as settle-reads
 use Rattle.fields.proofs.greater.Reads as greater-reads
-use Rattle.fields.proofs.widened.Reads as widened-reads
 use Rattle.rule_fields.proofs.source_input.Reads as source-input-reads
 use Rattle.rule_fields.proofs.source_input_count.Reads as source-input-count-reads
 use Rattle.matching.proofs.+match_inputs+match_vertex.{statement}
@@ -84,8 +83,8 @@ match-inputs-calls t = (
 
 abbrev match-vertex-calls : ℕ → match-vertex-lts.Claims
 match-vertex-calls t = (
-  widened-reads.Asked,
-  widened-reads.Learnt,
+  is-image-reads.Asked,
+  is-image-reads.Learnt,
   is-candidate-reads.Asked,
   is-candidate-reads.Learnt,
   match-inputs-below t,
@@ -248,25 +247,22 @@ next-is t e =
     in-order-here (ruleOf (s .args .rule .now)) (s .args .next) (s .args .j) (well t s .lower (s .args .j)) (s .pre .1 .1 .1 .1 .1)
     (e .if1 .left)
 
-match-vertex-mul-widened : (t : ℕ) → match-vertex-lts.Need-mul-widened (match-vertex-calls t) (match-vertex-at t) match-vertex.Post
-match-vertex-mul-widened t c = omega (arith, place t (c .before .before .before))
-
-match-vertex-element-copy-out-widened : (t : ℕ)
-    → match-vertex-lts.Need-element-copy-out-widened (match-vertex-calls t) (match-vertex-at t) match-vertex.Post
-match-vertex-element-copy-out-widened t c = place t (c .before .before .before)
-
-match-vertex-widened-requires : (t : ℕ)
-    → match-vertex-lts.Need-widened-requires (match-vertex-calls t) (match-vertex-at t) match-vertex.Post
-match-vertex-widened-requires t c κs = search needs
+match-vertex-is-image-requires : (t : ℕ)
+    → match-vertex-lts.Need-is-image-requires (match-vertex-calls t) (match-vertex-at t) match-vertex.Post
+match-vertex-is-image-requires t c κs =
+    let s = c .before .before .before .before in
+    (place t s, s .pre .1 .1 .1 .1 .0 .size)
 
 match-vertex-returns : (t : ℕ) → match-vertex-lts.Need-returns (match-vertex-calls t) (match-vertex-at t) match-vertex.Post
 match-vertex-returns t c =
     let d = c .before .before in
     let s = d .before .before .before in
     let p = s .pre .1 .1 .1 .1 .0 in
-    mapped (graphOf (s .args .graph .now)) (ruleOf (s .args .rule .now)) (s .args .next) (s .args .images .now) p
-    (s .args .j) (s .args .v) (c .widened .result)
-    (image-at (s .args .images .now) (s .args .j) (omega (arith, p .size, place t s)) ∙ sym (c .widened .ensures)) (d .if1 .taken)
+    let images = s .args .images .now in
+    let j = s .args .j in
+    rw (c .is-image .ensures)
+    (mapped (graphOf (s .args .graph .now)) (ruleOf (s .args .rule .now)) (s .args .next) images p j (s .args .v) (getD images j 0)
+    (image-at images j (omega (arith, p .size, place t s))) (d .if1 .taken))
 
 match-vertex-is-candidate-requires : (t : ℕ)
     → match-vertex-lts.Need-is-candidate-requires (match-vertex-calls t) (match-vertex-at t) match-vertex.Post
@@ -346,9 +342,7 @@ pub +match-inputs+match-vertex-spec : {M : Type 1} → statement M
     (match-vertex-calls t)
     (match-vertex-at t)
     match-vertex.Post
-    (match-vertex-mul-widened t)
-    (match-vertex-element-copy-out-widened t)
-    (match-vertex-widened-requires t)
+    (match-vertex-is-image-requires t)
     (match-vertex-returns t)
     (match-vertex-is-candidate-requires t)
     (match-vertex-returns-2 t)
