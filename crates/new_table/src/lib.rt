@@ -32,10 +32,10 @@ use writing::write_record;
 ghost use mathlib.Core.Path.{_≡_};
 ghost use mathlib.Core.Bool.{cond, not};
 ghost use mathlib.Core.List.{_++_};
-ghost use Prim.Native.Nat.{_+_, _<_};
+ghost use Prim.Native.Nat.{_+_, _*_, _<_};
 ghost use lib.ListN.{length, getD, take};
 ghost use Rattle.definitions.specs.Lists.{padded, concatMap, filter, range};
-ghost use Rattle.definitions.specs.Graph.{headerBytes, slotLimit, attributeLimit, slotCount, emptySlot, graphOf, slotOf, slotBlock, graphBlock};
+ghost use Rattle.definitions.specs.Graph.{headerBytes, slotBytes, slotLimit, attributeLimit, slotCount, emptySlot, graphOf, slotOf, slotBlock, graphBlock};
 ghost use Rattle.definitions.specs.Rule.{targetCount, ruleOutputCount, ruleOf, targetOf};
 ghost use Rattle.definitions.specs.Rewriting.{stays, targetSlot, newSlot};
 ghost use Rattle.graph_fields.specs.Layout.{ReadableGraph};
@@ -171,6 +171,35 @@ fn counted(next: usize, free: bool) -> usize
     next
 }
 
+// Writes slot k, behind the slots that are written already. Its record is made from the old table: in the new one a slot that went
+// may hold a target vertex by now.
+fn write_slot(
+    graph: &[u8],
+    rule: &[u8],
+    images: &[u16; SIDE_LIMIT],
+    places: &[u16; SIDE_LIMIT],
+    way: Redirection,
+    k: usize,
+    free: bool,
+    next: usize,
+    table: &mut [u8],
+)
+    requires { ⌜ Prepared (now graph) (now rule) (now images) (now places) ⌝ }
+    requires { ⌜ Redirects (now graph) (now rule) (now images) way ⌝ }
+    requires { ⌜ k < slotCount (now graph) ⌝ }
+    requires { ⌜ free ≡ not (stays (graphOf (now graph)) (ruleOf (now rule)) (now images) k) ⌝ }
+    requires { ⌜ next ≡ length (filter (λ i. not (stays (graphOf (now graph)) (ruleOf (now rule)) (now images) i)) (range 0 k)) ⌝ }
+    requires { ⌜ length (now table) ≡ length (now graph) ⌝ }
+    ensures { λ r. ⌜ take (headerBytes + slotBytes * (k + 1)) (now (table .exit)) ≡ take (headerBytes + slotBytes * k) (now (table .entry))
+        ++ slotBlock (newSlot (graphOf (now (graph .entry))) (ruleOf (now (rule .entry))) (now (images .entry))
+        (valuesOf (fitResults (now (graph .entry)) (now (rule .entry)) (now (images .entry)))) k) ⌝ }
+{
+    let record = new_record(graph, rule, images, places, way, k, free, next);
+    let at = HEADER_BYTES + SLOT_BYTES * k;
+    let end = at + SLOT_BYTES;
+    write_record(&mut table[at..end], record);
+}
+
 // Writes every slot; the header is left as it is.
 fn write_slots(
     graph: &[u8],
@@ -193,10 +222,7 @@ fn write_slots(
     let mut k = 0;
     while k < slots {
         let marked = free[k];
-        let record = new_record(graph, rule, images, places, way, k, marked, next);
-        let at = HEADER_BYTES + SLOT_BYTES * k;
-        let end = at + SLOT_BYTES;
-        write_record(&mut table[at..end], record);
+        write_slot(graph, rule, images, places, way, k, marked, next, table);
         next = counted(next, marked);
         k += 1;
     }
