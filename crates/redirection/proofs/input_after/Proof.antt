@@ -1,6 +1,9 @@
 -- What an input place named is redirected.
 -- Assumes nothing.
+use mathlib.Core.Path.{ap, _∙_}
+use native.Mathlib.Omega.{arith}
 use borrow.Author.Needs.{needs}
+use Rattle.redirection.specs.Moves.{moved}
 use Rattle.redirection.proofs.input_after.Statement.{statement}
 use Rattle.redirection.proofs.input_after.Tie as tie
 
@@ -14,7 +17,7 @@ redirected-requires : tie.Need-redirected-requires
 redirected-requires c κs = search needs
 
 returns : tie.Need-returns
-returns c = cc
+returns c = omega (arith, c .redirected .ensures ∙ ap (moved (c .before .before .before .args .way)) (c .before .input-at .ensures .0))
 
 pub input-after-spec : {M : Type 1} → statement M
 input-after-spec =
