@@ -14,7 +14,8 @@ namespace leafgraph::tool {
 enum class Status {
     done = 0,
     refused = 1, // by the library, or by a bound that stands for it
-    trouble = 2  // bad usage, or a file that can't be read or written
+    trouble = 2, // bad usage, or a file that can't be read or written
+    no_match = 3 // an answer, which a script may well expect
 };
 
 // Thrown where a command can't go on; main prints the lines.

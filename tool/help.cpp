@@ -19,8 +19,13 @@ usage: leafgraph COMMAND FILE... [OPTION...]
   leafgraph --version       prints the version
 
 A file '-' is standard input. Options stand before or after the files; '--' ends
-them. The exit status is 0 if all is done, 1 if the library refuses, and 2 for
-bad usage and for a file that can't be read or written.
+them.
+
+The exit status is
+  0  if all is done; for 'rewrite --all' that is: no match is left
+  1  if a block or a rewriting is refused, or the bound of --max is reached
+  2  for bad usage, a file that can't be read or written, or a dot that fails
+  3  if there is no match
 )";
 
 const char *const check = R"(usage: leafgraph check GRAPH
@@ -36,7 +41,7 @@ Says whether RULE is a sound rule block, and how much is in it.
 const char *const match = R"(usage: leafgraph match GRAPH RULE [--start S]
 
 Finds the least match of RULE in GRAPH, and prints which slot each source vertex
-of the rule matches.
+of the rule matches. If there is no match, the exit status is 3.
 
   --start S  only matches whose first output is slot S or a later one (0)
 )";
@@ -53,7 +58,9 @@ The file GRAPH is not changed, unless OUT is the same file.
   -o OUT     write the new block to OUT, '-' for standard output, and no text
   --names    print operators by name
 
-OUT is replaced whole or not at all. If anything is refused, it is not written.
+OUT is replaced whole or not at all. If anything is refused, it is not written;
+nor if there is no match, for which the exit status is 3. With --all, no match is
+what is wanted: OUT is written, and the exit status is 0.
 )";
 
 const char *const show = R"(usage: leafgraph show FILE [--names]
@@ -66,7 +73,8 @@ Prints a sound graph or rule as text. Inputs stand in [], attributes in {}.
 const char *const dot = R"(usage: leafgraph dot GRAPH [RULE [--start S]] [--svg] [-o OUT]
 
 Prints GRAPH as a drawing in the language of Graphviz. With RULE, the vertices of
-its least match are coloured.
+its least match are coloured; if there is no match, nothing is drawn and the exit
+status is 3.
 
   --start S  only matches whose first output is slot S or a later one (0)
   --svg      have Graphviz' dot, if it is installed, make an SVG file of it

@@ -18,8 +18,11 @@ std::string hint(const Input &input, const std::string &other_mark, const std::s
 } // namespace
 
 std::string refusal_line(Reply reply, const Input &graph, const Input &rule) {
-    const std::string line
-        = "refused with reply " + std::to_string(reply.number()) + ": " + reply.what();
+    const std::string number = "reply " + std::to_string(reply.number());
+    if (reply.code() == Code::no_match) {
+        return std::string(reply.what()) + " (" + number + ")";
+    }
+    const std::string line = "refused with " + number + ": " + reply.what();
     if (reply.code() == Code::bad_graph) {
         return graph.name + ": " + line + hint(graph, rule_mark, "rule");
     }
@@ -31,7 +34,9 @@ std::string refusal_line(Reply reply, const Input &graph, const Input &rule) {
 
 void want_done(Reply reply, const Input &graph, const Input &rule) {
     if (!reply.done()) {
-        throw Failure(Status::refused, {refusal_line(reply, graph, rule)});
+        const bool none = reply.code() == Code::no_match;
+        throw Failure(none ? Status::no_match : Status::refused,
+                      {refusal_line(reply, graph, rule)});
     }
 }
 

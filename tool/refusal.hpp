@@ -13,7 +13,7 @@ namespace leafgraph::tool {
 // about, where it is about one: the graph with reply 2, the rule with reply 3.
 std::string refusal_line(Reply reply, const Input &graph, const Input &rule);
 
-// Each throws a refusal unless the reply is done.
+// Each throws the refusal, or that there is no match, unless the reply is done.
 void want_done(Reply reply, const Input &graph, const Input &rule);
 void want_sound_graph(const Input &graph);
 void want_sound_rule(const Input &rule);
