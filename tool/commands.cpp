@@ -61,7 +61,7 @@ void match(const CommandLine &line) {
     const Input rule_input = read_rule_file(line.files[1]);
     const Match match = find(graph_input, rule_input, line.start);
     const Graph graph = read_graph(graph_input.bytes);
-    std::string text = "match from start " + std::to_string(line.start) + "\n";
+    std::string text;
     for (std::size_t number = 0; number < match.rule.source.size(); ++number) {
         const Pattern &vertex = match.rule.source[number];
         const Slot &slot = graph.slots.at(match.slots[number]);
@@ -78,17 +78,13 @@ void rewrite(const CommandLine &line) {
     const Input rule = read_rule_file(line.files[1]);
     const std::string report = line.all ? rewrite_all(graph, rule, line.start, line.max)
                                         : rewrite_once(graph, rule, line.start);
-    if (!line.out) {
-        print(report + "\n" + graph_listing(read_graph(graph.bytes), operators(line)));
-        return;
-    }
-    write_output(*line.out, graph.bytes);
-    if (*line.out == "-") {
-        // Standard output has the block, and nothing else.
-        say(report);
+    if (line.out) {
+        write_output(*line.out, graph.bytes);
     } else {
-        print(report + "\n");
+        print(graph_listing(read_graph(graph.bytes), operators(line)));
     }
+    // Last, so that nothing is called done whose result could not be written.
+    say(report);
 }
 
 void show(const CommandLine &line) {

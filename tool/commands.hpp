@@ -1,4 +1,5 @@
-// The commands. Each prints its result, or throws a Failure.
+// The commands. Each prints its result, or throws a Failure. Standard output gets
+// the result alone, so that it can be piped on.
 #ifndef LEAFGRAPH_TOOL_COMMANDS_HPP
 #define LEAFGRAPH_TOOL_COMMANDS_HPP
 

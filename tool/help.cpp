@@ -21,6 +21,10 @@ usage: leafgraph COMMAND FILE... [OPTION...]
 A file '-' is standard input. Options stand before or after the files; '--' ends
 them.
 
+Standard output has only what is asked for: that a block is sound, a match, a
+text, a drawing or a block. Whatever else there is to say goes to standard error:
+why something is refused, and what a rewriting did.
+
 The exit status is
   0  if all is done; for 'rewrite --all' that is: no match is left
   1  if a block or a rewriting is refused, or the bound of --max is reached
@@ -30,12 +34,14 @@ The exit status is
 
 const char *const check = R"(usage: leafgraph check GRAPH
 
-Says whether GRAPH is a sound graph block, and how much is in it.
+Prints that GRAPH is a sound graph block, and how much is in it. If it is not
+sound, that is said on standard error and the exit status is 1.
 )";
 
 const char *const check_rule = R"(usage: leafgraph check-rule RULE
 
-Says whether RULE is a sound rule block, and how much is in it.
+Prints that RULE is a sound rule block, and how much is in it. If it is not sound,
+that is said on standard error and the exit status is 1.
 )";
 
 const char *const match = R"(usage: leafgraph match GRAPH RULE [--start S]
@@ -50,7 +56,8 @@ const char *const rewrite =
     R"(usage: leafgraph rewrite GRAPH RULE [--start S] [--all [--max N]] [-o OUT | --names]
 
 Rewrites GRAPH where RULE has its least match, and prints the new graph as text.
-The file GRAPH is not changed, unless OUT is the same file.
+What was done is said on standard error. The file GRAPH is not changed, unless
+OUT is the same file.
 
   --start S  only matches whose first output is slot S or a later one (0)
   --all      rewrite again and again until no match is left
