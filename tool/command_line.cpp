@@ -35,10 +35,16 @@ const std::map<std::string, std::string> option_values = {
     {"-o", "a file"},
 };
 
-// The words after the command, told apart.
+// A command, and the words after it told apart.
 struct SortedWords {
+    const CommandForm &form;
     std::vector<std::string> files;
     std::map<std::string, std::string> options; // with their values
+
+    bool has(const std::string &option) const { return options.count(option) != 0; }
+
+    // What is wrong with the words, and that the command's own help says more.
+    Failure slip(const std::string &why) const { return bad_usage(why, form.name); }
 };
 
 const CommandForm &form_of(const std::string &name) {
@@ -47,33 +53,35 @@ const CommandForm &form_of(const std::string &name) {
             return form;
         }
     }
-    throw bad_usage(name.compare(0, 1, "-") == 0
-                        ? "a command is wanted before '" + name + "'"
-                        : "there is no command '" + name + "'");
+    throw bad_usage("there is no command '" + name + "'");
+}
+
+bool asks_for_help(const std::string &word) {
+    return word == "help" || word == "-h" || word == "--help";
 }
 
 bool has_option(const CommandForm &form, const std::string &name) {
-    return name == "--help"
+    return asks_for_help(name)
            || std::find(form.options.begin(), form.options.end(), name) != form.options.end();
 }
 
 // Takes the option at words[at] and its value, which stands behind a '=' or is
 // the next word. Returns the place of the last word that was taken.
-std::size_t take_option(const CommandForm &form, const std::vector<std::string> &words,
-                        std::size_t at, SortedWords &sorted) {
+std::size_t take_option(const std::vector<std::string> &words, std::size_t at,
+                        SortedWords &sorted) {
     const bool is_long = words[at].compare(0, 2, "--") == 0;
     const std::size_t equals = is_long ? words[at].find('=') : std::string::npos;
     const std::string name = words[at].substr(0, equals);
-    if (!has_option(form, name)) {
-        throw bad_usage(form.name + " has no option '" + name + "'");
+    if (!has_option(sorted.form, name)) {
+        throw sorted.slip(sorted.form.name + " has no option '" + name + "'");
     }
-    if (sorted.options.count(name) != 0) {
-        throw bad_usage(name + " is given twice");
+    if (sorted.has(name)) {
+        throw sorted.slip(name + " is given twice");
     }
     const auto value = option_values.find(name);
     if (value == option_values.end()) {
         if (equals != std::string::npos) {
-            throw bad_usage(name + " takes no value");
+            throw sorted.slip(name + " takes no value");
         }
         sorted.options[name] = "";
         return at;
@@ -83,14 +91,14 @@ std::size_t take_option(const CommandForm &form, const std::vector<std::string> 
         return at;
     }
     if (at + 1 == words.size()) {
-        throw bad_usage(name + " wants " + value->second);
+        throw sorted.slip(name + " wants " + value->second);
     }
     sorted.options[name] = words[at + 1];
     return at + 1;
 }
 
-SortedWords sort_words(const CommandForm &form, const std::vector<std::string> &words) {
-    SortedWords sorted;
+SortedWords sort_words(const std::vector<std::string> &words) {
+    SortedWords sorted = {form_of(words[0]), {}, {}};
     bool only_files = false;
     for (std::size_t at = 1; at < words.size(); ++at) {
         const std::string &word = words[at];
@@ -99,36 +107,37 @@ SortedWords sort_words(const CommandForm &form, const std::vector<std::string> &
         } else if (word == "--") {
             only_files = true;
         } else {
-            at = take_option(form, words, at, sorted);
+            at = take_option(words, at, sorted);
         }
     }
     return sorted;
 }
 
-void check_files(const CommandForm &form, const std::vector<std::string> &files) {
+void check_files(const SortedWords &sorted) {
+    const CommandForm &form = sorted.form;
+    const std::vector<std::string> &files = sorted.files;
     if (files.size() < form.least_files) {
-        throw bad_usage(form.name + " wants a " + form.files[files.size()]);
+        throw sorted.slip(form.name + " wants a " + form.files[files.size()]);
     }
     if (files.size() > form.files.size()) {
-        throw bad_usage(form.name + " wants no file after " + form.files.back() + ", but '"
-                        + files[form.files.size()] + "' is given");
+        throw sorted.slip(form.name + " wants no file after " + form.files.back() + ", but '"
+                          + files[form.files.size()] + "' is given");
     }
     if (std::count(files.begin(), files.end(), "-") > 1) {
-        throw bad_usage("only one of GRAPH and RULE can be standard input");
+        throw sorted.slip("only one of GRAPH and RULE can be standard input");
     }
 }
 
 // An option that would do nothing is a slip: better told than passed over.
-void check_options(Command command, const SortedWords &sorted) {
-    const auto given = [&](const char *name) { return sorted.options.count(name) != 0; };
-    if (given("--max") && !given("--all")) {
-        throw bad_usage("--max is only for --all");
+void check_options(const SortedWords &sorted) {
+    if (sorted.has("--max") && !sorted.has("--all")) {
+        throw sorted.slip("--max is only for --all");
     }
-    if (given("--names") && given("-o")) {
-        throw bad_usage("--names is for the listing, and with -o there is none");
+    if (sorted.has("--names") && sorted.has("-o")) {
+        throw sorted.slip("--names is for the listing, and with -o there is none");
     }
-    if (command == Command::dot && given("--start") && sorted.files.size() < 2) {
-        throw bad_usage("--start is only for a RULE");
+    if (sorted.has("--start") && sorted.files.size() < 2) {
+        throw sorted.slip("--start is only for a RULE");
     }
 }
 
@@ -142,15 +151,15 @@ std::size_t number(const SortedWords &sorted, const std::string &option, std::si
     const auto [end, error] = std::from_chars(text.data(), text.data() + text.size(), result);
     if (error != std::errc() || end != text.data() + text.size()) {
         const std::size_t most = std::numeric_limits<std::size_t>::max();
-        throw bad_usage(option + " wants a decimal number from 0 to " + std::to_string(most)
-                        + ", not '" + text + "'");
+        throw sorted.slip(option + " wants a decimal number from 0 to " + std::to_string(most)
+                          + ", not '" + text + "'");
     }
     return result;
 }
 
-CommandLine make_line(Command command, const SortedWords &sorted) {
+CommandLine make_line(const SortedWords &sorted) {
     CommandLine line = {};
-    line.command = command;
+    line.command = sorted.form.command;
     line.files = sorted.files;
     line.start = number(sorted, "--start", line.start);
     line.max = number(sorted, "--max", line.max);
@@ -158,10 +167,38 @@ CommandLine make_line(Command command, const SortedWords &sorted) {
     if (out != sorted.options.end()) {
         line.out = out->second;
     }
-    line.all = sorted.options.count("--all") != 0;
-    line.names = sorted.options.count("--names") != 0;
-    line.svg = sorted.options.count("--svg") != 0;
+    line.all = sorted.has("--all");
+    line.names = sorted.has("--names");
+    line.svg = sorted.has("--svg");
     return line;
+}
+
+// 'help', and 'help COMMAND'.
+Request read_help(const std::vector<std::string> &words) {
+    if (words.size() > 2) {
+        throw bad_usage(words[0] + " wants one COMMAND at most, but '" + words[2] + "' is given");
+    }
+    if (words.size() == 1 || asks_for_help(words[1])) {
+        return {Request::Wish::help, {}, {}};
+    }
+    return {Request::Wish::help, {}, form_of(words[1]).command};
+}
+
+Request read_version(const std::vector<std::string> &words) {
+    if (words.size() > 1) {
+        throw bad_usage("nothing can stand after " + words[0]);
+    }
+    return {Request::Wish::version, {}, {}};
+}
+
+Request read_command(const std::vector<std::string> &words) {
+    const SortedWords sorted = sort_words(words);
+    if (sorted.has("-h") || sorted.has("--help")) {
+        return {Request::Wish::help, {}, sorted.form.command};
+    }
+    check_files(sorted);
+    check_options(sorted);
+    return {Request::Wish::run, make_line(sorted), {}};
 }
 
 } // namespace
@@ -170,21 +207,17 @@ Request read_command_line(const std::vector<std::string> &words) {
     if (words.empty()) {
         throw bad_usage("a command is wanted");
     }
-    if (words[0] == "--help" || words[0] == "--version") {
-        if (words.size() > 1) {
-            throw bad_usage("nothing can stand after " + words[0]);
-        }
-        const bool help = words[0] == "--help";
-        return {help ? Request::Wish::help : Request::Wish::version, {}, {}};
+    const std::string &first = words[0];
+    if (asks_for_help(first)) {
+        return read_help(words);
     }
-    const CommandForm &form = form_of(words[0]);
-    const SortedWords sorted = sort_words(form, words);
-    if (sorted.options.count("--help") != 0) {
-        return {Request::Wish::help, {}, form.command};
+    if (first == "-V" || first == "--version") {
+        return read_version(words);
     }
-    check_files(form, sorted.files);
-    check_options(form.command, sorted);
-    return {Request::Wish::run, make_line(form.command, sorted), {}};
+    if (first.compare(0, 1, "-") == 0) {
+        throw bad_usage("a command is wanted before '" + first + "'");
+    }
+    return read_command(words);
 }
 
 } // namespace leafgraph::tool

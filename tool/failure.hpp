@@ -33,9 +33,11 @@ private:
     std::vector<std::string> lines_; // one at least
 };
 
-// The command line makes no sense.
-inline Failure bad_usage(const std::string &why) {
-    return Failure(Status::trouble, {why, "try 'leafgraph --help'"});
+// The command line makes no sense. Where it names a command, that one's help is
+// the one to read.
+inline Failure bad_usage(const std::string &why, const std::string &command = "") {
+    const std::string program = command.empty() ? "leafgraph" : "leafgraph " + command;
+    return Failure(Status::trouble, {why, "try '" + program + " --help'"});
 }
 
 // The system didn't do something: `what` says to which file.

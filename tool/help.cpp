@@ -14,9 +14,10 @@ usage: leafgraph COMMAND FILE... [OPTION...]
   rewrite GRAPH RULE  rewrite a graph where the rule matches
   show FILE           print a graph or a rule as text
   dot GRAPH [RULE]    draw a graph, and where a rule matches it
+  help [COMMAND]      print this, or more about a command
 
-  leafgraph COMMAND --help  says more about a command
-  leafgraph --version       prints the version
+  -h, --help     the same as help; after a COMMAND, more about that one
+  -V, --version  print the version
 
 A file '-' is standard input. Options stand before or after the files; '--' ends
 them.

@@ -1,4 +1,4 @@
-// What --help prints.
+// What help prints.
 #ifndef LEAFGRAPH_TOOL_HELP_HPP
 #define LEAFGRAPH_TOOL_HELP_HPP
 

@@ -2,7 +2,7 @@
 //
 // Where to find what, in the order of a run:
 //
-//   command_line  what the user asks for        help       what --help prints
+//   command_line  what the user asks for        help       what help prints
 //   commands      what each command does        failure    what ends one early
 //   input         files that are read           output     files that are written
 //   blocks        what a sound block says       refusal    the library's refusals
