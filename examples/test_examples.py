@@ -258,8 +258,15 @@ class Tool(unittest.TestCase):
         for name in NAMES:
             expected = "".join(text + "\n" for _, text in assemble.stripped(source_of(name)))
             with self.subTest(name):
-                self.assertEqual(run("leafgraph", "show", "--names", BLOCKS / name),
-                                 (expected, 0))
+                self.assertEqual(run("leafgraph", "show", BLOCKS / name), (expected, 0))
+
+    def test_what_it_prints_assembles_to_the_block(self):
+        for name in NAMES:
+            for options in ((), ("--numbers",)):
+                said, status = run("leafgraph", "show", BLOCKS / name, *options)
+                with self.subTest(name, options=options):
+                    self.assertEqual(status, 0, said)
+                    self.assertEqual(assemble.assemble(said)[1], (BLOCKS / name).read_bytes())
 
 
 if __name__ == "__main__":

@@ -23,8 +23,8 @@ const std::vector<CommandForm> command_forms = {
     {"check-rule", Command::check_rule, {"RULE"}, 1, {}},
     {"match", Command::match, {"GRAPH", "RULE"}, 2, {"--start"}},
     {"rewrite", Command::rewrite, {"GRAPH", "RULE"}, 2,
-     {"--start", "-o", "--all", "--max", "--names"}},
-    {"show", Command::show, {"FILE"}, 1, {"--names"}},
+     {"--start", "-o", "--all", "--max", "--numbers"}},
+    {"show", Command::show, {"FILE"}, 1, {"--numbers"}},
     {"dot", Command::dot, {"GRAPH", "RULE"}, 1, {"--start", "--svg", "-o"}},
 };
 
@@ -133,8 +133,8 @@ void check_options(const SortedWords &sorted) {
     if (sorted.has("--max") && !sorted.has("--all")) {
         throw sorted.slip("--max is only for --all");
     }
-    if (sorted.has("--names") && sorted.has("-o")) {
-        throw sorted.slip("--names is for the listing, and with -o there is none");
+    if (sorted.has("--numbers") && sorted.has("-o")) {
+        throw sorted.slip("--numbers is for the listing, and with -o there is none");
     }
     if (sorted.has("--start") && sorted.files.size() < 2) {
         throw sorted.slip("--start is only for a RULE");
@@ -168,7 +168,7 @@ CommandLine make_line(const SortedWords &sorted) {
         line.out = out->second;
     }
     line.all = sorted.has("--all");
-    line.names = sorted.has("--names");
+    line.numbers = sorted.has("--numbers");
     line.svg = sorted.has("--svg");
     return line;
 }

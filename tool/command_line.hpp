@@ -20,7 +20,7 @@ struct CommandLine {
     std::size_t max = 4096;
     std::optional<std::string> out;
     bool all = false;
-    bool names = false;
+    bool numbers = false;
     bool svg = false;
 };
 

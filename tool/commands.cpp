@@ -21,7 +21,7 @@ namespace leafgraph::tool {
 namespace {
 
 Operators operators(const CommandLine &line) {
-    return line.names ? Operators::as_names : Operators::as_numbers;
+    return line.numbers ? Operators::as_numbers : Operators::as_names;
 }
 
 void check(const CommandLine &line) {

@@ -54,7 +54,7 @@ of the rule matches. If there is no match, the exit status is 3.
 )";
 
 const char *const rewrite =
-    R"(usage: leafgraph rewrite GRAPH RULE [--start S] [--all [--max N]] [-o OUT | --names]
+    R"(usage: leafgraph rewrite GRAPH RULE [--start S] [--all [--max N]] [-o OUT | --numbers]
 
 Rewrites GRAPH where RULE has its least match, and prints the new graph as text.
 What was done is said on standard error. The file GRAPH is not changed, unless
@@ -64,18 +64,18 @@ OUT is the same file.
   --all      rewrite again and again until no match is left
   --max N    with --all: refuse if there is still a match after N times (4096)
   -o OUT     write the new block to OUT, '-' for standard output, and no text
-  --names    print operators by name
+  --numbers  print operators by number and not by name
 
 OUT is replaced whole or not at all. If anything is refused, it is not written;
 nor if there is no match, for which the exit status is 3. With --all, no match is
 what is wanted: OUT is written, and the exit status is 0.
 )";
 
-const char *const show = R"(usage: leafgraph show FILE [--names]
+const char *const show = R"(usage: leafgraph show FILE [--numbers]
 
 Prints a sound graph or rule as text. Inputs stand in [], attributes in {}.
 
-  --names  print operators by name
+  --numbers  print operators by number and not by name
 )";
 
 const char *const dot = R"(usage: leafgraph dot GRAPH [RULE [--start S]] [--svg] [-o OUT]

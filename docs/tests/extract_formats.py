@@ -8,7 +8,8 @@ A fenced block of FORMATS.md says by its first line what it is:
     hex NAME           a line 'OFFSET BYTES # comment' each; becomes DIR/NAME.bin
     changes OLD NEW    a line 'OFFSET BEFORE -> AFTER # comment' each, made to the
                        hex block OLD; becomes DIR/NEW.bin
-    show NAME          what `leafgraph show` prints of it; becomes DIR/NAME.txt
+    show NAME          what `leafgraph show` prints of it; becomes DIR/NAME.txt, or
+                       with a word --numbers behind it DIR/NAME.numbers.txt
 
 Any other fenced block is passed over. Exits 1 with a message, and writes
 nothing, if an offset is not the number of bytes before it, a changed byte is
@@ -79,9 +80,10 @@ def files_of(text):
         elif words[:1] == ["changes"]:
             files[words[2] + ".bin"] = changed(words[2], files[words[1] + ".bin"], lines)
         elif words[:1] == ["show"]:
-            files[words[1] + ".txt"] = "".join(line + "\n" for line in lines).encode()
+            name = "".join(words[1:]).replace("--", ".") + ".txt"
+            files[name] = "".join(line + "\n" for line in lines).encode()
     for name in files:
-        if name.endswith(".txt") and name[:-4] + ".bin" not in files:
+        if name.endswith(".txt") and name.split(".")[0] + ".bin" not in files:
             raise Fault(f"{name[:-4]}: a text and no block")
     if not files:
         raise Fault("no block found")

@@ -38,9 +38,11 @@ def blocks_hold(tool, folder, files):
     count = 0
     for name in sorted(files):
         if name.endswith(".txt"):
-            block = folder / (name[:-4] + ".bin")
-            run(tool, "check-rule" if name.endswith("-rule.txt") else "check", block)
-            count += same(f"what show prints of {name[:-4]}", run(tool, "show", block), files[name])
+            stem, *options = name[:-4].split(".")
+            block = folder / (stem + ".bin")
+            run(tool, "check-rule" if stem.endswith("-rule") else "check", block)
+            shown = run(tool, "show", block, *("--" + option for option in options))
+            count += same(f"what show prints of {name[:-4]}", shown, files[name])
     return count
 
 
