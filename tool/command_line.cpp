@@ -6,6 +6,7 @@
 #include <map>
 
 #include "failure.hpp"
+#include "output.hpp"
 
 namespace leafgraph::tool {
 namespace {
@@ -141,6 +142,16 @@ void check_options(const SortedWords &sorted) {
     }
 }
 
+// To put a new graph in the place of the old one is often wanted; to put it in the
+// place of the rule never is.
+void check_output(const SortedWords &sorted) {
+    const auto out = sorted.options.find("-o");
+    if (out != sorted.options.end() && sorted.files.size() > 1
+        && would_replace(out->second, sorted.files[1])) {
+        throw sorted.slip("-o " + out->second + " would replace the RULE: name another file");
+    }
+}
+
 std::size_t number(const SortedWords &sorted, const std::string &option, std::size_t otherwise) {
     const auto given = sorted.options.find(option);
     if (given == sorted.options.end()) {
@@ -198,6 +209,7 @@ Request read_command(const std::vector<std::string> &words) {
     }
     check_files(sorted);
     check_options(sorted);
+    check_output(sorted);
     return {Request::Wish::run, make_line(sorted), {}};
 }
 

@@ -58,7 +58,7 @@ const char *const rewrite =
 
 Rewrites GRAPH where RULE has its least match, and prints the new graph as text.
 What was done is said on standard error. The file GRAPH is not changed, unless
-OUT is the same file.
+OUT is the same file; the file RULE can't be OUT.
 
   --start S  only matches whose first output is slot S or a later one (0)
   --all      rewrite again and again until no match is left
@@ -86,7 +86,7 @@ status is 3.
 
   --start S  only matches whose first output is slot S or a later one (0)
   --svg      have Graphviz' dot, if it is installed, make an SVG file of it
-  -o OUT     write to OUT, which is replaced whole or not at all
+  -o OUT     write to OUT, which is replaced whole or not at all; not to RULE
 )";
 
 } // namespace

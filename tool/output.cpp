@@ -133,4 +133,15 @@ void write_output(const std::string &path, Bytes bytes) {
     }
 }
 
+bool would_replace(const std::string &path, const std::string &input_path) {
+    if (path == "-") {
+        return false;
+    }
+    const fs::path input = input_path == "-" ? "/dev/stdin" : input_path;
+    // Asks for the same device and inode. Pipes and devices, which lose nothing,
+    // are never called equivalent; nor is a path that leads nowhere.
+    std::error_code no_answer;
+    return fs::equivalent(path, input, no_answer);
+}
+
 } // namespace leafgraph::tool

@@ -19,6 +19,10 @@ void say(const std::string &line) noexcept;
 // or not at all: whatever goes wrong, the old one is as it was.
 void write_output(const std::string &path, Bytes bytes);
 
+// Whether that would replace the file from which an input is read, by whatever
+// spelling or link the two are named, or by a redirection of standard input.
+bool would_replace(const std::string &path, const std::string &input_path);
+
 } // namespace leafgraph::tool
 
 #endif // LEAFGRAPH_TOOL_OUTPUT_HPP
