@@ -8,7 +8,8 @@ pictures:
 	$(PYTHON) docs/performance/plot.py
 
 docs-tests: build/readme_example build/leafgraph
-	build/readme_example examples/blocks/e1.lgt examples/blocks/relu_over_relu.lgr
+	build/readme_example examples/blocks/e1.lgt examples/blocks/relu_over_relu.lgr \
+		| diff docs/tests/readme_example.stdout -
 	$(PYTHON) docs/tests/references.py
 	$(PYTHON) docs/tests/formats.py build/leafgraph
 	$(PYTHON) docs/pictures/crates.py --check
@@ -17,5 +18,5 @@ docs-tests: build/readme_example build/leafgraph
 build/readme_example.cpp: README.md docs/tests/readme_example.py | build
 	$(PYTHON) docs/tests/readme_example.py $@
 
-build/readme_example: build/readme_example.cpp $(HEADERS) $(ARCHIVE)
-	$(CXX) -std=c++17 $(CXX_WARNINGS) $(CXXFLAGS) -Iinclude -o $@ $< $(ARCHIVE)
+build/readme_example: build/readme_example.cpp host/blocks.hpp $(HEADERS) $(ARCHIVE)
+	$(CXX) -std=c++17 $(CXX_WARNINGS) $(CXXFLAGS) -Iinclude -I. -o $@ $< $(ARCHIVE)

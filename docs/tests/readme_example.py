@@ -4,7 +4,9 @@
     readme_example.py OUT.cpp
 
 The program takes a graph and a rule file; it fails if the example does not
-rewrite the one by the other until no match is left.
+rewrite the one by the other until no match is left, or is content with a bad graph
+or with a rule that always matches again. What the example says of those is
+compared with readme_example.stdout (make/docs.mk).
 """
 
 import re
@@ -13,6 +15,15 @@ import sys
 AROUND = """
 #include <fstream>
 #include <iterator>
+
+#include "host/blocks.hpp"
+
+// A relu becomes a relu, so that there is always one more.
+static blocks::Block endless_rule() {
+    const blocks::Pattern any = {blocks::wildcard, blocks::none, {}, {}};
+    const blocks::Pattern relu = {blocks::call, blocks::relu, {0}, {}};
+    return blocks::rule({{any, relu}, {relu}, {1}, {blocks::made(0)}, {}});
+}
 
 static std::vector<unsigned char> bytes_of(const char *name) {
     std::ifstream file(name, std::ios::binary);
@@ -26,6 +37,7 @@ int main(int count, char **names) {
     if (!shorten(graph, rule) || graph == before || !leafgraph::check_graph(graph)) return 1;
     std::vector<unsigned char> bad = {1, 2, 3};
     if (shorten(bad, rule)) return 1;
+    if (shorten(graph, endless_rule()) || !leafgraph::check_graph(graph)) return 1;
     std::printf("the example of README.md: as expected\\n");
     return 0;
 }
