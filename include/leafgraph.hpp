@@ -128,9 +128,6 @@ template <class Container>
 inline constexpr bool has_writable_bytes<Container, std::enable_if_t<has_bytes<Container>>>
     = !std::is_const_v<element_of<Container>>;
 
-// Where an empty buffer is, when its owner says null. Nothing is read there.
-inline unsigned char nowhere = 0;
-
 } // namespace detail
 
 // Bytes that a call only reads. It refers to them and does not own them.
@@ -223,12 +220,15 @@ inline bool overlap(Bytes one, Bytes other) noexcept {
     return first <= second ? second - first < one.size() : first - second < other.size();
 }
 
+// The same bytes, with some address where an empty buffer has null: nothing is read
+// or written there. It is a literal's, since under g++ a variable of this header
+// would keep a plugin that includes it from being unloaded.
 inline Bytes lent(Bytes bytes) noexcept {
-    return bytes.data() == nullptr ? Bytes(&nowhere, 0) : bytes;
+    return bytes.data() == nullptr ? Bytes("", 0) : bytes;
 }
 
 inline WritableBytes lent(WritableBytes bytes) noexcept {
-    return bytes.data() == nullptr ? WritableBytes(&nowhere, 0) : bytes;
+    return bytes.data() == nullptr ? WritableBytes(const_cast<char *>(""), 0) : bytes;
 }
 
 // Why the library must not be called with these buffers; done if it may.

@@ -4,7 +4,10 @@ WRAPPER_TEST := host/test_wrapper.cpp host/blocks.hpp $(HEADERS)
 BUILD_WRAPPER_TEST = $(CXX) $(CXX_WARNINGS) $(CXXFLAGS) -Iinclude -o $@ $< $(ARCHIVE) -lpthread
 SANITIZERS := -g -fsanitize=address,undefined -fno-sanitize-recover=all
 
-.PHONY: host-tests wrapper-sanitized wrapper-valgrind
+# The compiler that plugin-symbols is about.
+GXX ?= g++
+
+.PHONY: host-tests wrapper-sanitized wrapper-valgrind plugin-symbols
 
 host-tests: build/test_header_c build/test_header_cpp build/test_stack \
 		build/test_wrapper_17 build/test_wrapper_20
@@ -15,6 +18,7 @@ host-tests: build/test_header_c build/test_header_cpp build/test_stack \
 	build/test_wrapper_20
 	$(MAKE) wrapper-sanitized
 	$(MAKE) wrapper-valgrind
+	$(MAKE) plugin-symbols
 
 build/test_header_c: host/test_header.c host/test_blocks.h include/leafgraph.h $(ARCHIVE) | build
 	$(CC) -std=c99 $(WARNINGS) $(CFLAGS) -Iinclude -o $@ $< $(ARCHIVE)
@@ -56,4 +60,21 @@ wrapper-valgrind: build/test_wrapper_17
 		valgrind -q --error-exitcode=1 build/test_wrapper_17; \
 	else \
 		echo "valgrind: not on this machine, so this test is left out"; \
+	fi
+
+# A plugin with a symbol that must be unique in the process (nm's type u) is never
+# unloaded, and g++ makes one of each variable that a header defines. Without
+# optimization, so that none is left out.
+plugin-symbols: | build
+	@if command -v nm > /dev/null && command -v $(GXX) > /dev/null; then \
+		$(GXX) -std=c++17 $(CXX_WARNINGS) -O0 -Iinclude -c -o build/plugin.o host/plugin.cpp; \
+		nm -C build/plugin.o > build/plugin.symbols; \
+		grep -q 'leafgraph::rewrite' build/plugin.symbols; \
+		if grep ' u ' build/plugin.symbols; then \
+			echo "plugin: these symbols of the wrapper keep a plugin from being unloaded"; \
+			exit 1; \
+		fi; \
+		echo "plugin: the wrapper has no symbol that keeps it from being unloaded"; \
+	else \
+		echo "plugin: nm or $(GXX) is not on this machine, so this test is left out"; \
 	fi

@@ -1,0 +1,25 @@
+// A plugin in small, which calls all functions of the wrapper: its object shows what
+// the header brings into one. make/host.mk looks at it (plugin-symbols).
+
+#include "leafgraph.hpp"
+
+#include <array>
+#include <vector>
+
+// Whether the graph is rewritten, and why or why not.
+bool rewritten(std::vector<unsigned char> &graph, const std::array<unsigned char, 80> &rule,
+               const char *&why) {
+    leafgraph::Map map;
+    leafgraph::Reply reply = leafgraph::find_match(graph, rule, 0, map);
+    if (reply && map[0] != leafgraph::Map::no_slot) {
+        reply = leafgraph::rewrite(graph, rule, 0, map);
+    }
+    why = reply.what();
+    return reply.done();
+}
+
+// Whether both are sound, where neither may be there.
+bool sound(const void *graph, std::size_t graph_size, const void *rule, std::size_t rule_size) {
+    return leafgraph::check_graph({graph, graph_size}).done()
+           && leafgraph::check_rule({rule, rule_size}).done();
+}
