@@ -75,11 +75,13 @@ tests-beside: $(ARCHIVE)
 	$(MAKE) comparison
 
 # Anew when a source is newer than the archive. Every crate below it is proved
-# first, which takes minutes; the screen gets a line for each.
+# first, which takes minutes; the screen gets a line for each. `rt staticlib` would
+# prove one crate after the other, `rt check` proves as many at once as there are
+# processors.
 $(ARCHIVE): $(shell find crates crates.txt -type f 2>/dev/null) | build
 	@echo 'proving and compiling the library; the whole log is build/staticlib.log'
-	@$(RT) staticlib leafgraph 2>&1 | tee build/staticlib.log | grep '^rt: ' \
-		|| { cat build/staticlib.log; exit 1; }
+	@{ $(RT) check leafgraph && $(RT) staticlib leafgraph; } 2>&1 | tee build/staticlib.log \
+		| $(PYTHON) make/progress.py leafgraph || { cat build/staticlib.log; exit 1; }
 
 build:
 	mkdir -p $@
