@@ -12,6 +12,7 @@ docs-tests: build/readme_example build/leafgraph
 		| diff docs/tests/readme_example.stdout -
 	$(PYTHON) docs/tests/references.py
 	$(PYTHON) docs/tests/formats.py build/leafgraph
+	$(PYTHON) docs/tests/toolchain.py $(RT)
 	$(PYTHON) docs/pictures/crates.py --check
 	$(PYTHON) docs/performance/plot.py --check
 
