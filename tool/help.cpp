@@ -54,7 +54,8 @@ of the rule matches. If there is no match, the exit status is 3.
 )";
 
 const char *const rewrite =
-    R"(usage: leafgraph rewrite GRAPH RULE [--start S] [--all [--max N]] [-o OUT | --numbers]
+    R"(usage: leafgraph rewrite GRAPH RULE [--start S] [--all [--max N]]
+                         [-o OUT | --numbers]
 
 Rewrites GRAPH where RULE has its least match, and prints the new graph as text.
 What was done is said on standard error. The file GRAPH is not changed, unless
@@ -86,7 +87,7 @@ status is 3.
 
   --start S  only matches whose first output is slot S or a later one (0)
   --svg      have Graphviz' dot, if it is installed, make an SVG file of it
-  -o OUT     write to OUT, which is replaced whole or not at all; not to RULE
+  -o OUT     write to OUT, replaced whole or not at all; it can't be RULE
 )";
 
 } // namespace
