@@ -143,12 +143,18 @@ void check_options(const SortedWords &sorted) {
 }
 
 // To put a new graph in the place of the old one is often wanted; to put it in the
-// place of the rule never is.
+// place of the rule, or a drawing in the place of either, never is.
 void check_output(const SortedWords &sorted) {
     const auto out = sorted.options.find("-o");
-    if (out != sorted.options.end() && sorted.files.size() > 1
-        && would_replace(out->second, sorted.files[1])) {
-        throw sorted.slip("-o " + out->second + " would replace the RULE: name another file");
+    if (out == sorted.options.end()) {
+        return;
+    }
+    const std::size_t first_kept = sorted.form.command == Command::rewrite ? 1 : 0;
+    for (std::size_t at = first_kept; at < sorted.files.size(); ++at) {
+        if (would_replace(out->second, sorted.files[at])) {
+            throw sorted.slip("-o " + out->second + " would replace the " + sorted.form.files[at]
+                              + ": name another file");
+        }
     }
 }
 

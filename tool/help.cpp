@@ -87,7 +87,7 @@ status is 3.
 
   --start S  only matches whose first output is slot S or a later one (0)
   --svg      have Graphviz' dot, if it is installed, make an SVG file of it
-  -o OUT     write to OUT, replaced whole or not at all; it can't be RULE
+  -o OUT     write to OUT, replaced whole or not at all; not GRAPH or RULE
 )";
 
 } // namespace
