@@ -156,7 +156,7 @@ void test_search_and_checks() {
 void test_result_of_rewriting() {
     Block graph = two_relus_graph();
     Map map;
-    expect(map[0] == 0, "a new map is zero");
+    expect(map[0] == Map::no_slot && map[15] == Map::no_slot, "a new map has no slot");
     expect(bool(leafgraph::rewrite(graph, two_relus_rule(), 0, map)), "rewritten");
     expect(graph == one_relu_graph(), "the new graph");
     expect(map[0] == 0 && map[1] == 1 && map[2] == 2, "the slots of the match");

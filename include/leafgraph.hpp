@@ -185,10 +185,14 @@ public:
     // Stands from the rule's number of source vertices on.
     static constexpr std::uint16_t no_slot = LG_NO_SLOT;
 
+    // A map in which no vertex has a slot yet.
+    Map() noexcept { bytes_.fill(no_slot % 256); }
+
     // How many numbers a map has.
     static constexpr std::size_t places() noexcept { return LG_MAP_LENGTH / 2; }
 
-    // The slot that this source vertex matches; no_slot past the last one.
+    // The slot that this source vertex matches, after a call that is done; no_slot past
+    // the last one, and everywhere before such a call.
     std::uint16_t operator[](std::size_t vertex) const noexcept {
         if (vertex >= places()) {
             return no_slot;
@@ -201,7 +205,7 @@ public:
     static constexpr std::size_t size() noexcept { return LG_MAP_LENGTH; }
 
 private:
-    std::array<std::uint8_t, LG_MAP_LENGTH> bytes_ = {};
+    std::array<std::uint8_t, LG_MAP_LENGTH> bytes_;
 };
 
 namespace detail {
@@ -221,8 +225,8 @@ inline bool overlap(Bytes one, Bytes other) noexcept {
 }
 
 // The same bytes, with some address where an empty buffer has null: nothing is read
-// or written there. It is a literal's, since under g++ a variable of this header
-// would keep a plugin that includes it from being unloaded.
+// or written there. It is a literal's, since under g++ a variable of this header whose
+// address is taken would keep a plugin that includes it from being unloaded.
 inline Bytes lent(Bytes bytes) noexcept {
     return bytes.data() == nullptr ? Bytes("", 0) : bytes;
 }
