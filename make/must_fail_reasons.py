@@ -5,11 +5,12 @@
 
 `rt ci` shows that each is refused. An edit that only makes its proof file unfit
 for the code is refused too, and shows nothing: then the first error is about
-a name or about the order of the needs, and not about a fact. docs/PROOFS.md has
-examples. The first line of an edit has to say what its wrong program does, in
-a sentence. Run from the repository's root, after `rt ci`; exit status 1 if an edit
-has no such line or no log, or was refused for one of these two reasons. That what
-remains is a fact that fails is not shown here: whoever adds an edit reads its log.
+a name, about the order of the needs or about the shape of what is known there, and
+not about a fact. docs/PROOFS.md has examples. The first line of an edit has to say
+what its wrong program does, in a sentence. Run from the repository's root, after
+`rt ci`; exit status 1 if an edit has no such line or no log, or was refused for one
+of these reasons. That what remains is a fact that fails is not shown here: whoever
+adds an edit reads its log.
 """
 
 import re
@@ -20,6 +21,7 @@ NO_FACT = [
     (re.compile(r"can be named from here|is not in scope|no `Need-"), "a name is missing"),
     (re.compile(r"expected type `[\w·.-]*\b(?:Need-|After-|Else)|"
                 r"`[\w·.-]*\b(?:Need-|After-|Else)[\w-]*` \(expected\)"), "the needs moved"),
+    (re.compile(r"has no field|this tuple has \d+ components"), "what is known moved"),
 ]
 
 # What the lines of an edit begin with that are no comment.
