@@ -1,7 +1,8 @@
 -- What to read first. The contracts say what the exported functions answer, for any bytes; crates/leafgraph/src/lib.rt cites them, and the
--- code is proved to meet them. Below each stands what follows from it alone, whatever the code: proofs/Statements has the theorems. Words
+-- code is proved to meet them. Below them stands what follows from each alone, whatever the code: proofs/Statements has the theorems. Words
 -- in quotation marks are the owner's demands and document 01. What the words used here mean stands in the crate definitions and in
--- Written and Rewritten beside this file.
+-- Written and Rewritten beside this file. Three things of demand 1 are not said by a type: no exported function has a `requires`, which
+-- lib.rt shows; and that each one ends, and touches nothing but what it is lent, is part of every proof.
 -- Assumes nothing.
 use mathlib.Core.Path.{_≡_}
 use mathlib.Core.List.{List}
@@ -22,9 +23,12 @@ use Rattle.definitions.specs.Results.{Meaning}
 use Rattle.answers.specs.Written.{imagesIn}
 use Rattle.answers.specs.Rewritten.{Due, ReadsNone, Keeps}
 
--- ==== the contracts; names with After are the lent bytes at the return, the others as they came
+-- ==== the contracts
 
--- lg_check_graph and lg_check_rule: the reply is the definition's. Both are lent their block to read only.
+-- Names with After are the lent bytes at the return, the others as they came. What is lent to read only cannot be written: the rule
+-- always, and the graph except by lg_rewrite. For such a graph lib.rt gives the bytes as they came for graphAfter.
+
+-- lg_check_graph and lg_check_rule: the reply is the definition's
 abbrev pub CheckedGraph : List ℕ → ℕ → Type 0
 CheckedGraph graph reply = reply ≡ packed (graphReply graph)
 
@@ -105,7 +109,8 @@ pub record Yields (graph rule images graphAfter : List ℕ) : Type 0 where
   pub block : graphAfter ≡ graphBlock (newGraph (graphOf graph) (ruleOf rule) images values)
   pub table : graphOf graphAfter ≡ newGraph (graphOf graph) (ruleOf rule) images values
   pub sound : SoundGraph graphAfter
-  -- "Nothing else changes": a vertex that stays and reads no replaced output keeps every byte of its record
+  -- "Nothing else changes" is said by `block`. A part of it, by bytes: a vertex that stays and reads no replaced output keeps every byte
+  -- of its record.
   pub records : (k : ℕ) → T (stays (graphOf graph) (ruleOf rule) images k) → ReadsNone (graphOf graph) (ruleOf rule) images k
       → (i : ℕ) → i < slotBytes → byteAt graphAfter (recordAt k + i) ≡ byteAt graph (recordAt k + i)
 

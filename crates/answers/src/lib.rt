@@ -1,2 +1,2 @@
-// What the replies of the operations mean, in proofs/: theorems from the operations' contracts alone.
-// There is no code here.
+// The contracts of the exported operations, and what their replies mean, in specs/: Statements has both. That the meaning follows from
+// the contracts alone is proved in proofs/. There is no code here.

@@ -186,8 +186,8 @@ graphReply block = judged badGraph (graphFaults block)
 -- ---- a sound graph; it is proved that the reply is done exactly for these
 
 -- The first two parts are the tests above, which say by bytes what the paper says of the header and of a record. The other three are the
--- paper's sentences and no tests: "Each input and each output names a slot that isn't Empty. No vertex has a path of one or more edges
--- to itself." What the code computes for these is proved to be the same.
+-- paper's sentences and no tests: "Each input and each output names a slot that isn't Empty." and "No vertex has a path of one or more
+-- edges to itself." What the code computes for these is proved to be the same.
 pub record SoundGraph (block : List ℕ) : Type 0 where
   pub header : headerFits block ≡ true
   pub records : (k : ℕ) → k < slotCount block → recordFits block (recordAt k) ≡ true

@@ -33,7 +33,8 @@ module _ {ℓ} {R : Type ℓ} (m : Meaning R) where
       cond (eqb (slotOf g v .kind) kindVariable) (m .variable v)
       (m .function (slotOf g v .kind) (slotOf g v .operator) (slotOf g v .attributes) (map results (inputsOf g v)))
 
-  -- `results` are the results of the table's vertices. On an acyclic table there are some, and no two differ on a vertex.
+  -- `results` are the results of the table's vertices. On an acyclic table whose inputs name vertices there are some, and no two
+  -- differ on a vertex.
   abbrev pub AreResults : Graph → (ℕ → R) → Type ℓ
   AreResults g results = (v : ℕ) → T (isVertex g v) → results v ≡ resultAt g results v
 

@@ -28,7 +28,7 @@ use Rattle.redirection.specs.declared.Redirection.{Redirection}
 use Rattle.redirection.specs.Moves.{resolveIn, moved}
 use Rattle.redirection.proofs.Laws.{inputs-same}
 use Rattle.new_table.specs.Slots.{movedSlot, valuesOf, fitResults, Prepared, Redirects}
-use Rattle.new_table.proofs.Sizes.{known-values}
+use Rattle.new_table.proofs.Values.{known-values}
 
 -- ---- the results of target vertex t
 
