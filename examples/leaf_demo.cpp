@@ -238,7 +238,7 @@ void show_fault(const Pipeline &after, Expectations &expectations) {
 void show_proof() {
     std::printf("What is shown here on one photograph is proved for every graph, rule and start, "
                 "whatever the\noperators mean, where the rule itself keeps its outputs' results: "
-                "demand-3 in\ncrates/answers/proofs/Demands.antt, which `make test` checks.\n");
+                "Demand3 in\ncrates/answers/specs/Statements.antt.\n");
 }
 
 bool demonstrated(const std::string &folder) {
