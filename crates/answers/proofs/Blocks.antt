@@ -15,7 +15,7 @@ use Rattle.definitions.specs.declared.Reply.{Reply}
 use Rattle.definitions.specs.declared.Reply.the-variants.{Done, Refused}
 use Rattle.definitions.specs.Reply.{badMapLength, badGraph, badRule, noMatch, noPlace, refusal, refused, packed, firstRefusal}
 use Rattle.definitions.specs.Graph.{graphFaults, graphReply, SoundGraph}
-use Rattle.definitions.specs.Rule.{ruleFaults, ruleReply, SoundRule}
+use Rattle.definitions.specs.Rule.{sideLimit, ruleFaults, ruleReply, SoundRule}
 use Rattle.definitions.specs.Operations.{Outcome, Returned, outcome, atReturn, returned, mapBytes, mapReply, blocksReply}
 use Rattle.laws.proofs.Lists.{decided}
 use Rattle.laws.proofs.Reply.{packed-refused, done-or-refused, judged-either, first-done, first-refused}
@@ -43,7 +43,7 @@ graph-either block = judged-either badGraph (graphFaults block)
 
 rule-either : (block : List ℕ) → (ruleReply block ≡ Done) ⊎ (ruleReply block ≡ refused badRule)
 unfolding ruleReply
-rule-either block = judged-either badRule (ruleFaults block)
+rule-either block = judged-either badRule (ruleFaults sideLimit block)
 
 module _ (block : List ℕ) where
   graph-bad : (SoundGraph block → ⊥) → graphReply block ≡ refused badGraph

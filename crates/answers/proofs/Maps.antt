@@ -11,7 +11,7 @@ use Rattle.definitions.specs.Fields.{u16At, u16Bytes}
 use Rattle.definitions.specs.Graph.{unusedPlace, graphOf, SoundGraph}
 use Rattle.definitions.specs.Rule.{sideLimit, sourceCount, ruleOf, SoundRule}
 use Rattle.definitions.specs.Match.{imageOf, Match, leastMatch}
-use Rattle.definitions.specs.Operations.{mapBytes, mapBlock}
+use Rattle.definitions.specs.Operations.{mapPlaces, mapBytes, mapBlock}
 use Rattle.laws.proofs.Lists.{length-tabulate, getD-tabulate}
 use Rattle.laws.proofs.Graph.{length-slots, few-slots}
 use Rattle.laws.proofs.Rule.{length-source, few-sources}
@@ -37,19 +37,19 @@ module _ (map : List ℕ) (n : ℕ) where
 
 -- ---- the map block of images that two bytes hold
 
-module _ (found : List ℕ) (fits : length found ≤ sideLimit) where
+module _ (found : List ℕ) (fits : length found ≤ mapPlaces) where
   map-length : length (mapBlock found) ≡ mapBytes
   unfolding mapBlock
-  map-length = length-places u16Bytes 2 sideLimit unusedPlace found length-u16 fits
+  map-length = length-places u16Bytes 2 mapPlaces unusedPlace found length-u16 fits
 
-  map-at : (j : ℕ) → j < sideLimit → imageOf found j < 65536 → u16At (mapBlock found) (2 * j) ≡ imageOf found j
+  map-at : (j : ℕ) → j < mapPlaces → imageOf found j < 65536 → u16At (mapBlock found) (2 * j) ≡ imageOf found j
   unfolding mapBlock imageOf
   map-at j l s =
       u16-back (mapBlock found) (2 * j) (imageOf found j)
-      (λ i. place-at u16Bytes 2 sideLimit unusedPlace found length-u16 fits j i l) s
+      (λ i. place-at u16Bytes 2 mapPlaces unusedPlace found length-u16 fits j i l) s
 
   -- past the images stands 65535
-  map-rest : (j : ℕ) → length found ≤ j → j < sideLimit → u16At (mapBlock found) (2 * j) ≡ unusedPlace
+  map-rest : (j : ℕ) → length found ≤ j → j < mapPlaces → u16At (mapBlock found) (2 * j) ≡ unusedPlace
   unfolding imageOf
   map-rest j past l =
       let none : imageOf found j ≡ unusedPlace = List·getD-eq-default found unusedPlace past in
@@ -74,8 +74,8 @@ module _ (graph rule : List ℕ) (start : ℕ) (images : List ℕ) (sound : Soun
   least-length : length images ≡ sourceCount rule
   least-length = least-is .size ∙ length-source rule
 
-  least-fits : length images ≤ sideLimit
-  least-fits = omega (arith, least-length, few-sources rule (soundRule .header))
+  least-fits : length images ≤ mapPlaces
+  least-fits = omega (arith, least-length, few-sources rule sideLimit (soundRule .header))
 
   -- an image is a slot, so below the slot count, which is at most 512
   least-small : (j : ℕ) → j < length images → imageOf images j < 65536
@@ -99,7 +99,7 @@ module _ (graph rule : List ℕ) (start : ℕ) (images : List ℕ) (sound : Soun
         least ∙ ap some (sym back)
 
     -- the others are 65535
-    least-rest : (j : ℕ) → sourceCount rule ≤ j → j < sideLimit → u16At after (2 * j) ≡ unusedPlace
+    least-rest : (j : ℕ) → sourceCount rule ≤ j → j < mapPlaces → u16At after (2 * j) ≡ unusedPlace
     least-rest j past l =
         ap (λ (m : List ℕ). u16At m (2 * j)) written ∙ map-rest images least-fits j (omega (arith, least-length)) l
 

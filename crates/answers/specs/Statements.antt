@@ -15,10 +15,10 @@ use lib.ListN.{length}
 use Rattle.definitions.specs.Fields.{Bytes, byteAt, u16At}
 use Rattle.definitions.specs.Reply.{badMapLength, badGraph, badRule, noMatch, newCycle, packed}
 use Rattle.definitions.specs.Graph.{unusedPlace, slotBytes, recordAt, Graph, graphOf, graphBlock, graphReply, SoundGraph}
-use Rattle.definitions.specs.Rule.{sideLimit, sourceCount, Rule, ruleOf, ruleReply, SoundRule}
+use Rattle.definitions.specs.Rule.{sourceCount, Rule, ruleOf, ruleReply, SoundRule}
 use Rattle.definitions.specs.Match.{readAttribute, MatchFrom, LeastFrom}
 use Rattle.definitions.specs.Rewriting.{targetResults, stays, newGraph}
-use Rattle.definitions.specs.Operations.{atReturn, returned, mapBytes, findMatch, rewrite}
+use Rattle.definitions.specs.Operations.{atReturn, returned, mapPlaces, mapBytes, findMatch, rewrite}
 use Rattle.definitions.specs.Results.{Meaning}
 use Rattle.answers.specs.Written.{imagesIn}
 use Rattle.answers.specs.Rewritten.{Due, ReadsNone, Keeps}
@@ -83,7 +83,7 @@ pub record BlockReplies (graph rule map : List ℕ) (reply : ℕ) : Type 0 where
 pub record WritesLeast (graph rule : List ℕ) (start : ℕ) (mapAfter : List ℕ) : Type 0 where
   -- "The least match is taken."
   pub least : LeastFrom (graphOf graph) (ruleOf rule) start (imagesIn mapAfter (sourceCount rule))
-  pub rest : (j : ℕ) → sourceCount rule ≤ j → j < sideLimit → u16At mapAfter (2 * j) ≡ unusedPlace
+  pub rest : (j : ℕ) → sourceCount rule ≤ j → j < mapPlaces → u16At mapAfter (2 * j) ≡ unusedPlace
   pub size : length mapAfter ≡ mapBytes
 
 -- follows from Searched

@@ -4,7 +4,7 @@ use definitions::FORM_ADD;
 use definitions::FORM_ANY;
 use definitions::FORM_CONSTANT;
 use definitions::NODE_LIMIT;
-use definitions::SIDE_LIMIT;
+use definitions::SIDE_CAPACITY;
 use fields::widened;
 use graph_fields::attribute_at;
 use graph_fields::attribute_count;
@@ -25,7 +25,7 @@ ghost use Prim.Native.Nat.{_<_, _≤_};
 ghost use lib.ListN.{length, getD};
 ghost use Rattle.definitions.specs.Fields.{signed};
 ghost use Rattle.definitions.specs.Graph.{slotCount, graphOf, slotOf};
-ghost use Rattle.definitions.specs.Rule.{sideLimit, sourceCount, targetCount, nodeCount, formAdd, nodeForm, anything, ruleOf, sourceOf, targetOf};
+ghost use Rattle.definitions.specs.Rule.{sideCapacity, sourceCount, targetCount, nodeCount, formAdd, nodeForm, anything, ruleOf, sourceOf, targetOf};
 ghost use Rattle.definitions.specs.Attributes.{result, agrees};
 ghost use Rattle.definitions.specs.Match.{readAttribute};
 ghost use Rattle.numbers.specs.Value.{valueOf, bounded};
@@ -37,10 +37,10 @@ ghost use Rattle.attributes.specs.Memo.{nodeResult, stateOf, magnitudeOf
 // ---- results
 
 // Attribute place b, counted from 1, of the image of source vertex v; past the image's last there is none.
-fn read_attribute(graph: &[u8], images: &[u16; SIDE_LIMIT], v: usize, b: usize) -> Value
+fn read_attribute(graph: &[u8], images: &[u16; SIDE_CAPACITY], v: usize, b: usize) -> Value
     requires { ⌜ ReadableGraph (now graph) ⌝ }
-    requires { ⌜ length (now images) ≡ sideLimit ⌝ }
-    requires { ⌜ v < sideLimit ⌝ }
+    requires { ⌜ length (now images) ≡ sideCapacity ⌝ }
+    requires { ⌜ v < sideCapacity ⌝ }
     ensures { λ r. ⌜ valueOf r ≡ readAttribute (graphOf (now (graph .entry))) (now (images .entry)) v b ⌝ }
 {
     let image = widened(images[v]);
@@ -57,11 +57,11 @@ fn read_attribute(graph: &[u8], images: &[u16; SIDE_LIMIT], v: usize, b: usize) 
 }
 
 // What node k gives where it is no operation.
-fn leaf_value(graph: &[u8], rule: &[u8], images: &[u16; SIDE_LIMIT], k: usize) -> Value
+fn leaf_value(graph: &[u8], rule: &[u8], images: &[u16; SIDE_CAPACITY], k: usize) -> Value
     requires { ⌜ ReadableGraph (now graph) ⌝ }
     requires { ⌜ WholeRule (now rule) ⌝ }
     requires { ⌜ Evaluable (now rule) ⌝ }
-    requires { ⌜ length (now images) ≡ sideLimit ⌝ }
+    requires { ⌜ length (now images) ≡ sideCapacity ⌝ }
     requires { ⌜ k < nodeCount (now rule) ⌝ }
     requires { ⌜ nodeForm (now rule) k < formAdd ⌝ }
     ensures { λ r. ⌜ valueOf r ≡ nodeResult (now (graph .entry)) (now (rule .entry)) (now (images .entry)) k ⌝ }
@@ -120,7 +120,7 @@ fn magnitude_of(value: Value) -> u64
 fn node_value(
     graph: &[u8],
     rule: &[u8],
-    images: &[u16; SIDE_LIMIT],
+    images: &[u16; SIDE_CAPACITY],
     k: usize,
     states: &mut [u8; NODE_LIMIT],
     magnitudes: &mut [u64; NODE_LIMIT],
@@ -128,7 +128,7 @@ fn node_value(
     requires { ⌜ ReadableGraph (now graph) ⌝ }
     requires { ⌜ WholeRule (now rule) ⌝ }
     requires { ⌜ Evaluable (now rule) ⌝ }
-    requires { ⌜ length (now images) ≡ sideLimit ⌝ }
+    requires { ⌜ length (now images) ≡ sideCapacity ⌝ }
     requires { ⌜ k < nodeCount (now rule) ⌝ }
     requires { ⌜ Memo (now graph) (now rule) (now images) (now states) (now magnitudes) ⌝ }
     ensures { λ r. ⌜ valueOf r ≡ nodeResult (now (graph .entry)) (now (rule .entry)) (now (images .entry)) k ⌝ }
@@ -155,11 +155,11 @@ fn node_value(
 }
 
 // What node k gives where it is an operation: nothing is known before.
-fn operation_value(graph: &[u8], rule: &[u8], images: &[u16; SIDE_LIMIT], k: usize) -> Value
+fn operation_value(graph: &[u8], rule: &[u8], images: &[u16; SIDE_CAPACITY], k: usize) -> Value
     requires { ⌜ ReadableGraph (now graph) ⌝ }
     requires { ⌜ WholeRule (now rule) ⌝ }
     requires { ⌜ Evaluable (now rule) ⌝ }
-    requires { ⌜ length (now images) ≡ sideLimit ⌝ }
+    requires { ⌜ length (now images) ≡ sideCapacity ⌝ }
     requires { ⌜ k < nodeCount (now rule) ⌝ }
     ensures { λ r. ⌜ valueOf r ≡ nodeResult (now (graph .entry)) (now (rule .entry)) (now (images .entry)) k ⌝ }
 {
@@ -174,7 +174,7 @@ fn operation_value(graph: &[u8], rule: &[u8], images: &[u16; SIDE_LIMIT], k: usi
 fn attribute_agrees(
     graph: &[u8],
     rule: &[u8],
-    images: &[u16; SIDE_LIMIT],
+    images: &[u16; SIDE_CAPACITY],
     j: usize,
     i: usize,
     v: usize,
@@ -182,7 +182,7 @@ fn attribute_agrees(
     requires { ⌜ ReadableGraph (now graph) ⌝ }
     requires { ⌜ ReadableRule (now rule) ⌝ }
     requires { ⌜ Evaluable (now rule) ⌝ }
-    requires { ⌜ length (now images) ≡ sideLimit ⌝ }
+    requires { ⌜ length (now images) ≡ sideCapacity ⌝ }
     requires { ⌜ j < sourceCount (now rule) ⌝ }
     requires { ⌜ i < length (sourceOf (ruleOf (now rule)) j .attributes) ⌝ }
     requires { ⌜ v < slotCount (now graph) ⌝ }
@@ -207,14 +207,14 @@ fn attribute_agrees(
 pub fn attributes_agree(
     graph: &[u8],
     rule: &[u8],
-    images: &[u16; SIDE_LIMIT],
+    images: &[u16; SIDE_CAPACITY],
     j: usize,
     v: usize,
 ) -> bool
     requires { ⌜ ReadableGraph (now graph) ⌝ }
     requires { ⌜ ReadableRule (now rule) ⌝ }
     requires { ⌜ Evaluable (now rule) ⌝ }
-    requires { ⌜ length (now images) ≡ sideLimit ⌝ }
+    requires { ⌜ length (now images) ≡ sideCapacity ⌝ }
     requires { ⌜ j < sourceCount (now rule) ⌝ }
     requires { ⌜ v < slotCount (now graph) ⌝ }
     requires { ⌜ length (sourceOf (ruleOf (now rule)) j .attributes) ≤ length (slotOf (graphOf (now graph)) v .attributes) ⌝ }
@@ -236,14 +236,14 @@ pub fn attributes_agree(
 pub fn target_value(
     graph: &[u8],
     rule: &[u8],
-    images: &[u16; SIDE_LIMIT],
+    images: &[u16; SIDE_CAPACITY],
     t: usize,
     i: usize,
 ) -> Value
     requires { ⌜ ReadableGraph (now graph) ⌝ }
     requires { ⌜ ReadableRule (now rule) ⌝ }
     requires { ⌜ Evaluable (now rule) ⌝ }
-    requires { ⌜ length (now images) ≡ sideLimit ⌝ }
+    requires { ⌜ length (now images) ≡ sideCapacity ⌝ }
     requires { ⌜ t < targetCount (now rule) ⌝ }
     requires { ⌜ i < length (targetOf (ruleOf (now rule)) t .attributes) ⌝ }
     ensures { λ r. ⌜ valueOf r ≡ result (readAttribute (graphOf (now (graph .entry))) (now (images .entry)))

@@ -15,9 +15,9 @@ use Rattle.definitions.specs.Lists.{padded, concatMap}
 use Rattle.definitions.specs.Fields.{u16Bytes}
 use Rattle.definitions.specs.Reply.{badMapLength, refused}
 use Rattle.definitions.specs.Graph.{unusedPlace, graphReply, SoundGraph}
-use Rattle.definitions.specs.Rule.{sideLimit, ruleReply, SoundRule}
+use Rattle.definitions.specs.Rule.{ruleReply, SoundRule}
 use Rattle.definitions.specs.Match.{imageOf}
-use Rattle.definitions.specs.Operations.{mapBytes, mapBlock, mapReply, blocksReply}
+use Rattle.definitions.specs.Operations.{mapPlaces, mapBytes, mapBlock, mapReply, blocksReply}
 use Rattle.laws.proofs.Lists.{decided}
 use Rattle.laws.proofs.Padded.{length-padded, padded-at, taken-at}
 use Rattle.laws.proofs.Reply.{done-or-refused, first-all}
@@ -27,15 +27,15 @@ use Rattle.rule_check.proofs.Sound as RuleSound
 -- ---- the map of the images that a search found
 
 -- a list that holds 65535 from n on is its first n elements, filled up
-filled-up : (n : ℕ) (images : List ℕ) → length images ≡ sideLimit → n ≤ sideLimit
-    → ((i : ℕ) → n ≤ i → imageOf images i ≡ unusedPlace) → padded sideLimit unusedPlace (take n images) ≡ images
+filled-up : (n : ℕ) (images : List ℕ) → length images ≡ mapPlaces → n ≤ mapPlaces
+    → ((i : ℕ) → n ≤ i → imageOf images i ≡ unusedPlace) → padded mapPlaces unusedPlace (take n images) ≡ images
 unfolding imageOf
 filled-up n images size small rest =
-    ext-getD unusedPlace (padded sideLimit unusedPlace (take n images)) images
-    (length-padded unusedPlace sideLimit (take n images) (omega (arith, length-take n images)) ∙ sym size)
-    (λ i l. padded-at unusedPlace sideLimit (take n images) i ∙ taken-at unusedPlace n images (omega arith) rest i)
+    ext-getD unusedPlace (padded mapPlaces unusedPlace (take n images)) images
+    (length-padded unusedPlace mapPlaces (take n images) (omega (arith, length-take n images)) ∙ sym size)
+    (λ i l. padded-at unusedPlace mapPlaces (take n images) i ∙ taken-at unusedPlace n images (omega arith) rest i)
 
-pub map-bytes : (n : ℕ) (images : List ℕ) → length images ≡ sideLimit → n ≤ sideLimit
+pub map-bytes : (n : ℕ) (images : List ℕ) → length images ≡ mapPlaces → n ≤ mapPlaces
     → ((i : ℕ) → n ≤ i → imageOf images i ≡ unusedPlace) → concatMap u16Bytes images ≡ mapBlock (take n images)
 unfolding mapBlock
 map-bytes n images size small rest = sym (ap (concatMap u16Bytes) (filled-up n images size small rest))

@@ -3,7 +3,7 @@
 use mathlib.Core.Bool.{cond}
 use mathlib.Core.List.{List, [], _∷_}
 use mathlib.Core.Option.{none, some}
-use Prim.Native.Nat.{ℕ}
+use Prim.Native.Nat.{ℕ, _*_}
 use lib.Dec.{eqb}
 use lib.IntN.{ℤ}
 use lib.ListN.{length}
@@ -14,7 +14,7 @@ use Rattle.definitions.specs.Lists.{padded, concatMap}
 use Rattle.definitions.specs.Fields.{u16Bytes}
 use Rattle.definitions.specs.Reply.{badMapLength, noMatch, noResult, noRoom, newCycle, refusal, refused, packed, firstRefusal}
 use Rattle.definitions.specs.Graph.{unusedPlace, Graph, graphOf, graphBlock, graphReply, hasCycle}
-use Rattle.definitions.specs.Rule.{sideLimit, Rule, ruleOf, ruleReply}
+use Rattle.definitions.specs.Rule.{Rule, ruleOf, ruleReply}
 use Rattle.definitions.specs.Match.{readAttribute, leastMatch}
 use Rattle.definitions.specs.Rewriting.{targetResults, hasRoom, newGraph}
 
@@ -40,11 +40,14 @@ unfoldable pub returned : Outcome → Returned
 returned o = atReturn (packed (o .reply)) (o .graph) (o .map)
 
 -- a map block holds sixteen 16-bit numbers: the images, and 65535 from S on
+abbrev pub mapPlaces : ℕ
+mapPlaces = 16
+
 abbrev pub mapBytes : ℕ
-mapBytes = 32
+mapBytes = 2 * mapPlaces
 
 unfoldable pub mapBlock : List ℕ → List ℕ
-mapBlock images = concatMap u16Bytes (padded sideLimit unusedPlace images)
+mapBlock images = concatMap u16Bytes (padded mapPlaces unusedPlace images)
 
 unfoldable pub mapReply : List ℕ → Reply
 mapReply map = cond (eqb (length map) mapBytes) Done (refused badMapLength)

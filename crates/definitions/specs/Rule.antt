@@ -27,9 +27,21 @@ patternBytes = 16
 abbrev pub nodeBytes : ℕ
 nodeBytes = 8
 
--- at most so many source vertices, and so many target vertices; a target place at or above it names a target vertex
+-- a rule block has at most so many source vertices, and so many target vertices
 abbrev pub sideLimit : ℕ
 sideLimit = 16
+
+-- a target place below this names the rule input with that number; from here on it names target vertices, this one the first
+abbrev pub targetBase : ℕ
+targetBase = 16
+
+-- the code has space for so many vertices a side; no paper names it, and sideLimit is no more
+abbrev pub sideCapacity : ℕ
+sideCapacity = 16
+
+-- the numbers that a place of a rule may hold: it is a byte
+abbrev pub placeNumbers : ℕ
+placeNumbers = 256
 
 abbrev pub ruleOutputLimit : ℕ
 ruleOutputLimit = 2
@@ -97,7 +109,7 @@ pub record Rule : Type 0 where
   pub targetOutputs : List Origin
 
 unfoldable pub originOf : ℕ → Origin
-originOf p = cond (ltb p sideLimit) (given p) (made (p - sideLimit))
+originOf p = cond (ltb p targetBase) (given p) (made (p - targetBase))
 
 -- a node's forms; the operations are the last five
 abbrev pub formAny : ℕ
@@ -182,10 +194,11 @@ isRuleInput r j = ltb j (length (r .source)) && inputKind (sourceOf r j .kind)
 
 -- ---- faults, by kind, in document 01's order
 
-unfoldable pub ruleSizesFit : List ℕ → Bool
-ruleSizesFit block =
-    within 1 (sourceCount block) sideLimit
-    && leb (targetCount block) sideLimit
+-- at most `limit` vertices a side
+unfoldable pub ruleSizesFit : ℕ → List ℕ → Bool
+ruleSizesFit limit block =
+    within 1 (sourceCount block) limit
+    && leb (targetCount block) limit
     && within 1 (ruleOutputCount block) ruleOutputLimit
     && leb (nodeCount block) nodeLimit
 
@@ -197,12 +210,12 @@ ruleOutputPlacesFit block =
     && filled block (12 + ruleOutputCount block) 14 255
 
 -- length and header, with the source outputs' numbers and the unused output places
-unfoldable pub ruleHeaderFits : List ℕ → Bool
-ruleHeaderFits block =
+unfoldable pub ruleHeaderFits : ℕ → List ℕ → Bool
+ruleHeaderFits limit block =
     eqb (length block) (nodeAt block (nodeCount block))
     && markFits block ruleLetter
     && eqb (u16At block 4) ruleVersion
-    && ruleSizesFit block
+    && ruleSizesFit limit block
     && ruleOutputPlacesFit block
     && filled block 14 16 0
 
@@ -322,11 +335,11 @@ unfoldable pub badUse : List ℕ → ℕ → Bool
 badUse block v =
     not (allBelow (λ i. useFits block v (byteAt block (vertexAt v + 10 + i))) (byteAt block (vertexAt v + 3)))
 
--- all kinds of fault; nodes are looked at before their uses
-unfoldable pub ruleFaults : List ℕ → List (Option ℕ)
-ruleFaults block =
+-- all kinds of fault, of a block with at most `limit` vertices a side; nodes are looked at before their uses
+unfoldable pub ruleFaults : ℕ → List ℕ → List (Option ℕ)
+ruleFaults limit block =
     let vertices = sourceCount block + targetCount block in
-    flag (not (ruleHeaderFits block))
+    flag (not (ruleHeaderFits limit block))
     ∷ place vertices (lowest (badVertex block) vertices)
     ∷ flag (not (inVisitingOrder (ruleOf block)))
     ∷ flag (not (outputsFit (ruleOf block)))
@@ -336,15 +349,15 @@ ruleFaults block =
 
 -- what checking a rule gives
 unfoldable pub ruleReply : List ℕ → Reply
-ruleReply block = judged badRule (ruleFaults block)
+ruleReply block = judged badRule (ruleFaults sideLimit block)
 
 -- ---- a sound rule; it is proved that the reply is done exactly for these
 
 -- The paper's sentences and no tests are: order ("in the visiting order of 002's traversal from the listed outputs", the traversal being
 -- the function above) and connection ("some source vertex reaches both", by a path). The other parts are the tests above, for each
 -- vertex, node and use: they say by bytes, or of the rule's lists, what the paper says.
-pub record SoundRule (block : List ℕ) : Type 0 where
-  pub header : ruleHeaderFits block ≡ true
+pub record SoundWithin (limit : ℕ) (block : List ℕ) : Type 0 where
+  pub header : ruleHeaderFits limit block ≡ true
   pub patterns : (v : ℕ) → v < sourceCount block + targetCount block → patternFits block (vertexAt v) ≡ true
   pub lowerInputs : (j : ℕ) → j < sourceCount block → sourceInputsFit (ruleOf block) j ≡ true
   pub namedInputs : (t : ℕ) → t < targetCount block → targetInputsFit (ruleOf block) t ≡ true
@@ -358,3 +371,6 @@ pub record SoundRule (block : List ℕ) : Type 0 where
   pub nodes : (k : ℕ) → k < nodeCount block → nodeFits block k ≡ true
   pub uses : (v i : ℕ) → v < sourceCount block + targetCount block → i < byteAt block (vertexAt v + 3)
       → useFits block v (byteAt block (vertexAt v + 10 + i)) ≡ true
+
+abbrev pub SoundRule : List ℕ → Type 0
+SoundRule block = SoundWithin sideLimit block

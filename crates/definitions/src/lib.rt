@@ -22,6 +22,12 @@ pub const PATTERN_BYTES: usize = 16;
 pub const NODE_BYTES: usize = 8;
 
 pub const SIDE_LIMIT: usize = 16;
+// The first target place that names a target vertex.
+pub const TARGET_BASE: usize = 16;
+// The vertices of a side for which an array has space.
+pub const SIDE_CAPACITY: usize = 16;
+// The numbers that a place of a rule may hold: it is a byte.
+pub const PLACE_NUMBERS: usize = 256;
 
 pub const RULE_OUTPUT_LIMIT: usize = 2;
 
@@ -72,7 +78,9 @@ pub const ATTRIBUTE_LIMIT: usize = 6;
 pub const UNUSED_PLACE: u16 = 65535;
 
 // The map: a 16-bit number for each source vertex that a rule may have.
-pub const MAP_BYTES: usize = 32;
+pub const MAP_PLACES: usize = 16;
+
+pub const MAP_BYTES: usize = 2 * MAP_PLACES;
 
 // Where a refusal's fault lies, and why. Both are zero for now.
 pub struct Place {

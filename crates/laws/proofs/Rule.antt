@@ -12,7 +12,7 @@ use Rattle.definitions.specs.Lists.{allBelow}
 use Rattle.definitions.specs.Paths.{Reads}
 use Rattle.definitions.specs.Fields.{byteAt}
 use Rattle.definitions.specs.Operators.{shapeFits}
-use Rattle.definitions.specs.Rule.{sideLimit, ruleOutputLimit, sourceCount, targetCount, ruleOutputCount, nodeCount, vertexAt, Expression, Origin, Pattern, Rule, originOf, expressionOf, patternFrom, ruleOf, wildcard, sourceOf, targetOf, sourceInputs, inputKind, isRuleInput, ruleSizesFit, ruleOutputPlacesFit, ruleHeaderFits, patternFits, sourceInputsFit, useFits}
+use Rattle.definitions.specs.Rule.{ruleOutputLimit, sourceCount, targetCount, ruleOutputCount, nodeCount, vertexAt, Expression, Origin, Pattern, Rule, originOf, expressionOf, patternFrom, ruleOf, wildcard, sourceOf, targetOf, sourceInputs, inputKind, isRuleInput, ruleSizesFit, ruleOutputPlacesFit, ruleHeaderFits, patternFits, sourceInputsFit, useFits}
 use Rattle.laws.proofs.Lists.{decided, and-left, needed, length-tabulate, getD-tabulate, all-every, all-member, allBelow-at}
 
 -- past the last source vertex nothing is read
@@ -153,16 +153,16 @@ module _ (block : List ℕ) where
 
   -- ---- what a header that fits says, and a record that follows its kind
 
-  module _ (fits : ruleHeaderFits block ≡ true) where
-    pub few-sources : sourceCount block ≤ sideLimit
+  module _ (limit : ℕ) (fits : ruleHeaderFits limit block ≡ true) where
+    pub few-sources : sourceCount block ≤ limit
     unfolding ruleHeaderFits ruleSizesFit
     few-sources =
-        leb-true (sourceCount block) sideLimit (needed (leb (sourceCount block) sideLimit) fits (λ f. simp (f, and-false)))
+        leb-true (sourceCount block) limit (needed (leb (sourceCount block) limit) fits (λ f. simp (f, and-false)))
 
-    pub few-targets : targetCount block ≤ sideLimit
+    pub few-targets : targetCount block ≤ limit
     unfolding ruleHeaderFits ruleSizesFit
     few-targets =
-        leb-true (targetCount block) sideLimit (needed (leb (targetCount block) sideLimit) fits (λ f. simp (f, and-false)))
+        leb-true (targetCount block) limit (needed (leb (targetCount block) limit) fits (λ f. simp (f, and-false)))
 
     -- one output or two
     pub some-rule-outputs : 1 ≤ ruleOutputCount block
@@ -189,9 +189,9 @@ module _ (block : List ℕ) where
 
   -- ---- what a good header and good input places say of the rule
 
-  pub outputs-below : ruleHeaderFits block ≡ true → (o : ℕ) → List·Memᴰ o (ruleOf block .sourceOutputs) → o < sourceCount block
+  pub outputs-below : (limit : ℕ) → ruleHeaderFits limit block ≡ true → (o : ℕ) → List·Memᴰ o (ruleOf block .sourceOutputs) → o < sourceCount block
   unfolding ruleHeaderFits ruleOutputPlacesFit
-  outputs-below h o m =
+  outputs-below limit h o m =
       let below : ℕ → Bool = λ k. ltb (byteAt block (10 + k)) (sourceCount block) in
       let listed = needed (allBelow below (ruleOutputCount block)) h (λ f. simp (f, and-false)) in
       ltb-true o (sourceCount block)

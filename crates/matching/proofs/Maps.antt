@@ -15,7 +15,7 @@ use Rattle.definitions.specs.Lists.{allBelow, anyBelow, allPairs}
 use Rattle.definitions.specs.Fields.{signed}
 use Rattle.definitions.specs.Operators.{kindEmpty}
 use Rattle.definitions.specs.Graph.{unusedPlace, Slot, Graph, slotOf, inputsOf, isVertex}
-use Rattle.definitions.specs.Rule.{sideLimit, Rule, sourceOf, sourceInputs}
+use Rattle.definitions.specs.Rule.{sideCapacity, Rule, sourceOf, sourceInputs}
 use Rattle.definitions.specs.Attributes.{agrees}
 use Rattle.definitions.specs.Match.{imageOf, attributeOf, readAttribute, isInterior, Takes, Match}
 use Rattle.laws.proofs.Lists.{decided, true-not-false, anyBelow-found, anyBelow-some, map-at, map-same}
@@ -74,7 +74,7 @@ takes-same g a b r i s f inside same k = record {
 
 -- a map of the first vertices says nothing of the other places
 pub partial-same : (g : Graph) (r : Rule) (next : ℕ) (images made : List ℕ) → Formed r → Partial g r next images
-    → Extends next images made → length made ≡ sideLimit → Partial g r next made
+    → Extends next images made → length made ≡ sideCapacity → Partial g r next made
 partial-same g r next images made f p e size = record {
   size = size;
   small = p .small;
@@ -94,7 +94,7 @@ below-next P j low here i l = ⊎-elim
     (λ (t : ltb i j ≡ false). let e : j ≡ i = omega (arith, ltb-false i j t) in subst P e here)
     (decided (ltb i j))
 
-module _ (images : List ℕ) (j v : ℕ) (size : length images ≡ sideLimit) (place : j < sideLimit) where
+module _ (images : List ℕ) (j v : ℕ) (size : length images ≡ sideCapacity) (place : j < sideCapacity) where
   pub set-here : imageOf (set images j v) j ≡ v
   unfolding imageOf
   set-here = getD-set-same images j v unusedPlace (omega arith)
@@ -106,7 +106,7 @@ module _ (images : List ℕ) (j v : ℕ) (size : length images ≡ sideLimit) (p
   pub set-below : (i : ℕ) → i < j → imageOf (set images j v) i ≡ imageOf images i
   set-below i l = set-other i (λ e. omega arith)
 
-module _ (g : Graph) (r : Rule) (f : Formed r) (j v : ℕ) (images : List ℕ) (inside : j < length (r .source)) (place : j < sideLimit)
+module _ (g : Graph) (r : Rule) (f : Formed r) (j v : ℕ) (images : List ℕ) (inside : j < length (r .source)) (place : j < sideCapacity)
     (p : Partial g r j images) (fits : isCandidate g r j v ≡ true) where
   abbrev made : List ℕ
   made = set images j v

@@ -12,7 +12,7 @@ use lib.Dec.{eqb, ltb}
 use lib.ListN.{length, getD, drop, drop-of-length-le}
 use Rattle.definitions.specs.Lists.{anyBelow}
 use Rattle.definitions.specs.Graph.{unusedPlace, Graph, slotOf, inputsOf}
-use Rattle.definitions.specs.Rule.{sideLimit, Rule, sourceOf, sourceInputs}
+use Rattle.definitions.specs.Rule.{sideCapacity, Rule, sourceOf, sourceInputs}
 use Rattle.definitions.specs.Match.{imageOf, readAttribute, Match}
 use Rattle.laws.proofs.Lists.{decided, true-not-false}
 use Rattle.laws.proofs.Walks.{rest}
@@ -26,7 +26,7 @@ use Rattle.matching.proofs.Maps.{match-sends, match-agrees, match-free}
 
 module _ {g : Graph} {r : Rule} {next : ℕ} {images : List ℕ} {Asked : List ℕ → Type 0} {end : ℕ} where
   -- no match that has these images meets what is asked, and nothing is written
-  no-step : length images ≡ sideLimit → ((whole : List ℕ) → Match g r whole → Extends next images whole → Asked whole → ⊥)
+  no-step : length images ≡ sideCapacity → ((whole : List ℕ) → Match g r whole → Extends next images whole → Asked whole → ⊥)
       → Step g r next images Asked end false images
   no-step size none = record {
     size = size;
@@ -85,7 +85,7 @@ module _ (g : Graph) (r : Rule) (next : ℕ) (images : List ℕ) (p : Partial g 
       }
 
 module _ (g : Graph) (r : Rule) (f : Formed r) (j v : ℕ) (inside : j < length (r .source)) where
-  pub no-candidate : {next end : ℕ} {images : List ℕ} → length images ≡ sideLimit → isCandidate g r j v ≡ false
+  pub no-candidate : {next end : ℕ} {images : List ℕ} → length images ≡ sideCapacity → isCandidate g r j v ≡ false
       → Step g r next images (Sends j v) end false images
   no-candidate size z = no-step size (λ whole m e asked. true-not-false (match-candidate g r f whole m j inside v asked) z)
 
@@ -100,7 +100,7 @@ module _ (g : Graph) (r : Rule) (f : Formed r) (j v : ℕ) (inside : j < length 
   inputs-pass one t e l two = then-step one t e l two (omega arith)
       (λ whole m asked. (match-sends g r f whole m j v inside asked, asked)) (λ a k b. b)
 
-  module _ {end : ℕ} {images : List ℕ} (size : length images ≡ sideLimit) where
+  module _ {end : ℕ} {images : List ℕ} (size : length images ≡ sideCapacity) where
     pub is-taken : anyBelow (λ i. eqb (imageOf images i) v) j ≡ true → Step g r j images (Sends j v) end false images
     is-taken t = no-step size (λ whole m e asked. match-free g r f whole m j v inside asked images e t)
 

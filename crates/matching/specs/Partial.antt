@@ -7,14 +7,14 @@ use Prim.Native.Nat.{ℕ, _<_, _≤_}
 use lib.ListN.{length, getD}
 use Rattle.definitions.specs.Operators.{kindEmpty}
 use Rattle.definitions.specs.Graph.{unusedPlace, Graph, slotOf, inputsOf, isVertex}
-use Rattle.definitions.specs.Rule.{sideLimit, Rule, sourceOf, sourceInputs}
+use Rattle.definitions.specs.Rule.{sideCapacity, Rule, sourceOf, sourceInputs}
 use Rattle.definitions.specs.Match.{imageOf, isInterior, Takes, Match}
 use Rattle.uses.specs.Uses.{usesOf, placesOf}
 
 -- The images of the first `next` source vertices meet every condition of a match; the other places may hold anything. That an
 -- interior image is read from inside alone is said by its uses, which do not speak of the images to come.
 pub record Partial (g : Graph) (r : Rule) (next : ℕ) (images : List ℕ) : Type 0 where
-  pub size : length images ≡ sideLimit
+  pub size : length images ≡ sideCapacity
   pub small : next ≤ length (r .source)
   pub vertices : (i : ℕ) → i < next → isVertex g (imageOf images i) ≡ true
   pub injective : (i k : ℕ) → i < next → k < next → imageOf images i ≡ imageOf images k → i ≡ k
@@ -40,7 +40,7 @@ SendsInputs g r j v i images =
 -- otherwise; a match that meets what is asked lets it succeed.
 pub record Step (g : Graph) (r : Rule) (next : ℕ) (images : List ℕ) (Asked : List ℕ → Type 0) (end : ℕ) (ok : Bool) (made : List ℕ)
     : Type 0 where
-  pub size : length made ≡ sideLimit
+  pub size : length made ≡ sideCapacity
   pub kept : Extends next images made
   pub rest : (i : ℕ) → length (r .source) ≤ i → imageOf made i ≡ imageOf images i
   pub partial : ok ≡ true → Partial g r end made

@@ -7,7 +7,7 @@ use Prim.Native.Nat.{ℕ, _<_}
 use lib.ListN.{length, getD}
 use Rattle.definitions.specs.Operators.{kindEmpty}
 use Rattle.definitions.specs.Graph.{slotLimit, slotCount, graphOf}
-use Rattle.definitions.specs.Rule.{sideLimit, sourceCount, anything, ruleOf, sourceOf, sourceInputs, isRuleInput, accessesBelow}
+use Rattle.definitions.specs.Rule.{sideCapacity, sourceCount, anything, ruleOf, sourceOf, sourceInputs, isRuleInput, accessesBelow}
 use Rattle.graph_fields.specs.Layout.{ReadableGraph, Closed}
 use Rattle.rule_fields.specs.Layout.{ReadableRule, Layered}
 use Rattle.attributes.specs.Evaluable.{Evaluable}
@@ -29,4 +29,4 @@ pub record Setting (graph rule used demanded : List ℕ) : Type 0 where
   pub closed : Closed graph
   pub matchable : Matchable rule
   pub uses : (length used ≡ slotLimit) × ((v : ℕ) → v < slotCount graph → getD used v 0 ≡ usesOf (graphOf graph) v)
-  pub demands : (length demanded ≡ sideLimit) × ((j : ℕ) → j < sourceCount rule → getD demanded j 0 ≡ demandOf (ruleOf rule) j)
+  pub demands : (length demanded ≡ sideCapacity) × ((j : ℕ) → j < sourceCount rule → getD demanded j 0 ≡ demandOf (ruleOf rule) j)

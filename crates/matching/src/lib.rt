@@ -2,7 +2,7 @@
 // each vertex once, so the images found so far are those of the first `next` source vertices.
 use attributes::attributes_agree;
 use definitions::KIND_EMPTY;
-use definitions::SIDE_LIMIT;
+use definitions::SIDE_CAPACITY;
 use definitions::SLOT_LIMIT;
 use fields::greater;
 use fields::widened;
@@ -24,7 +24,7 @@ ghost use lib.Dec.{eqb};
 ghost use lib.ListN.{length, getD, drop};
 ghost use Rattle.definitions.specs.Lists.{anyBelow};
 ghost use Rattle.definitions.specs.Graph.{slotCount, graphOf, slotOf, inputsOf};
-ghost use Rattle.definitions.specs.Rule.{sideLimit, sourceCount, ruleOf, sourceOf, sourceInputs};
+ghost use Rattle.definitions.specs.Rule.{sideCapacity, sourceCount, ruleOf, sourceOf, sourceInputs};
 ghost use Rattle.definitions.specs.Match.{imageOf};
 ghost use Rattle.graph_fields.specs.Layout.{ReadableGraph};
 ghost use Rattle.rule_fields.specs.Layout.{ReadableRule};
@@ -103,7 +103,7 @@ fn is_candidate(
     graph: &[u8],
     rule: &[u8],
     uses: &[u16; SLOT_LIMIT],
-    demands: &[u16; SIDE_LIMIT],
+    demands: &[u16; SIDE_CAPACITY],
     j: usize,
     v: usize,
 ) -> bool
@@ -121,9 +121,9 @@ fn is_candidate(
 // ---- one vertex
 
 // Whether v is the image of one of the first `next` source vertices.
-fn is_taken(images: &[u16; SIDE_LIMIT], next: usize, v: usize) -> bool
-    requires { ⌜ next ≤ sideLimit ⌝ }
-    requires { ⌜ length (now images) ≡ sideLimit ⌝ }
+fn is_taken(images: &[u16; SIDE_CAPACITY], next: usize, v: usize) -> bool
+    requires { ⌜ next ≤ sideCapacity ⌝ }
+    requires { ⌜ length (now images) ≡ sideCapacity ⌝ }
     ensures { λ r. ⌜ r ≡ anyBelow (λ i. eqb (imageOf (now (images .entry)) i) v) next ⌝ }
 {
     let mut i = 0;
@@ -138,7 +138,7 @@ fn is_taken(images: &[u16; SIDE_LIMIT], next: usize, v: usize) -> bool
 
 // Gives source vertex j, a candidate whose inputs have their images, the image v: where v is no lower vertex's image, and the
 // attributes agree.
-fn settle(graph: &[u8], rule: &[u8], j: usize, v: usize, images: &mut [u16; SIDE_LIMIT]) -> bool
+fn settle(graph: &[u8], rule: &[u8], j: usize, v: usize, images: &mut [u16; SIDE_CAPACITY]) -> bool
     requires { ⌜ ReadableGraph (now graph) ⌝ }
     requires { ⌜ Matchable (now rule) ⌝ }
     requires { ⌜ j < sourceCount (now rule) ⌝ }
@@ -161,9 +161,9 @@ fn settle(graph: &[u8], rule: &[u8], j: usize, v: usize, images: &mut [u16; SIDE
 
 // Whether v is the image that source vertex j has. The slots are compared, and not what they hold: two Variables alike are still two
 // vertices.
-fn is_image(images: &[u16; SIDE_LIMIT], j: usize, v: usize) -> bool
-    requires { ⌜ j < sideLimit ⌝ }
-    requires { ⌜ length (now images) ≡ sideLimit ⌝ }
+fn is_image(images: &[u16; SIDE_CAPACITY], j: usize, v: usize) -> bool
+    requires { ⌜ j < sideCapacity ⌝ }
+    requires { ⌜ length (now images) ≡ sideCapacity ⌝ }
     ensures { λ r. ⌜ r ≡ eqb (getD (now (images .entry)) j 0) v ⌝ }
 {
     widened(images[j]) == v
@@ -175,11 +175,11 @@ pub fn match_vertex(
     graph: &[u8],
     rule: &[u8],
     uses: &[u16; SLOT_LIMIT],
-    demands: &[u16; SIDE_LIMIT],
+    demands: &[u16; SIDE_CAPACITY],
     j: usize,
     v: usize,
     next: usize,
-    images: &mut [u16; SIDE_LIMIT],
+    images: &mut [u16; SIDE_CAPACITY],
 ) -> bool
     requires { ⌜ Setting (now graph) (now rule) (now uses) (now demands) ⌝ }
     requires { ⌜ j < sourceCount (now rule) ⌝ }
@@ -206,12 +206,12 @@ fn match_inputs(
     graph: &[u8],
     rule: &[u8],
     uses: &[u16; SLOT_LIMIT],
-    demands: &[u16; SIDE_LIMIT],
+    demands: &[u16; SIDE_CAPACITY],
     j: usize,
     v: usize,
     i: usize,
     next: usize,
-    images: &mut [u16; SIDE_LIMIT],
+    images: &mut [u16; SIDE_CAPACITY],
 ) -> bool
     requires { ⌜ Setting (now graph) (now rule) (now uses) (now demands) ⌝ }
     requires { ⌜ j < sourceCount (now rule) ⌝ }

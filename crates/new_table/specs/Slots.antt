@@ -8,7 +8,7 @@ use Prim.Native.Nat.{ℕ, _<_}
 use lib.IntN.{ℤ}
 use lib.ListN.{length, getD}
 use Rattle.definitions.specs.Graph.{unusedPlace, Slot, Graph, graphOf}
-use Rattle.definitions.specs.Rule.{sideLimit, ruleOf}
+use Rattle.definitions.specs.Rule.{sideCapacity, ruleOf}
 use Rattle.definitions.specs.Match.{readAttribute}
 use Rattle.definitions.specs.Rewriting.{targetResults, placeOf, redirect, newGraph}
 use Rattle.graph_fields.specs.Layout.{ReadableGraph}
@@ -47,9 +47,9 @@ pub record Prepared (graph rule images places : List ℕ) : Type 0 where
   pub layered : Layered rule
   pub evaluable : Evaluable rule
   pub resolvable : Resolvable rule
-  pub imageSize : length images ≡ sideLimit
-  pub placeSize : length places ≡ sideLimit
-  pub placed : (t : ℕ) → t < sideLimit → getD places t unusedPlace ≡ placeOf (graphOf graph) (ruleOf rule) images t
+  pub imageSize : length images ≡ sideCapacity
+  pub placeSize : length places ≡ sideCapacity
+  pub placed : (t : ℕ) → t < sideCapacity → getD places t unusedPlace ≡ placeOf (graphOf graph) (ruleOf rule) images t
   pub known : isGiven (fitResults graph rule images) ≡ true
 
 -- the moves are the redirection of the rewriting

@@ -4,7 +4,7 @@ use definitions::ATTRIBUTE_LIMIT;
 use definitions::HEADER_BYTES;
 use definitions::INPUT_LIMIT;
 use definitions::KIND_EMPTY;
-use definitions::SIDE_LIMIT;
+use definitions::SIDE_CAPACITY;
 use definitions::SLOT_BYTES;
 use definitions::SLOT_LIMIT;
 use definitions::UNUSED_PLACE;
@@ -102,8 +102,8 @@ fn staying_record(graph: &[u8], k: usize, way: Redirection) -> Record
 fn target_record(
     graph: &[u8],
     rule: &[u8],
-    images: &[u16; SIDE_LIMIT],
-    places: &[u16; SIDE_LIMIT],
+    images: &[u16; SIDE_CAPACITY],
+    places: &[u16; SIDE_CAPACITY],
     t: usize,
 ) -> Record
     requires { ⌜ Prepared (now graph) (now rule) (now images) (now places) ⌝ }
@@ -133,8 +133,8 @@ fn target_record(
 fn new_record(
     graph: &[u8],
     rule: &[u8],
-    images: &[u16; SIDE_LIMIT],
-    places: &[u16; SIDE_LIMIT],
+    images: &[u16; SIDE_CAPACITY],
+    places: &[u16; SIDE_CAPACITY],
     way: Redirection,
     k: usize,
     free: bool,
@@ -176,8 +176,8 @@ fn counted(next: usize, free: bool) -> usize
 fn write_slot(
     graph: &[u8],
     rule: &[u8],
-    images: &[u16; SIDE_LIMIT],
-    places: &[u16; SIDE_LIMIT],
+    images: &[u16; SIDE_CAPACITY],
+    places: &[u16; SIDE_CAPACITY],
     way: Redirection,
     k: usize,
     free: bool,
@@ -204,8 +204,8 @@ fn write_slot(
 fn write_slots(
     graph: &[u8],
     rule: &[u8],
-    images: &[u16; SIDE_LIMIT],
-    places: &[u16; SIDE_LIMIT],
+    images: &[u16; SIDE_CAPACITY],
+    places: &[u16; SIDE_CAPACITY],
     way: Redirection,
     free: &[bool; SLOT_LIMIT],
     table: &mut [u8],
@@ -232,8 +232,8 @@ fn write_slots(
 pub fn write_table(
     graph: &[u8],
     rule: &[u8],
-    images: &[u16; SIDE_LIMIT],
-    places: &[u16; SIDE_LIMIT],
+    images: &[u16; SIDE_CAPACITY],
+    places: &[u16; SIDE_CAPACITY],
     free: &[bool; SLOT_LIMIT],
     table: &mut [u8],
 )

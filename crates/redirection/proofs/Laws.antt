@@ -12,7 +12,7 @@ use lib.Dec.{eqb, ltb}
 use lib.ListN.{length, getD, length-map}
 use Rattle.definitions.specs.Lists.{all, member, position}
 use Rattle.definitions.specs.Graph.{unusedPlace, Graph}
-use Rattle.definitions.specs.Rule.{sideLimit, targetCount, ruleOutputCount, Origin, given, made, Rule, originOf, ruleOf, targetOf, inputKind, originFits, targetInputsFit, SoundRule}
+use Rattle.definitions.specs.Rule.{sideLimit, targetBase, sideCapacity, targetCount, ruleOutputCount, Origin, given, made, Rule, originOf, ruleOf, targetOf, inputKind, originFits, targetInputsFit, SoundRule}
 use Rattle.definitions.specs.Match.{imageOf, outputImages}
 use Rattle.definitions.specs.Rewriting.{placeOf, resolve, redirect}
 use Rattle.laws.proofs.Lists.{decided, and-right, getD-any, map-same, all-at}
@@ -23,24 +23,24 @@ use Rattle.redirection.specs.Moves.{originInside, Resolvable, resolveIn,
 
 -- ---- what a place names
 
--- a place number whose origin is inside is below 32
-pub inside-place : (p : ℕ) → originInside (originOf p) ≡ true → p < sideLimit + sideLimit
+-- a place number whose origin is inside is that of a vertex for which there is space
+pub inside-place : (p : ℕ) → originInside (originOf p) ≡ true → p < targetBase + sideCapacity
 unfolding originInside originOf
 inside-place p h =
-    ⊎-elim (λ (t : ltb p sideLimit ≡ true). omega (arith, ltb-true p sideLimit t))
-    (λ (t : ltb p sideLimit ≡ false). omega (arith, ltb-true (p - sideLimit) sideLimit (simp t at h)))
-    (decided (ltb p sideLimit))
+    ⊎-elim (λ (t : ltb p targetBase ≡ true). omega (arith, ltb-true p targetBase t))
+    (λ (t : ltb p targetBase ≡ false). omega (arith, ltb-true (p - targetBase) sideCapacity (simp t at h)))
+    (decided (ltb p targetBase))
 
--- a place number below 16 is read from the images, another from the target vertices' places
-pub resolve-given : (images places : List ℕ) (p : ℕ) → p < sideLimit → length images ≡ sideLimit
+-- a place number below the first target one is read from the images, another from the target vertices' places
+pub resolve-given : (images places : List ℕ) (p : ℕ) → p < targetBase → length images ≡ sideCapacity
     → getD images p 0 ≡ resolveIn images places (originOf p)
 unfolding resolveIn originOf imageOf
-resolve-given images places p h n = rw (lt-ltb p sideLimit h) (getD-any images p 0 unusedPlace (omega arith))
+resolve-given images places p h n = rw (lt-ltb p targetBase h) (getD-any images p 0 unusedPlace (omega arith))
 
-pub resolve-made : (images places : List ℕ) (p : ℕ) → sideLimit ≤ p → p < sideLimit + sideLimit → length places ≡ sideLimit
-    → getD places (p - sideLimit) 0 ≡ resolveIn images places (originOf p)
+pub resolve-made : (images places : List ℕ) (p : ℕ) → targetBase ≤ p → p < targetBase + sideCapacity → length places ≡ sideCapacity
+    → getD places (p - targetBase) 0 ≡ resolveIn images places (originOf p)
 unfolding resolveIn originOf
-resolve-made images places p h l n = rw (le-ltb p sideLimit h) (getD-any places (p - sideLimit) 0 unusedPlace (omega arith))
+resolve-made images places p h l n = rw (le-ltb p targetBase h) (getD-any places (p - targetBase) 0 unusedPlace (omega arith))
 
 -- ---- one or two outputs, one or two moves
 
@@ -80,25 +80,25 @@ moves-all block images places k e some few first second v =
 -- ---- a sound rule's places
 
 -- a place that may be named is inside where the sides are
-fits-inside : (r : Rule) (t : ℕ) (o : Origin) → length (r .source) ≤ sideLimit → t ≤ sideLimit → originFits r t o ≡ true
+fits-inside : (r : Rule) (t : ℕ) (o : Origin) → length (r .source) ≤ sideCapacity → t ≤ sideCapacity → originFits r t o ≡ true
     → originInside o ≡ true
 unfolding originFits originInside
-fits-inside r t (given j) s l h = lt-ltb j sideLimit (omega (arith, input-inside r j h))
-fits-inside r t (made u) s l h = lt-ltb u sideLimit (omega (arith, ltb-true u t h))
+fits-inside r t (given j) s l h = lt-ltb j sideCapacity (omega (arith, input-inside r j h))
+fits-inside r t (made u) s l h = lt-ltb u sideCapacity (omega (arith, ltb-true u t h))
 
 -- ---- for callers
 
 -- with the target vertices' places, the arrays resolve as the definition does
 pub resolve-same : (g : Graph) (r : Rule) (images places : List ℕ)
-    → ((t : ℕ) → t < sideLimit → getD places t unusedPlace ≡ placeOf g r images t)
+    → ((t : ℕ) → t < sideCapacity → getD places t unusedPlace ≡ placeOf g r images t)
     → (o : Origin) → originInside o ≡ true → resolveIn images places o ≡ resolve g r images o
 unfolding originInside resolveIn resolve
 resolve-same g r images places h (given j) l = refl
-resolve-same g r images places h (made t) l = h t (ltb-true t sideLimit l)
+resolve-same g r images places h (made t) l = h t (ltb-true t sideCapacity l)
 
 -- so the moves are the definition's redirection
 pub redirect-same : (g : Graph) (block : List ℕ) (images places : List ℕ) → Resolvable block
-    → ((t : ℕ) → t < sideLimit → getD places t unusedPlace ≡ placeOf g (ruleOf block) images t)
+    → ((t : ℕ) → t < sideCapacity → getD places t unusedPlace ≡ placeOf g (ruleOf block) images t)
     → (v : ℕ) → redirectBy (resolveIn images places) (ruleOf block) images v ≡ redirect g (ruleOf block) images v
 unfolding redirectBy redirect
 redirect-same g block images places inside h v =
@@ -116,7 +116,7 @@ redirect-same g block images places inside h v =
 
 -- and a target vertex's inputs are the definition's
 pub inputs-same : (g : Graph) (block : List ℕ) (images places : List ℕ) → Resolvable block
-    → ((t : ℕ) → t < sideLimit → getD places t unusedPlace ≡ placeOf g (ruleOf block) images t)
+    → ((t : ℕ) → t < sideCapacity → getD places t unusedPlace ≡ placeOf g (ruleOf block) images t)
     → (t : ℕ) → t < targetCount block
     → map (resolveIn images places) (targetOf (ruleOf block) t .inputs) ≡ map (resolve g (ruleOf block) images) (targetOf (ruleOf block) t .inputs)
 inputs-same g block images places inside h t l =
@@ -130,8 +130,8 @@ pub sound-resolvable : (block : List ℕ) → SoundRule block → Resolvable blo
 unfolding targetInputsFit
 sound-resolvable block sound =
     let r = ruleOf block in
-    let targets = few-targets block (sound .header) in
-    let sources : length (r .source) ≤ sideLimit = omega (arith, few-sources block (sound .header), length-source block) in
+    let targets = few-targets block sideLimit (sound .header) in
+    let sources : length (r .source) ≤ sideCapacity = omega (arith, few-sources block sideLimit (sound .header), length-source block) in
     record {
       inputs = λ t i l k.
           let named = all-at (originFits r t) (made 255) (targetOf r t .inputs) i

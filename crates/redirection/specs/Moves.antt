@@ -8,15 +8,15 @@ use lib.Dec.{eqb, ltb}
 use lib.ListN.{length, getD}
 use Rattle.definitions.specs.Lists.{member, position}
 use Rattle.definitions.specs.Graph.{unusedPlace}
-use Rattle.definitions.specs.Rule.{sideLimit, targetCount, ruleOutputCount, Origin, given, made, Rule, ruleOf, targetOf}
+use Rattle.definitions.specs.Rule.{sideCapacity, targetCount, ruleOutputCount, Origin, given, made, Rule, ruleOf, targetOf}
 use Rattle.definitions.specs.Match.{imageOf, outputImages}
 use Rattle.redirection.specs.declared.Move.{Move}
 use Rattle.redirection.specs.declared.Redirection.{Redirection}
 
 -- a target place names a vertex that has a place in the arrays
 unfoldable pub originInside : Origin → Bool
-originInside (given j) = ltb j sideLimit
-originInside (made t) = ltb t sideLimit
+originInside (given j) = ltb j sideCapacity
+originInside (made t) = ltb t sideCapacity
 
 -- every target place does
 pub record Resolvable (block : List ℕ) : Type 0 where

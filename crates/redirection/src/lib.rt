@@ -2,7 +2,8 @@
 // the slot that takes its part.
 use definitions::INPUT_LIMIT;
 use definitions::OUTPUT_LIMIT;
-use definitions::SIDE_LIMIT;
+use definitions::SIDE_CAPACITY;
+use definitions::TARGET_BASE;
 use definitions::UNUSED_PLACE;
 use graph_fields::input_at;
 use graph_fields::input_count;
@@ -19,7 +20,7 @@ ghost use lib.Dec.{eqb};
 ghost use lib.ListN.{length, getD};
 ghost use Rattle.definitions.specs.Lists.{padded};
 ghost use Rattle.definitions.specs.Graph.{inputLimit, outputLimit, unusedPlace, slotCount, outputCount, graphOf, inputsOf};
-ghost use Rattle.definitions.specs.Rule.{sideLimit, targetCount, ruleOutputCount, originOf, ruleOf, targetOf};
+ghost use Rattle.definitions.specs.Rule.{targetBase, sideCapacity, targetCount, ruleOutputCount, originOf, ruleOf, targetOf};
 ghost use Rattle.graph_fields.specs.Layout.{WholeGraph, ReadableGraph};
 ghost use Rattle.rule_fields.specs.Layout.{WholeRule, ReadableRule, Layered};
 ghost use Rattle.redirection.specs.Moves.{Resolvable, resolveIn, redirectBy, moveOf, moved};
@@ -36,26 +37,32 @@ pub struct Redirection {
     pub second: Move,
 }
 
-// The slot that place number p of the target names: below 16 the image of that rule input, from 16 on the slot of a target vertex.
-fn place_of(images: &[u16; SIDE_LIMIT], places: &[u16; SIDE_LIMIT], p: usize) -> u16
-    requires { ⌜ length (now images) ≡ sideLimit ⌝ }
-    requires { ⌜ length (now places) ≡ sideLimit ⌝ }
-    requires { ⌜ p < sideLimit + sideLimit ⌝ }
+// The slot that place number p of the target names: below TARGET_BASE the image of that rule input, from there on the
+// slot of a target vertex.
+fn place_of(images: &[u16; SIDE_CAPACITY], places: &[u16; SIDE_CAPACITY], p: usize) -> u16
+    requires { ⌜ length (now images) ≡ sideCapacity ⌝ }
+    requires { ⌜ length (now places) ≡ sideCapacity ⌝ }
+    requires { ⌜ p < targetBase + sideCapacity ⌝ }
     ensures { λ r. ⌜ r ≡ resolveIn (now (images .entry)) (now (places .entry)) (originOf p) ⌝ }
 {
-    if p < SIDE_LIMIT {
+    if p < TARGET_BASE {
         return images[p];
     }
-    places[p - SIDE_LIMIT]
+    places[p - TARGET_BASE]
 }
 
 // What output i of the rule moves: its source output's image to the slot that its target output names.
-fn move_of(rule: &[u8], images: &[u16; SIDE_LIMIT], places: &[u16; SIDE_LIMIT], i: usize) -> Move
+fn move_of(
+    rule: &[u8],
+    images: &[u16; SIDE_CAPACITY],
+    places: &[u16; SIDE_CAPACITY],
+    i: usize,
+) -> Move
     requires { ⌜ WholeRule (now rule) ⌝ }
     requires { ⌜ Layered (now rule) ⌝ }
     requires { ⌜ Resolvable (now rule) ⌝ }
-    requires { ⌜ length (now images) ≡ sideLimit ⌝ }
-    requires { ⌜ length (now places) ≡ sideLimit ⌝ }
+    requires { ⌜ length (now images) ≡ sideCapacity ⌝ }
+    requires { ⌜ length (now places) ≡ sideCapacity ⌝ }
     requires { ⌜ i < ruleOutputCount (now rule) ⌝ }
     ensures { λ r. ⌜ r ≡ moveOf (now (rule .entry)) (now (images .entry)) (now (places .entry)) i ⌝ }
 {
@@ -69,15 +76,15 @@ fn move_of(rule: &[u8], images: &[u16; SIDE_LIMIT], places: &[u16; SIDE_LIMIT], 
 // All moves of a rewriting, to be made at once.
 pub fn redirection_of(
     rule: &[u8],
-    images: &[u16; SIDE_LIMIT],
-    places: &[u16; SIDE_LIMIT],
+    images: &[u16; SIDE_CAPACITY],
+    places: &[u16; SIDE_CAPACITY],
 ) -> Redirection
     requires { ⌜ WholeRule (now rule) ⌝ }
     requires { ⌜ Layered (now rule) ⌝ }
     requires { ⌜ Resolvable (now rule) ⌝ }
     requires { ⌜ 0 < ruleOutputCount (now rule) ⌝ }
-    requires { ⌜ length (now images) ≡ sideLimit ⌝ }
-    requires { ⌜ length (now places) ≡ sideLimit ⌝ }
+    requires { ⌜ length (now images) ≡ sideCapacity ⌝ }
+    requires { ⌜ length (now places) ≡ sideCapacity ⌝ }
     ensures { λ r. ⌜ ((v : ℕ) → moved r v
         ≡ redirectBy (resolveIn (now (images .entry)) (now (places .entry))) (ruleOf (now (rule .entry))) (now (images .entry)) v) ⌝ }
 {
@@ -163,13 +170,13 @@ pub fn new_outputs(graph: &[u8], way: Redirection) -> [u16; OUTPUT_LIMIT]
 pub fn target_inputs(
     rule: &[u8],
     t: usize,
-    images: &[u16; SIDE_LIMIT],
-    places: &[u16; SIDE_LIMIT],
+    images: &[u16; SIDE_CAPACITY],
+    places: &[u16; SIDE_CAPACITY],
 ) -> [u16; INPUT_LIMIT]
     requires { ⌜ ReadableRule (now rule) ⌝ }
     requires { ⌜ Resolvable (now rule) ⌝ }
-    requires { ⌜ length (now images) ≡ sideLimit ⌝ }
-    requires { ⌜ length (now places) ≡ sideLimit ⌝ }
+    requires { ⌜ length (now images) ≡ sideCapacity ⌝ }
+    requires { ⌜ length (now places) ≡ sideCapacity ⌝ }
     requires { ⌜ t < targetCount (now rule) ⌝ }
     ensures { λ r. ⌜ r ≡ padded inputLimit unusedPlace
         (map (resolveIn (now (images .entry)) (now (places .entry))) (targetOf (ruleOf (now (rule .entry))) t .inputs)) ⌝ }

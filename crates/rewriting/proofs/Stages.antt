@@ -11,7 +11,7 @@ use lib.IntN.{ℤ}
 use lib.ListN.{length, take}
 use Rattle.definitions.specs.Reply.{noResult, noRoom, newCycle, refusal}
 use Rattle.definitions.specs.Graph.{unusedPlace, slotCount, Graph, graphOf, hasCycle, SoundGraph}
-use Rattle.definitions.specs.Rule.{sideLimit, sourceCount, targetCount, Rule, ruleOf, SoundRule}
+use Rattle.definitions.specs.Rule.{sideCapacity, sourceCount, targetCount, Rule, ruleOf, SoundRule}
 use Rattle.definitions.specs.Match.{imageOf, readAttribute}
 use Rattle.definitions.specs.Rewriting.{targetResults, freeSlots, hasRoom}
 use Rattle.definitions.specs.Operations.{accepted, turnedDown, rewritten}
@@ -44,7 +44,7 @@ module _ (graph rule images : List ℕ) (sound : SoundGraph graph) (soundRule : 
   abbrev found : List ℕ
   found = take (sourceCount rule) images
 
-  few : sourceCount rule ≤ sideLimit
+  few : sourceCount rule ≤ sideCapacity
   few = rule-readable rule soundRule .whole .source
 
   same : (j : ℕ) → imageOf images j ≡ imageOf found j

@@ -6,7 +6,7 @@ use blocks::write_map;
 use commit::commit;
 use definitions::HEADER_BYTES;
 use definitions::Reply;
-use definitions::SIDE_LIMIT;
+use definitions::SIDE_CAPACITY;
 use definitions::SLOT_BYTES;
 use definitions::SLOT_LIMIT;
 use graph_fields::slot_count;
@@ -33,7 +33,7 @@ const BLOCK_LIMIT: usize = HEADER_BYTES + SLOT_BYTES * SLOT_LIMIT;
 
 // What a rewriting at this match comes to: refusal 5, 6 or 7, in that order, or done with the new table in `table`. The cycle is
 // looked for in the new table, and the room counted after the removal.
-fn plan(graph: &[u8], rule: &[u8], images: &[u16; SIDE_LIMIT], table: &mut [u8]) -> Reply
+fn plan(graph: &[u8], rule: &[u8], images: &[u16; SIDE_CAPACITY], table: &mut [u8]) -> Reply
     requires { ⌜ SoundGraph (now graph) ⌝ }
     requires { ⌜ SoundRule (now rule) ⌝ }
     requires { ⌜ Matched (now graph) (now rule) (now images) ⌝ }
@@ -66,7 +66,7 @@ fn blank() -> [u8; BLOCK_LIMIT]
 }
 
 // Rewrites the graph at this match, or says how that is refused, and then leaves the graph as it is.
-fn replace(graph: &mut [u8], rule: &[u8], images: &[u16; SIDE_LIMIT]) -> Reply
+fn replace(graph: &mut [u8], rule: &[u8], images: &[u16; SIDE_CAPACITY]) -> Reply
     requires { ⌜ SoundGraph (now graph) ⌝ }
     requires { ⌜ SoundRule (now rule) ⌝ }
     requires { ⌜ Matched (now graph) (now rule) (now images) ⌝ }

@@ -12,20 +12,20 @@ use Rattle.definitions.specs.declared.Reply.the-variants.{Done}
 use Rattle.definitions.specs.Lists.{lowest, all, allBelow}
 use Rattle.definitions.specs.Fields.{byteAt}
 use Rattle.definitions.specs.Reply.{badRule, refused, flag, place, judged}
-use Rattle.definitions.specs.Rule.{nodeLimit, sourceCount, targetCount, ruleOutputCount, nodeCount, vertexAt, nodeAt, ruleOf, sourceInputs, ruleSizesFit, ruleOutputPlacesFit, ruleHeaderFits, patternFits, sourceInputsFit, targetInputsFit, badVertex, inVisitingOrder, outputsFit, badNode, badUse, ruleFaults, ruleReply}
+use Rattle.definitions.specs.Rule.{sideLimit, nodeLimit, sourceCount, targetCount, ruleOutputCount, nodeCount, vertexAt, nodeAt, ruleOf, sourceInputs, ruleSizesFit, ruleOutputPlacesFit, ruleHeaderFits, patternFits, sourceInputsFit, targetInputsFit, badVertex, inVisitingOrder, outputsFit, badNode, badUse, ruleFaults, ruleReply}
 use Rattle.laws.proofs.Lists.{needed, lowest-passed, all-at, allBelow-at}
 use Rattle.laws.proofs.Rule.{source-output-of, few-sources, few-targets, few-rule-outputs}
 use Rattle.rule_records.proofs.Laws.{pattern-inputs, pattern-attributes}
 use Rattle.rule_fields.specs.Layout.{WholeRule, ReadableRule, Layered}
 
 module _ (block : List ℕ) where
-  pub whole : ruleHeaderFits block ≡ true → WholeRule block
+  pub whole : ruleHeaderFits sideLimit block ≡ true → WholeRule block
   unfolding ruleHeaderFits ruleSizesFit
   whole h = record {
     size = eqb-true _ _ (needed (eqb (length block) (nodeAt block (nodeCount block))) h (λ f. simp f));
-    source = few-sources block h;
-    target = few-targets block h;
-    outputs = few-rule-outputs block h;
+    source = few-sources block sideLimit h;
+    target = few-targets block sideLimit h;
+    outputs = few-rule-outputs block sideLimit h;
     nodes = leb-true _ _ (needed (leb (nodeCount block) nodeLimit) h (λ f. simp (f, and-false)));
   }
 
@@ -54,7 +54,7 @@ module _ (block : List ℕ) where
         needed (sourceInputsFit (ruleOf block) j) (good j (omega arith))
         (λ f. simp (lt-ltb j (sourceCount block) l, f, and-false))
 
-    pub layered : ruleHeaderFits block ≡ true → Layered block
+    pub layered : ruleHeaderFits sideLimit block ≡ true → Layered block
     unfolding ruleHeaderFits ruleOutputPlacesFit
     layered h = record {
       lower = λ j i l m.
@@ -69,11 +69,11 @@ module _ (block : List ℕ) where
 
   -- ---- the reply, fault by fault: each kind refuses once those before it do not
 
-  pub refused-header : ruleHeaderFits block ≡ false → refused badRule ≡ ruleReply block
+  pub refused-header : ruleHeaderFits sideLimit block ≡ false → refused badRule ≡ ruleReply block
   unfolding ruleReply ruleFaults flag judged
   refused-header h = simp h
 
-  module _ (header : ruleHeaderFits block ≡ true) where
+  module _ (header : ruleHeaderFits sideLimit block ≡ true) where
     pub refused-vertex : lowest (badVertex block) (sourceCount block + targetCount block) < sourceCount block + targetCount block
         → refused badRule ≡ ruleReply block
     unfolding ruleReply ruleFaults flag place judged

@@ -14,7 +14,7 @@ use Rattle.definitions.specs.Lists.{lowest, all, range}
 use Rattle.definitions.specs.Fields.{byteAt}
 use Rattle.definitions.specs.Paths.{Reaches}
 use Rattle.definitions.specs.Reply.{badRule, flag, place}
-use Rattle.definitions.specs.Rule.{sourceCount, targetCount, nodeCount, vertexAt, ruleOf, sourceInputs, ruleHeaderFits, originFits, sourceInputsFit, targetInputsFit, badVertex, inVisitingOrder, reaches, sourceOutputsFit, connected, allNamed, outputsFit, nodeFits, badNode, useFits, badUse, ruleFaults, ruleReply, SoundRule}
+use Rattle.definitions.specs.Rule.{sideLimit, sourceCount, targetCount, nodeCount, vertexAt, ruleOf, sourceInputs, ruleHeaderFits, originFits, sourceInputsFit, targetInputsFit, badVertex, inVisitingOrder, reaches, sourceOutputsFit, connected, allNamed, outputsFit, nodeFits, badNode, useFits, badUse, ruleFaults, ruleReply, SoundRule}
 use Rattle.laws.proofs.Lists.{decided, needed, lowest-whole, lowest-passed, all-member, all-members, allBelow-at, allBelow-every, anyBelow-found, anyBelow-some}
 use Rattle.laws.proofs.Ranges.{same-lists, same-self}
 use Rattle.laws.proofs.Reply.{flag-none, place-none, judged-first, judged-rest}
@@ -25,7 +25,7 @@ use Rattle.rule_check.proofs.Laws.{good, pattern, sound}
 module _ (block : List ℕ) where
   -- what done says of each kind of fault
   pub record Faultless : Type 0 where
-    pub header : ruleHeaderFits block ≡ true
+    pub header : ruleHeaderFits sideLimit block ≡ true
     pub vertices : sourceCount block + targetCount block ≤ lowest (badVertex block) (sourceCount block + targetCount block)
     pub order : inVisitingOrder (ruleOf block) ≡ true
     pub outputs : outputsFit (ruleOf block) ≡ true
@@ -36,7 +36,7 @@ module _ (block : List ℕ) where
   unfolding ruleReply ruleFaults
   faultless h =
       let n = sourceCount block + targetCount block in
-      let f₁ = flag (not (ruleHeaderFits block)) in
+      let f₁ = flag (not (ruleHeaderFits sideLimit block)) in
       let f₂ = place n (lowest (badVertex block) n) in
       let f₃ = flag (not (inVisitingOrder (ruleOf block))) in
       let f₄ = flag (not (outputsFit (ruleOf block))) in
@@ -48,7 +48,7 @@ module _ (block : List ℕ) where
       let h₅ = judged-rest badRule f₄ (f₅ ∷ f₆ ∷ []) h₄ in
       let h₆ = judged-rest badRule f₅ (f₆ ∷ []) h₅ in
       record {
-        header = not-false _ (flag-none (not (ruleHeaderFits block)) (judged-first badRule f₁ (f₂ ∷ f₃ ∷ f₄ ∷ f₅ ∷ f₆ ∷ []) h));
+        header = not-false _ (flag-none (not (ruleHeaderFits sideLimit block)) (judged-first badRule f₁ (f₂ ∷ f₃ ∷ f₄ ∷ f₅ ∷ f₆ ∷ []) h));
         vertices = place-none n (lowest (badVertex block) n) (judged-first badRule f₂ (f₃ ∷ f₄ ∷ f₅ ∷ f₆ ∷ []) h₂);
         order = not-false _ (flag-none (not (inVisitingOrder (ruleOf block))) (judged-first badRule f₃ (f₄ ∷ f₅ ∷ f₆ ∷ []) h₃));
         outputs = not-false _ (flag-none (not (outputsFit (ruleOf block))) (judged-first badRule f₄ (f₅ ∷ f₆ ∷ []) h₄));
@@ -80,7 +80,7 @@ module _ (block : List ℕ) where
           found .0,
           omega (arith, found .1, length-source block),
           λ o m. reached-path (ruleOf block) (inputs-lower block lower-inputs) (found .0) o
-              (rw (length-source block) (outputs-below block (f .header) o m))
+              (rw (length-source block) (outputs-below block sideLimit (f .header) o m))
               (all-member (reaches (ruleOf block) (found .0)) (found .2) m),
         )
 
@@ -130,7 +130,7 @@ module _ (block : List ℕ) where
         (rw (length-source block) (s .connection .1))
         (all-members (reaches (ruleOf block) (s .connection .0)) (ruleOf block .sourceOutputs)
         (λ o m. path-reached (ruleOf block) (inputs-lower block (s .lowerInputs)) (s .connection .0) o
-        (rw (length-source block) (outputs-below block (s .header) o m)) (s .connection .2 o m)))
+        (rw (length-source block) (outputs-below block sideLimit (s .header) o m)) (s .connection .2 o m)))
 
     outputs-good : outputsFit (ruleOf block) ≡ true
     unfolding outputsFit

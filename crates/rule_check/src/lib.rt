@@ -1,5 +1,6 @@
 // Checking a rule block: the five kinds of fault, in document 01's order.
 use definitions::Reply;
+use definitions::SIDE_LIMIT;
 use reply::BAD_RULE;
 use reply::refuse;
 use rule_expressions::bad_node;
@@ -26,7 +27,7 @@ fn bad_rule() -> Reply
 pub fn check(rule: &[u8]) -> Reply
     ensures { λ r. ⌜ r ≡ ruleReply (now (rule .entry)) ⌝ }
 {
-    if !header_fits(rule) {
+    if !header_fits(rule, SIDE_LIMIT) {
         return bad_rule();
     }
     let vertices = source_count(rule) + target_count(rule);

@@ -6,13 +6,13 @@ use Prim.Native.Nat.{ℕ, _+_, _<_, _≤_}
 use lib.ListN.{length, getD}
 use Rattle.definitions.specs.Fields.{byteAt}
 use Rattle.definitions.specs.Graph.{inputLimit, attributeLimit}
-use Rattle.definitions.specs.Rule.{sideLimit, ruleOutputLimit, nodeLimit, sourceCount, targetCount, ruleOutputCount, nodeCount, vertexAt, nodeAt, ruleOf, sourceInputs}
+use Rattle.definitions.specs.Rule.{sideCapacity, ruleOutputLimit, nodeLimit, sourceCount, targetCount, ruleOutputCount, nodeCount, vertexAt, nodeAt, ruleOf, sourceInputs}
 
 -- the block holds its header and all the vertices and nodes that the header counts
 pub record WholeRule (block : List ℕ) : Type 0 where
   pub size : length block ≡ nodeAt block (nodeCount block)
-  pub source : sourceCount block ≤ sideLimit
-  pub target : targetCount block ≤ sideLimit
+  pub source : sourceCount block ≤ sideCapacity
+  pub target : targetCount block ≤ sideCapacity
   pub outputs : ruleOutputCount block ≤ ruleOutputLimit
   pub nodes : nodeCount block ≤ nodeLimit
 

@@ -12,7 +12,7 @@ use lib.Dec.{ltb}
 use lib.ListN.{length, getD, length-append, List·getD-append}
 use lib.Seq.{ext-getD, getD-append-seam}
 use Rattle.definitions.specs.Lists.{tabulate, foldl, member, range}
-use Rattle.definitions.specs.Rule.{Rule, SoundRule, ruleOf, sourceInputs, visit, traversal}
+use Rattle.definitions.specs.Rule.{sideLimit, Rule, SoundRule, ruleOf, sourceInputs, visit, traversal}
 use Rattle.laws.proofs.Lists.{decided}
 use Rattle.laws.proofs.Ranges.{length-range, range-at, range-more}
 use Rattle.laws.proofs.Rule.{length-source, outputs-below}
@@ -168,7 +168,7 @@ module _ (block : List ℕ) (sound : SoundRule block) where
   whole-order = append-nil (traversal (ruleOf block)) ∙ sound .order ∙ ap (range 0) (sym (length-source block))
 
   outputs-deep : (u : ℕ) → List·Memᴰ u (ruleOf block .sourceOutputs) → u < length (ruleOf block .source)
-  outputs-deep u m = rw (length-source block) (outputs-below block (sound .header) u m)
+  outputs-deep u m = rw (length-source block) (outputs-below block sideLimit (sound .header) u m)
 
   pub in-order-start : InOrder (ruleOf block) 0 (ruleOf block .sourceOutputs)
   in-order-start = record { depth = length (ruleOf block .source); deep = outputs-deep; later = []; order = whole-order }

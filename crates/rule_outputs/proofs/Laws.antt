@@ -12,7 +12,7 @@ use lib.ListN.{length, getD, drop, set, replicate}
 use lib.Seq.{getD-set-same, getD-set-other}
 use Rattle.definitions.specs.Lists.{within, build, any, member}
 use Rattle.definitions.specs.Operators.{kindCall, kindProj}
-use Rattle.definitions.specs.Rule.{Origin, Pattern, Rule, given, made, originOf, wildcard, sourceOf, targetOf, sourceInputs, reached, reaches, sameOrigin}
+use Rattle.definitions.specs.Rule.{placeNumbers, targetBase, sideCapacity, Origin, Pattern, Rule, given, made, originOf, wildcard, sourceOf, targetOf, sourceInputs, reached, reaches, sameOrigin}
 use Rattle.laws.proofs.Lists.{decided}
 use Rattle.laws.proofs.Walks.{any-next, any-ends, any-same}
 use Rattle.laws.proofs.Builds.{getD-none, getD-padded, build-more}
@@ -32,26 +32,26 @@ reachedNext r v before w = eqb v w || any (λ u. getD before u false) (sourceInp
 -- two place numbers name the same only where they are the same
 pub same-place : (p q : ℕ) → sameOrigin (originOf p) (originOf q) ≡ eqb p q
 unfolding originOf sameOrigin
-same-place p q = go (decided (ltb p 16)) (decided (ltb q 16))
+same-place p q = go (decided (ltb p targetBase)) (decided (ltb q targetBase))
   where
-    go : (ltb p 16 ≡ true) ⊎ (ltb p 16 ≡ false) → (ltb q 16 ≡ true) ⊎ (ltb q 16 ≡ false)
+    go : (ltb p targetBase ≡ true) ⊎ (ltb p targetBase ≡ false) → (ltb q targetBase ≡ true) ⊎ (ltb q targetBase ≡ false)
         → sameOrigin (originOf p) (originOf q) ≡ eqb p q
     go (inl s) (inl t) = simp (s, t)
-    go (inl s) (inr t) = simp (s, t) (sym (ne-eqb p q (λ e. omega (arith, ltb-true p 16 s, ltb-false q 16 t))))
-    go (inr s) (inl t) = simp (s, t) (sym (ne-eqb p q (λ e. omega (arith, ltb-false p 16 s, ltb-true q 16 t))))
+    go (inl s) (inr t) = simp (s, t) (sym (ne-eqb p q (λ e. omega (arith, ltb-true p targetBase s, ltb-false q targetBase t))))
+    go (inr s) (inl t) = simp (s, t) (sym (ne-eqb p q (λ e. omega (arith, ltb-false p targetBase s, ltb-true q targetBase t))))
     go (inr s) (inr t) = simp (s, t) (⊎-elim
-        (λ (e : eqb p q ≡ true). eq-eqb (p - 16) (q - 16) (ap (λ (n : ℕ). n - 16) (eqb-true p q e)) ∙ sym e)
+        (λ (e : eqb p q ≡ true). eq-eqb (p - targetBase) (q - targetBase) (ap (λ (n : ℕ). n - targetBase) (eqb-true p q e)) ∙ sym e)
         (λ (e : eqb p q ≡ false).
-        ne-eqb (p - 16) (q - 16) (λ h. eqb-false p q e (omega (arith, ltb-false p 16 s, ltb-false q 16 t))) ∙ sym e)
+        ne-eqb (p - targetBase) (q - targetBase) (λ h. eqb-false p q e (omega (arith, ltb-false p targetBase s, ltb-false q targetBase t))) ∙ sym e)
         (decided (eqb p q)))
 
-pub given-place : (j : ℕ) → j < 16 → originOf j ≡ given j
+pub given-place : (j : ℕ) → j < targetBase → originOf j ≡ given j
 unfolding originOf
-given-place j l = simp (lt-ltb j 16 l)
+given-place j l = simp (lt-ltb j targetBase l)
 
-pub made-place : (t : ℕ) → originOf (16 + t) ≡ made t
+pub made-place : (t : ℕ) → originOf (targetBase + t) ≡ made t
 unfolding originOf
-made-place t = rw (le-ltb (16 + t) 16 (omega arith)) (ap made (omega arith))
+made-place t = rw (le-ltb (targetBase + t) targetBase (omega arith)) (ap made (omega arith))
 
 -- One more place number is marked: what the marks say of the places passed, and the test of those left, together stay the same.
 pub mark-more : (used : List Bool) (xs : List Origin) (i x p : ℕ) (d : Origin) → x < length used → i < length xs
@@ -86,18 +86,18 @@ next-padded r v before n w =
     (λ u m. getD-padded before n u false))
 
 -- the array of what v reaches, when one more entry is stored, and when all are
-module _ (r : Rule) (v n : ℕ) (found : List Bool) (so-far : found ≡ build (reachedNext r v) n ++ replicate (16 - n) false) where
-  pub reached-more : (x : Bool) → n < 16 → x ≡ reachedNext r v found n
-      → set found n x ≡ build (reachedNext r v) (n + 1) ++ replicate (16 - (n + 1)) false
+module _ (r : Rule) (v n : ℕ) (found : List Bool) (so-far : found ≡ build (reachedNext r v) n ++ replicate (sideCapacity - n) false) where
+  pub reached-more : (x : Bool) → n < sideCapacity → x ≡ reachedNext r v found n
+      → set found n x ≡ build (reachedNext r v) (n + 1) ++ replicate (sideCapacity - (n + 1)) false
   reached-more x l e =
       ap (λ (xs : List Bool). set xs n x) so-far
-      ∙ build-more (reachedNext r v) 16 n false x l
-      (e ∙ ap (λ (xs : List Bool). reachedNext r v xs n) so-far ∙ next-padded r v (build (reachedNext r v) n) (16 - n) n)
+      ∙ build-more (reachedNext r v) sideCapacity n false x l
+      (e ∙ ap (λ (xs : List Bool). reachedNext r v xs n) so-far ∙ next-padded r v (build (reachedNext r v) n) (sideCapacity - n) n)
 
   pub reached-all : n ≡ length (r .source) → (w : ℕ) → getD found w false ≡ reaches r v w
   unfolding reaches reached
   reached-all e w =
-      ap (λ (xs : List Bool). getD xs w false) so-far ∙ getD-padded (build (reachedNext r v) n) (16 - n) w false
+      ap (λ (xs : List Bool). getD xs w false) so-far ∙ getD-padded (build (reachedNext r v) n) (sideCapacity - n) w false
       ∙ ap (λ (k : ℕ). getD (build (reachedNext r v) k) w false) e
 
 -- ---- marks
@@ -106,8 +106,8 @@ module _ (r : Rule) (v n : ℕ) (found : List Bool) (so-far : found ≡ build (r
 abbrev pub holds : ℕ → Pattern Origin → Bool
 holds p q = any (sameOrigin (originOf p)) (q .inputs)
 
-pub no-marks : (p : ℕ) → getD (replicate 256 false) p false ≡ false
-no-marks p = getD-none 256 p false
+pub no-marks : (p : ℕ) → getD (replicate placeNumbers false) p false ≡ false
+no-marks p = getD-none placeNumbers p false
 
 -- nothing is left to look at
 pub mark-ends {ℓ} : {A : Type ℓ} (q : A → Bool) (xs : List A) (i : ℕ) {m b : Bool} → length xs ≤ i

@@ -2,7 +2,9 @@
 // target place names every rule input and every target vertex.
 use definitions::KIND_CALL;
 use definitions::KIND_PROJ;
-use definitions::SIDE_LIMIT;
+use definitions::PLACE_NUMBERS;
+use definitions::SIDE_CAPACITY;
+use definitions::TARGET_BASE;
 use rule_fields::is_rule_input;
 use rule_fields::output_count;
 use rule_fields::source_count;
@@ -22,7 +24,7 @@ ghost use lib.Dec.{eqb};
 ghost use lib.ListN.{length, getD, drop};
 ghost use Rattle.definitions.specs.Lists.{within, allBelow, all, any, member, distinct};
 ghost use Rattle.definitions.specs.Operators.{kindCall, kindProj};
-ghost use Rattle.definitions.specs.Rule.{sourceCount, targetCount, ruleOutputCount, given, made, originOf, ruleOf, sourceOf, targetOf, sourceInputs, isRuleInput, originFits, reaches, sourceOutputsFit, connected, sameOrigin, named, allNamed, outputsFit};
+ghost use Rattle.definitions.specs.Rule.{placeNumbers, sourceCount, targetCount, ruleOutputCount, given, made, originOf, ruleOf, sourceOf, targetOf, sourceInputs, isRuleInput, originFits, reaches, sourceOutputsFit, connected, sameOrigin, named, allNamed, outputsFit};
 ghost use Rattle.rule_fields.specs.Layout.{WholeRule, ReadableRule, Layered};
 
 // ---- source outputs
@@ -149,7 +151,7 @@ fn source_outputs_fit(rule: &[u8]) -> bool
 // ---- connection
 
 // Whether some input of source vertex w is marked in found.
-fn has_marked_input(rule: &[u8], w: usize, found: &[bool; SIDE_LIMIT]) -> bool
+fn has_marked_input(rule: &[u8], w: usize, found: &[bool; SIDE_CAPACITY]) -> bool
     requires { ⌜ ReadableRule (now rule) ⌝ }
     requires { ⌜ Layered (now rule) ⌝ }
     requires { ⌜ w < sourceCount (now rule) ⌝ }
@@ -168,7 +170,7 @@ fn has_marked_input(rule: &[u8], w: usize, found: &[bool; SIDE_LIMIT]) -> bool
 }
 
 // Whether v reaches source vertex w, where found says it of the lower vertices: inputs are lower.
-fn reaches_next(rule: &[u8], v: usize, w: usize, found: &[bool; SIDE_LIMIT]) -> bool
+fn reaches_next(rule: &[u8], v: usize, w: usize, found: &[bool; SIDE_CAPACITY]) -> bool
     requires { ⌜ ReadableRule (now rule) ⌝ }
     requires { ⌜ Layered (now rule) ⌝ }
     requires { ⌜ w < sourceCount (now rule) ⌝ }
@@ -181,13 +183,13 @@ fn reaches_next(rule: &[u8], v: usize, w: usize, found: &[bool; SIDE_LIMIT]) -> 
 }
 
 // At w, whether source vertex v reaches w.
-fn reached_from(rule: &[u8], v: usize) -> [bool; SIDE_LIMIT]
+fn reached_from(rule: &[u8], v: usize) -> [bool; SIDE_CAPACITY]
     requires { ⌜ ReadableRule (now rule) ⌝ }
     requires { ⌜ Layered (now rule) ⌝ }
     ensures { λ r. ⌜ ((w : ℕ) → w < sourceCount (now (rule .entry)) → getD r w false ≡ reaches (ruleOf (now (rule .entry))) v w) ⌝ }
 {
     let count = source_count(rule);
-    let mut found = [false; SIDE_LIMIT];
+    let mut found = [false; SIDE_CAPACITY];
     let mut w = 0;
     while w < count {
         let next = reaches_next(rule, v, w, &found);
@@ -258,11 +260,11 @@ fn target_outputs_fit(rule: &[u8]) -> bool
 
 // Marks each place number that an input of target vertex t holds. The contract says how long the array is, since a proof does not
 // learn it from the type of a reference.
-fn mark_inputs(rule: &[u8], t: usize, used: &mut [bool; 256])
+fn mark_inputs(rule: &[u8], t: usize, used: &mut [bool; PLACE_NUMBERS])
     requires { ⌜ ReadableRule (now rule) ⌝ }
     requires { ⌜ t < targetCount (now rule) ⌝ }
-    requires { ⌜ length (now used) ≡ 256 ⌝ }
-    ensures { λ r. ⌜ (length (now (used .exit)) ≡ 256) × ((p : ℕ) → getD (now (used .exit)) p false
+    requires { ⌜ length (now used) ≡ placeNumbers ⌝ }
+    ensures { λ r. ⌜ (length (now (used .exit)) ≡ placeNumbers) × ((p : ℕ) → getD (now (used .exit)) p false
         ≡ (getD (now (used .entry)) p false || any (sameOrigin (originOf p)) (targetOf (ruleOf (now (rule .entry))) t .inputs))) ⌝ }
 {
     let count = target_input_count(rule, t);
@@ -275,10 +277,10 @@ fn mark_inputs(rule: &[u8], t: usize, used: &mut [bool; 256])
 }
 
 // Marks each place number that a target output holds.
-fn mark_outputs(rule: &[u8], used: &mut [bool; 256])
+fn mark_outputs(rule: &[u8], used: &mut [bool; PLACE_NUMBERS])
     requires { ⌜ WholeRule (now rule) ⌝ }
-    requires { ⌜ length (now used) ≡ 256 ⌝ }
-    ensures { λ r. ⌜ (length (now (used .exit)) ≡ 256) × ((p : ℕ) → getD (now (used .exit)) p false
+    requires { ⌜ length (now used) ≡ placeNumbers ⌝ }
+    ensures { λ r. ⌜ (length (now (used .exit)) ≡ placeNumbers) × ((p : ℕ) → getD (now (used .exit)) p false
         ≡ (getD (now (used .entry)) p false || any (sameOrigin (originOf p)) (ruleOf (now (rule .entry)) .targetOutputs))) ⌝ }
 {
     let outputs = output_count(rule);
@@ -291,11 +293,11 @@ fn mark_outputs(rule: &[u8], used: &mut [bool; 256])
 }
 
 // At p, whether some target place, an input or an output, holds the place number p.
-fn marked(rule: &[u8]) -> [bool; 256]
+fn marked(rule: &[u8]) -> [bool; PLACE_NUMBERS]
     requires { ⌜ ReadableRule (now rule) ⌝ }
     ensures { λ r. ⌜ ((p : ℕ) → getD r p false ≡ named (ruleOf (now (rule .entry))) (originOf p)) ⌝ }
 {
-    let mut used = [false; 256];
+    let mut used = [false; PLACE_NUMBERS];
     let count = target_count(rule);
     let mut t = 0;
     while t < count {
@@ -307,7 +309,7 @@ fn marked(rule: &[u8]) -> [bool; 256]
 }
 
 // Whether j is named where it is a rule input; used says which place numbers are named.
-fn input_named(rule: &[u8], j: usize, used: &[bool; 256]) -> bool
+fn input_named(rule: &[u8], j: usize, used: &[bool; PLACE_NUMBERS]) -> bool
     requires { ⌜ WholeRule (now rule) ⌝ }
     requires { ⌜ j < sourceCount (now rule) ⌝ }
     requires { ⌜ ((p : ℕ) → getD (now used) p false ≡ named (ruleOf (now rule)) (originOf p)) ⌝ }
@@ -320,7 +322,7 @@ fn input_named(rule: &[u8], j: usize, used: &[bool; 256]) -> bool
 }
 
 // Whether every rule input is named.
-fn inputs_named(rule: &[u8], used: &[bool; 256]) -> bool
+fn inputs_named(rule: &[u8], used: &[bool; PLACE_NUMBERS]) -> bool
     requires { ⌜ WholeRule (now rule) ⌝ }
     requires { ⌜ ((p : ℕ) → getD (now used) p false ≡ named (ruleOf (now rule)) (originOf p)) ⌝ }
     ensures { λ r. ⌜ r ≡ allBelow (λ j. not (isRuleInput (ruleOf (now (rule .entry))) j) || named (ruleOf (now (rule .entry))) (given j))
@@ -339,7 +341,7 @@ fn inputs_named(rule: &[u8], used: &[bool; 256]) -> bool
 }
 
 // Whether every target vertex is named.
-fn vertices_named(rule: &[u8], used: &[bool; 256]) -> bool
+fn vertices_named(rule: &[u8], used: &[bool; PLACE_NUMBERS]) -> bool
     requires { ⌜ WholeRule (now rule) ⌝ }
     requires { ⌜ ((p : ℕ) → getD (now used) p false ≡ named (ruleOf (now rule)) (originOf p)) ⌝ }
     ensures { λ r. ⌜ r ≡ allBelow (λ t. named (ruleOf (now (rule .entry))) (made t)) (length (ruleOf (now (rule .entry)) .target)) ⌝ }
@@ -347,7 +349,7 @@ fn vertices_named(rule: &[u8], used: &[bool; 256]) -> bool
     let count = target_count(rule);
     let mut t = 0;
     while t < count {
-        if used[SIDE_LIMIT + t] {
+        if used[TARGET_BASE + t] {
             t += 1;
         } else {
             return false;

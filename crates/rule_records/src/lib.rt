@@ -9,7 +9,7 @@ use definitions::RULE_HEADER_BYTES;
 use definitions::RULE_LETTER;
 use definitions::RULE_OUTPUT_LIMIT;
 use definitions::RULE_VERSION;
-use definitions::SIDE_LIMIT;
+use definitions::TARGET_BASE;
 use fields::byte_at;
 use fields::has_mark;
 use fields::is_filled;
@@ -31,20 +31,20 @@ ghost use Rattle.definitions.specs.Graph.{inputLimit};
 ghost use Rattle.definitions.specs.Rule.{ruleHeaderBytes, patternBytes, ruleOutputLimit, sourceCount, targetCount, ruleOutputCount, nodeCount, vertexAt, nodeAt, originOf, ruleOf, ruleSizesFit, ruleOutputPlacesFit, ruleHeaderFits, patternFits, originFits, sourceInputsFit, targetInputsFit, badVertex};
 ghost use Rattle.rule_fields.specs.Layout.{WholeRule};
 
-// Whether the header's four counts are in range.
-fn sizes_fit(rule: &[u8]) -> bool
+// Whether the header's four counts are in range, with at most `limit` vertices a side.
+fn sizes_fit(rule: &[u8], limit: usize) -> bool
     requires { ⌜ ruleHeaderBytes ≤ length (now rule) ⌝ }
-    ensures { λ r. ⌜ r ≡ ruleSizesFit (now (rule .entry)) ⌝ }
+    ensures { λ r. ⌜ r ≡ ruleSizesFit limit (now (rule .entry)) ⌝ }
 {
     let source = source_count(rule);
     let outputs = output_count(rule);
     if source < 1 {
         return false;
     }
-    if SIDE_LIMIT < source {
+    if limit < source {
         return false;
     }
-    if SIDE_LIMIT < target_count(rule) {
+    if limit < target_count(rule) {
         return false;
     }
     if outputs < 1 {
@@ -90,9 +90,9 @@ fn length_fits(rule: &[u8]) -> bool
     rule.len() == RULE_HEADER_BYTES + PATTERN_BYTES * vertices + NODE_BYTES * nodes
 }
 
-// Whether the length and the header are right.
-pub fn header_fits(rule: &[u8]) -> bool
-    ensures { λ r. ⌜ r ≡ ruleHeaderFits (now (rule .entry)) ⌝ }
+// Whether the length and the header are right, with at most `limit` vertices a side.
+pub fn header_fits(rule: &[u8], limit: usize) -> bool
+    ensures { λ r. ⌜ r ≡ ruleHeaderFits limit (now (rule .entry)) ⌝ }
 {
     if rule.len() < RULE_HEADER_BYTES {
         return false;
@@ -106,7 +106,7 @@ pub fn header_fits(rule: &[u8]) -> bool
     if u16_at(rule, 4) != RULE_VERSION {
         return false;
     }
-    if !sizes_fit(rule) {
+    if !sizes_fit(rule, limit) {
         return false;
     }
     if !output_places_fit(rule) {
@@ -157,10 +157,10 @@ pub fn origin_fits(rule: &[u8], t: usize, p: usize) -> bool
     requires { ⌜ WholeRule (now rule) ⌝ }
     ensures { λ r. ⌜ r ≡ originFits (ruleOf (now (rule .entry))) t (originOf p) ⌝ }
 {
-    if p < SIDE_LIMIT {
+    if p < TARGET_BASE {
         return is_rule_input(rule, p);
     }
-    p - SIDE_LIMIT < t
+    p - TARGET_BASE < t
 }
 
 // Whether target vertex t is of a target's kind, and its inputs name rule inputs and earlier target

@@ -13,7 +13,7 @@ use lib.ListN.{length, getD, List·getD-eq-default}
 use Rattle.definitions.specs.Fields.{byteAt}
 use Rattle.definitions.specs.Operators.{kindEmpty, kindVariable, kinds, rowOf, shapeFits}
 use Rattle.definitions.specs.Graph.{unusedPlace, slotCount, graphOf, inputsOf, isVertex, badRecord, badInputs, SoundGraph}
-use Rattle.definitions.specs.Rule.{ruleOutputLimit, sourceCount, ruleOutputCount, vertexAt, anything, Pattern, ruleOf, expressionOf, wildcard, sourceOf, sourceInputs, inputKind, isRuleInput, accessesBelow, useFits, SoundRule}
+use Rattle.definitions.specs.Rule.{sideLimit, ruleOutputLimit, sourceCount, ruleOutputCount, vertexAt, anything, Pattern, ruleOf, expressionOf, wildcard, sourceOf, sourceInputs, inputKind, isRuleInput, accessesBelow, useFits, SoundRule}
 use Rattle.laws.proofs.Lists.{decided, needed, lowest-whole, all-members, length-none}
 use Rattle.laws.proofs.Operators.{row-inputs, row-attributes}
 use Rattle.laws.proofs.Members.{mem-at}
@@ -68,7 +68,7 @@ module _ (block : List ℕ) (sound : SoundRule block) where
   rule-layered = record {
     lower = λ j i l m. inputs-lower block (sound .lowerInputs) j (getD (sourceInputs (ruleOf block) j) i 255)
         (mem-at (sourceInputs (ruleOf block) j) i 255 m);
-    outputs = λ i l. outputs-below block (sound .header) (getD (ruleOf block .sourceOutputs) i 255)
+    outputs = λ i l. outputs-below block sideLimit (sound .header) (getD (ruleOf block .sourceOutputs) i 255)
         (mem-at (ruleOf block .sourceOutputs) i 255 (rw (length-source-outputs block) l));
   }
 
@@ -135,4 +135,4 @@ module _ (block : List ℕ) (sound : SoundRule block) where
 
   -- one output or two
   pub output-counts : (1 ≤ ruleOutputCount block) × (ruleOutputCount block ≤ ruleOutputLimit)
-  output-counts = (some-rule-outputs block (sound .header), few-rule-outputs block (sound .header))
+  output-counts = (some-rule-outputs block sideLimit (sound .header), few-rule-outputs block sideLimit (sound .header))

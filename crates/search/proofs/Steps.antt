@@ -11,7 +11,7 @@ use borrow.Author.Tests.{eqb-true, eqb-false, ltb-true, ltb-false}
 use lib.Dec.{eqb, ltb}
 use lib.ListN.{length, getD, take, replicate, length-replicate}
 use Rattle.definitions.specs.Graph.{unusedPlace, slotCount, Graph, graphOf}
-use Rattle.definitions.specs.Rule.{sideLimit, sourceCount, ruleOutputCount, Rule, ruleOf, SoundRule}
+use Rattle.definitions.specs.Rule.{sideCapacity, sourceCount, ruleOutputCount, Rule, ruleOf, SoundRule}
 use Rattle.definitions.specs.Match.{imageOf, Match, MatchFrom, outputImages, NotAfter, leastMatch}
 use Rattle.laws.proofs.Lists.{decided, true-not-false}
 use Rattle.laws.proofs.Builds.{getD-none}
@@ -90,12 +90,12 @@ pass-first g r o start first passed never = record {
 
 -- sixteen places, with 65535 in those that no source vertex has
 pub record Blank (r : Rule) (images : List ℕ) : Type 0 where
-  pub size : length images ≡ sideLimit
+  pub size : length images ≡ sideCapacity
   pub rest : (i : ℕ) → length (r .source) ≤ i → imageOf images i ≡ unusedPlace
 
-pub blank-start : (r : Rule) → Blank r (replicate sideLimit unusedPlace)
+pub blank-start : (r : Rule) → Blank r (replicate sideCapacity unusedPlace)
 unfolding imageOf
-blank-start r = record { size = length-replicate sideLimit unusedPlace; rest = λ i l. getD-none sideLimit i unusedPlace }
+blank-start r = record { size = length-replicate sideCapacity unusedPlace; rest = λ i l. getD-none sideCapacity i unusedPlace }
 
 -- it has the images of all vertices up to the first output, which is sent to `first`, and no match that sends it there has others
 pub record Rooted (g : Graph) (r : Rule) (o first : ℕ) (images : List ℕ) : Type 0 where
@@ -186,7 +186,7 @@ module _ (graph rule : List ℕ) (sound : SoundRule rule) where
       → Finds (leastMatch g r start) (sourceCount rule) true made
   least-map start made end p e blank from least =
       let whole : Partial g r (length (r .source)) made = rw e at p in
-      let fits : length (r .source) ≤ sideLimit = rw (length-source rule) (rule-readable rule sound .whole .source) in
+      let fits : length (r .source) ≤ sideCapacity = rw (length-source rule) (rule-readable rule sound .whole .source) in
       let f = formed rule (rule-matchable rule sound) in
       let same = short-images g r f made whole (blank .rest) fits in
       let isMatch = partial-match g r f made whole (blank .rest) fits in

@@ -9,7 +9,7 @@ use lib.ListN.{length, take}
 use lib.Seq.{length-take-le}
 use Rattle.definitions.specs.Operators.{kindEmpty}
 use Rattle.definitions.specs.Graph.{unusedPlace, Graph, slotOf, inputsOf, isVertex}
-use Rattle.definitions.specs.Rule.{sideLimit, Rule, sourceOf, sourceInputs, isRuleInput}
+use Rattle.definitions.specs.Rule.{sideCapacity, Rule, sourceOf, sourceInputs, isRuleInput}
 use Rattle.definitions.specs.Match.{imageOf, isInterior, Takes, Match}
 use Rattle.laws.proofs.Lists.{true-not-false}
 use Rattle.laws.proofs.Members.{holds, true-holds}
@@ -23,7 +23,7 @@ use Rattle.matching.proofs.Candidates.{Formed, wild-input}
 use Rattle.matching.proofs.Maps.{takes-same}
 
 module _ (g : Graph) (r : Rule) (f : Formed r) (images : List ℕ) (p : Partial g r (length (r .source)) images)
-    (rest : (i : ℕ) → length (r .source) ≤ i → imageOf images i ≡ unusedPlace) (fits : length (r .source) ≤ sideLimit) where
+    (rest : (i : ℕ) → length (r .source) ≤ i → imageOf images i ≡ unusedPlace) (fits : length (r .source) ≤ sideCapacity) where
   abbrev short : List ℕ
   short = take (length (r .source)) images
 

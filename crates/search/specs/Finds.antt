@@ -7,13 +7,13 @@ use mathlib.Core.Option.{Option, none, some}
 use Prim.Native.Nat.{ℕ, _≤_}
 use lib.ListN.{length, take}
 use Rattle.definitions.specs.Graph.{unusedPlace}
-use Rattle.definitions.specs.Rule.{sideLimit}
+use Rattle.definitions.specs.Rule.{sideCapacity}
 use Rattle.definitions.specs.Match.{imageOf}
 
 -- `best` is the least match, of n images; where there is one, the array begins with them, and 65535 stands in its other places.
 pub record Finds (best : Option (List ℕ)) (n : ℕ) (ok : Bool) (images : List ℕ) : Type 0 where
   pub found : ok ≡ true → best ≡ some (take n images)
   pub none : ok ≡ false → best ≡ none
-  pub size : ok ≡ true → length images ≡ sideLimit
-  pub small : ok ≡ true → n ≤ sideLimit
+  pub size : ok ≡ true → length images ≡ sideCapacity
+  pub small : ok ≡ true → n ≤ sideCapacity
   pub rest : ok ≡ true → (i : ℕ) → n ≤ i → imageOf images i ≡ unusedPlace

@@ -1,6 +1,6 @@
 // The least match from a start: images of the outputs are tried in order, the first output's from `start` up, and for each of
 // these the second output's from 0 up. Output images fix the rest of a match, so the first that leads to a match leads to the least.
-use definitions::SIDE_LIMIT;
+use definitions::SIDE_CAPACITY;
 use definitions::SLOT_LIMIT;
 use definitions::UNUSED_PLACE;
 use graph_fields::slot_count;
@@ -18,7 +18,7 @@ ghost use Rattle.search.specs.Finds.{Finds};
 // The images of all source vertices, where `ok`; in the places after them stands 65535.
 pub struct Found {
     pub ok: bool,
-    pub images: [u16; SIDE_LIMIT],
+    pub images: [u16; SIDE_CAPACITY],
 }
 
 // The nested search. A rule has one output or two: with one, the first output's image decides alone. The array is lent to every
@@ -27,7 +27,7 @@ fn search(
     graph: &[u8],
     rule: &[u8],
     uses: &[u16; SLOT_LIMIT],
-    demands: &[u16; SIDE_LIMIT],
+    demands: &[u16; SIDE_CAPACITY],
     start: usize,
 ) -> Found
     requires { ⌜ SoundGraph (now graph) ⌝ }
@@ -41,7 +41,7 @@ fn search(
     let root = source_output(rule, 0);
     let last = source_output(rule, outputs - 1);
     let next = root + 1;
-    let mut images = [UNUSED_PLACE; SIDE_LIMIT];
+    let mut images = [UNUSED_PLACE; SIDE_CAPACITY];
     let mut found = false;
     let mut first = start;
     'search: while first < slots {

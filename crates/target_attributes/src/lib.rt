@@ -2,7 +2,7 @@
 use attributes::target_value;
 use definitions::ATTRIBUTE_LIMIT;
 use definitions::KIND_PROJ;
-use definitions::SIDE_LIMIT;
+use definitions::SIDE_CAPACITY;
 use numbers::Value;
 use rule_fields::target_attribute_count;
 use rule_fields::target_count;
@@ -13,7 +13,7 @@ ghost use mathlib.Core.Bool.{true};
 ghost use Prim.Native.Nat.{_<_};
 ghost use lib.ListN.{length};
 ghost use Rattle.definitions.specs.Graph.{graphOf};
-ghost use Rattle.definitions.specs.Rule.{sideLimit, targetCount, ruleOf, targetOf};
+ghost use Rattle.definitions.specs.Rule.{sideCapacity, targetCount, ruleOf, targetOf};
 ghost use Rattle.definitions.specs.Match.{readAttribute};
 ghost use Rattle.definitions.specs.Rewriting.{vertexResults, targetResults};
 ghost use Rattle.numbers.specs.Value.{valueOf, bounded};
@@ -57,11 +57,11 @@ fn is_fit(kind: usize, value: Value) -> bool
 }
 
 // The attributes of target vertex t.
-pub fn vertex_words(graph: &[u8], rule: &[u8], images: &[u16; SIDE_LIMIT], t: usize) -> Words
+pub fn vertex_words(graph: &[u8], rule: &[u8], images: &[u16; SIDE_CAPACITY], t: usize) -> Words
     requires { ⌜ ReadableGraph (now graph) ⌝ }
     requires { ⌜ ReadableRule (now rule) ⌝ }
     requires { ⌜ Evaluable (now rule) ⌝ }
-    requires { ⌜ length (now images) ≡ sideLimit ⌝ }
+    requires { ⌜ length (now images) ≡ sideCapacity ⌝ }
     requires { ⌜ t < targetCount (now rule) ⌝ }
     ensures { λ r. ⌜ Given (vertexResults (readAttribute (graphOf (now (graph .entry))) (now (images .entry)))
         (targetOf (ruleOf (now (rule .entry))) t)) (r .ok) (r .words) ⌝ }
@@ -82,11 +82,11 @@ pub fn vertex_words(graph: &[u8], rule: &[u8], images: &[u16; SIDE_LIMIT], t: us
 }
 
 // Whether every attribute of every target vertex has a fit result.
-pub fn all_fit(graph: &[u8], rule: &[u8], images: &[u16; SIDE_LIMIT]) -> bool
+pub fn all_fit(graph: &[u8], rule: &[u8], images: &[u16; SIDE_CAPACITY]) -> bool
     requires { ⌜ ReadableGraph (now graph) ⌝ }
     requires { ⌜ ReadableRule (now rule) ⌝ }
     requires { ⌜ Evaluable (now rule) ⌝ }
-    requires { ⌜ length (now images) ≡ sideLimit ⌝ }
+    requires { ⌜ length (now images) ≡ sideCapacity ⌝ }
     ensures { λ r. ⌜ r ≡ isGiven (targetResults (readAttribute (graphOf (now (graph .entry))) (now (images .entry)))
         (ruleOf (now (rule .entry)) .target)) ⌝ }
 {

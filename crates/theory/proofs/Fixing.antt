@@ -17,7 +17,7 @@ use Rattle.definitions.specs.Fields.{byteAt}
 use Rattle.definitions.specs.Operators.{kindEmpty, kinds, rowOf}
 use Rattle.definitions.specs.Graph.{unusedPlace, Graph, inputsOf}
 use Rattle.definitions.specs.Paths.{Reads}
-use Rattle.definitions.specs.Rule.{sourceCount, vertexAt, Pattern, Rule, ruleOf, wildcard, sourceOf, sourceInputs, visit, traversal, SoundRule}
+use Rattle.definitions.specs.Rule.{sideLimit, sourceCount, vertexAt, Pattern, Rule, ruleOf, wildcard, sourceOf, sourceInputs, visit, traversal, SoundRule}
 use Rattle.definitions.specs.Match.{imageOf, Match, outputImages, fromReader, imagesFrom, imagesFor}
 use Rattle.laws.proofs.Lists.{decided, true-not-false, length-none}
 use Rattle.laws.proofs.Rule.{source-reader, length-source, length-source-outputs, source-kind-at, source-count-at, some-rule-outputs, pattern-shape, outputs-below, inputs-lower}
@@ -182,7 +182,7 @@ module _ (block : List ℕ) (s : SoundRule block) where
       (decided (ltb j (sourceCount block)))
 
   sound-some : 0 < length (ruleOf block .sourceOutputs)
-  sound-some = omega (arith, some-rule-outputs block (s .header), length-source-outputs block)
+  sound-some = omega (arith, some-rule-outputs block sideLimit (s .header), length-source-outputs block)
 
   -- A sound rule is such a rule, so a match of a sound rule is fixed by its output images. That every source vertex is an output or
   -- read comes from the visiting order: the traversal visits outputs and inputs alone, and it visits every source vertex.
@@ -193,5 +193,5 @@ module _ (block : List ℕ) (s : SoundRule block) where
         (rw (s .order) (mem-range 0 (sourceCount block) v (omega arith) (rw (length-source block) at l)));
     plain = sound-plain;
     some = sound-some;
-    inside = λ o m. rw (length-source block) (outputs-below block (s .header) o m);
+    inside = λ o m. rw (length-source block) (outputs-below block sideLimit (s .header) o m);
   }

@@ -8,7 +8,7 @@ use Prim.Native.Nat.{ℕ}
 use Rattle.definitions.specs.declared.Reply.the-variants.{Done}
 use Rattle.definitions.specs.Reply.{badGraph, badRule, refusal, refused, numberOf, packed, judged}
 use Rattle.definitions.specs.Graph.{graphFaults, graphReply}
-use Rattle.definitions.specs.Rule.{ruleFaults, ruleReply}
+use Rattle.definitions.specs.Rule.{sideLimit, ruleFaults, ruleReply}
 use Rattle.laws.proofs.Reply.{packed-refused, judged-either}
 
 module _ (number : ℕ) (faults : List (Option ℕ)) where
@@ -38,8 +38,8 @@ graph-packed block = judged-packed badGraph (graphFaults block)
 -- and a rule 0 or 3
 pub rule-number : (block : List ℕ) → (numberOf (ruleReply block) ≡ 0) ⊎ (numberOf (ruleReply block) ≡ badRule)
 unfolding ruleReply
-rule-number block = judged-number badRule (ruleFaults block)
+rule-number block = judged-number badRule (ruleFaults sideLimit block)
 
 pub rule-packed : (block : List ℕ) → packed (ruleReply block) ≡ numberOf (ruleReply block)
 unfolding ruleReply
-rule-packed block = judged-packed badRule (ruleFaults block)
+rule-packed block = judged-packed badRule (ruleFaults sideLimit block)

@@ -1,6 +1,6 @@
 // Counts that a search makes once for each call, so that no candidate needs a look over the whole table: how often each slot is
 // named, and how often the image of each interior source vertex may be.
-use definitions::SIDE_LIMIT;
+use definitions::SIDE_CAPACITY;
 use definitions::SLOT_LIMIT;
 use graph_fields::input_at;
 use graph_fields::input_count;
@@ -16,7 +16,7 @@ ghost use Prim.Native.Nat.{ℕ, _+_, _<_};
 ghost use lib.ListN.{length, getD};
 ghost use Rattle.definitions.specs.Lists.{member};
 ghost use Rattle.definitions.specs.Graph.{slotLimit, slotCount, graphOf, inputsOf};
-ghost use Rattle.definitions.specs.Rule.{sideLimit, sourceCount, ruleOf, sourceInputs};
+ghost use Rattle.definitions.specs.Rule.{sideCapacity, sourceCount, ruleOf, sourceInputs};
 ghost use Rattle.definitions.specs.Match.{isInterior};
 ghost use Rattle.graph_fields.specs.Layout.{ReadableGraph, Closed, OutputsNamed};
 ghost use Rattle.rule_fields.specs.Layout.{WholeRule, ReadableRule, Layered};
@@ -111,12 +111,12 @@ fn is_interior(rule: &[u8], j: usize) -> bool
 }
 
 // Counts the input places of source vertex w, after those of the vertices below it.
-fn add_source_inputs(rule: &[u8], w: usize, places: &mut [u16; SIDE_LIMIT])
+fn add_source_inputs(rule: &[u8], w: usize, places: &mut [u16; SIDE_CAPACITY])
     requires { ⌜ ReadableRule (now rule) ⌝ }
     requires { ⌜ Layered (now rule) ⌝ }
     requires { ⌜ w < sourceCount (now rule) ⌝ }
-    requires { ⌜ Counted sideLimit (λ j. total (λ u. count j (sourceInputs (ruleOf (now rule)) u)) w) (now places) ⌝ }
-    ensures { λ r. ⌜ Counted sideLimit (λ j. total (λ u. count j (sourceInputs (ruleOf (now (rule .entry))) u)) (w + 1))
+    requires { ⌜ Counted sideCapacity (λ j. total (λ u. count j (sourceInputs (ruleOf (now rule)) u)) w) (now places) ⌝ }
+    ensures { λ r. ⌜ Counted sideCapacity (λ j. total (λ u. count j (sourceInputs (ruleOf (now (rule .entry))) u)) (w + 1))
         (now (places .exit)) ⌝ }
 {
     let inputs = source_input_count(rule, w);
@@ -129,13 +129,13 @@ fn add_source_inputs(rule: &[u8], w: usize, places: &mut [u16; SIDE_LIMIT])
 }
 
 // How often input places of source vertices name each source vertex.
-fn count_places(rule: &[u8]) -> [u16; SIDE_LIMIT]
+fn count_places(rule: &[u8]) -> [u16; SIDE_CAPACITY]
     requires { ⌜ ReadableRule (now rule) ⌝ }
     requires { ⌜ Layered (now rule) ⌝ }
-    ensures { λ r. ⌜ Counted sideLimit (placesOf (ruleOf (now (rule .entry)))) r ⌝ }
+    ensures { λ r. ⌜ Counted sideCapacity (placesOf (ruleOf (now (rule .entry)))) r ⌝ }
 {
     let vertices = source_count(rule);
-    let mut places = [0u16; SIDE_LIMIT];
+    let mut places = [0u16; SIDE_CAPACITY];
     let mut w = 0;
     while w < vertices {
         add_source_inputs(rule, w, &mut places);
@@ -145,10 +145,10 @@ fn count_places(rule: &[u8]) -> [u16; SIDE_LIMIT]
 }
 
 // What each source vertex demands of the uses of its image.
-pub fn count_demands(rule: &[u8]) -> [u16; SIDE_LIMIT]
+pub fn count_demands(rule: &[u8]) -> [u16; SIDE_CAPACITY]
     requires { ⌜ ReadableRule (now rule) ⌝ }
     requires { ⌜ Layered (now rule) ⌝ }
-    ensures { λ r. ⌜ (length r ≡ sideLimit)
+    ensures { λ r. ⌜ (length r ≡ sideCapacity)
         × ((j : ℕ) → j < sourceCount (now (rule .entry)) → getD r j 0 ≡ demandOf (ruleOf (now (rule .entry))) j) ⌝ }
 {
     let vertices = source_count(rule);

@@ -7,7 +7,7 @@ use Prim.Native.Nat.{ℕ, _<_}
 use lib.ListN.{length, getD}
 use Rattle.definitions.specs.Lists.{filter, position, range}
 use Rattle.definitions.specs.Graph.{Graph, unusedPlace}
-use Rattle.definitions.specs.Rule.{Rule, sideLimit}
+use Rattle.definitions.specs.Rule.{Rule, sideCapacity}
 use Rattle.definitions.specs.Rewriting.{stays, freeSlots, placeOf}
 use Rattle.laws.proofs.Members.{range-mem}
 use Rattle.laws.proofs.Filtered.{filter-same, filtered-position}
@@ -25,7 +25,7 @@ marked-free g r images marks m =
 -- the slots listed are the target vertices' places
 pub lowest-places : (g : Graph) (r : Rule) (images : List ℕ) (count : ℕ) (slots : List ℕ)
     → Lowest (freeSlots g r images) count slots
-    → (t : ℕ) → t < sideLimit → getD slots t unusedPlace ≡ placeOf g r images t
+    → (t : ℕ) → t < sideCapacity → getD slots t unusedPlace ≡ placeOf g r images t
 unfolding placeOf
 lowest-places g r images count slots h t l = h .each t l
 

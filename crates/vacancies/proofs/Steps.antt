@@ -13,7 +13,7 @@ use lib.ListN.{length, getD, set, replicate, length-set, length-append, length-r
 use lib.Seq.{getD-set-same, getD-set-other, getD-at}
 use Rattle.definitions.specs.Lists.{anyBelow, tabulate, filter, range}
 use Rattle.definitions.specs.Graph.{slotLimit, unusedPlace, Graph, isVertex}
-use Rattle.definitions.specs.Rule.{sideLimit, Rule, isRuleInput}
+use Rattle.definitions.specs.Rule.{sideCapacity, Rule, isRuleInput}
 use Rattle.definitions.specs.Match.{imageOf}
 use Rattle.definitions.specs.Rewriting.{isRemoved, stays}
 use Rattle.laws.proofs.Lists.{decided, true-not-false, and-left, and-right, anyBelow-found, anyBelow-some}
@@ -135,9 +135,9 @@ module _ (g : Graph) (r : Rule) (images : List ℕ) where
 
 -- ---- the slots listed
 
-pub lowest-none : (marks : List Bool) → Lowest (marked marks 0) 0 (replicate 16 65535)
+pub lowest-none : (marks : List Bool) → Lowest (marked marks 0) 0 (replicate sideCapacity unusedPlace)
 unfolding marked filter range tabulate
-lowest-none marks = record { counted = refl; size = refl; each = λ t l. getD-none 16 t 65535 }
+lowest-none marks = record { counted = refl; size = refl; each = λ t l. getD-none sideCapacity t unusedPlace }
 
 module _ {free : List ℕ} {count : ℕ} {slots : List ℕ} (x : ℕ) (h : Lowest free count slots) where
   -- a slot more is counted
@@ -145,11 +145,11 @@ module _ {free : List ℕ} {count : ℕ} {slots : List ℕ} (x : ℕ) (h : Lowes
   counted-more = simp length-append (omega (arith, h .counted))
 
   -- the lower ones stand where they stood
-  lower-places : (t : ℕ) → t < sideLimit → t < count → getD slots t unusedPlace ≡ getD (free ++ x ∷ []) t unusedPlace
+  lower-places : (t : ℕ) → t < sideCapacity → t < count → getD slots t unusedPlace ≡ getD (free ++ x ∷ []) t unusedPlace
   lower-places t l below = h .each t l ∙ sym (List·getD-append free (x ∷ []) unusedPlace t (omega (arith, h .counted)))
 
   -- one more slot, where there is a place for it
-  lowest-put : count < sideLimit → Lowest (free ++ x ∷ []) (count + 1) (set slots count x)
+  lowest-put : count < sideCapacity → Lowest (free ++ x ∷ []) (count + 1) (set slots count x)
   lowest-put l = record {
     counted = counted-more;
     size = simp length-set (h .size);
@@ -170,7 +170,7 @@ module _ {free : List ℕ} {count : ℕ} {slots : List ℕ} (x : ℕ) (h : Lowes
   }
 
   -- and where there is none
-  lowest-past : sideLimit ≤ count → Lowest (free ++ x ∷ []) (count + 1) slots
+  lowest-past : sideCapacity ≤ count → Lowest (free ++ x ∷ []) (count + 1) slots
   lowest-past l = record { counted = counted-more; size = h .size; each = λ t m. lower-places t m (omega arith) }
 
 -- the list of the marked slots, when one more slot is looked at
@@ -185,10 +185,10 @@ module _ (marks : List Bool) (k : ℕ) where
 
 module _ (marks : List Bool) (k : ℕ) {count : ℕ} {slots : List ℕ} (h : Lowest (marked marks k) count slots) where
   -- a marked slot is listed where there is a place for it, and counted
-  pub lowest-listed : getD marks k false ≡ true → count < sideLimit → Lowest (marked marks (k + 1)) (count + 1) (set slots count k)
+  pub lowest-listed : getD marks k false ≡ true → count < sideCapacity → Lowest (marked marks (k + 1)) (count + 1) (set slots count k)
   lowest-listed t l = rw (marked-more marks k t) (lowest-put k h l)
 
-  pub lowest-counted : getD marks k false ≡ true → sideLimit ≤ count → Lowest (marked marks (k + 1)) (count + 1) slots
+  pub lowest-counted : getD marks k false ≡ true → sideCapacity ≤ count → Lowest (marked marks (k + 1)) (count + 1) slots
   lowest-counted t l = rw (marked-more marks k t) (lowest-past k h l)
 
   -- another one is neither

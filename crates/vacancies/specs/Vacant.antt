@@ -7,7 +7,7 @@ use Prim.Native.Nat.{ℕ, _<_}
 use lib.ListN.{length, getD}
 use Rattle.definitions.specs.Lists.{filter, range}
 use Rattle.definitions.specs.Graph.{slotLimit, unusedPlace}
-use Rattle.definitions.specs.Rule.{sideLimit}
+use Rattle.definitions.specs.Rule.{sideCapacity}
 
 -- a mark for each of the first n slots, that says whether it is free
 pub record Marks (free : ℕ → Bool) (n : ℕ) (marks : List Bool) : Type 0 where
@@ -21,5 +21,5 @@ marked marks n = filter (λ k. getD marks k false) (range 0 n)
 -- how many free slots there are, and the lowest of them, as many as there are places
 pub record Lowest (free : List ℕ) (count : ℕ) (slots : List ℕ) : Type 0 where
   pub counted : count ≡ length free
-  pub size : length slots ≡ sideLimit
-  pub each : (t : ℕ) → t < sideLimit → getD slots t unusedPlace ≡ getD free t unusedPlace
+  pub size : length slots ≡ sideCapacity
+  pub each : (t : ℕ) → t < sideCapacity → getD slots t unusedPlace ≡ getD free t unusedPlace

@@ -1,6 +1,6 @@
 // The slots that are Empty after the removal, and the lowest of them, which the target vertices take in order.
 use definitions::KIND_EMPTY;
-use definitions::SIDE_LIMIT;
+use definitions::SIDE_CAPACITY;
 use definitions::SLOT_LIMIT;
 use definitions::UNUSED_PLACE;
 use fields::widened;
@@ -13,7 +13,7 @@ ghost use mathlib.Core.Bool.{not};
 ghost use Prim.Native.Nat.{ℕ, _<_, _≤_};
 ghost use lib.ListN.{length};
 ghost use Rattle.definitions.specs.Graph.{slotLimit, slotCount, graphOf, isVertex};
-ghost use Rattle.definitions.specs.Rule.{sideLimit, sourceCount, ruleOf};
+ghost use Rattle.definitions.specs.Rule.{sideCapacity, sourceCount, ruleOf};
 ghost use Rattle.definitions.specs.Match.{imageOf};
 ghost use Rattle.definitions.specs.Rewriting.{stays};
 ghost use Rattle.graph_fields.specs.Layout.{WholeGraph};
@@ -23,7 +23,7 @@ ghost use Rattle.vacancies.specs.Vacant.{Marks, marked, Lowest};
 // How many slots are free, and the lowest of them; 65535 stands in the places after the last.
 pub struct Places {
     pub count: usize,
-    pub slots: [u16; SIDE_LIMIT],
+    pub slots: [u16; SIDE_CAPACITY],
 }
 
 // Marks the slots that are Empty in the block as it came.
@@ -44,10 +44,10 @@ fn mark_empty(graph: &[u8]) -> [bool; SLOT_LIMIT]
 }
 
 // Marks the slots that are Empty after the removal: the images of the source vertices that are no rule inputs too.
-pub fn find_free(graph: &[u8], rule: &[u8], images: &[u16; SIDE_LIMIT]) -> [bool; SLOT_LIMIT]
+pub fn find_free(graph: &[u8], rule: &[u8], images: &[u16; SIDE_CAPACITY]) -> [bool; SLOT_LIMIT]
     requires { ⌜ WholeGraph (now graph) ⌝ }
     requires { ⌜ WholeRule (now rule) ⌝ }
-    requires { ⌜ length (now images) ≡ sideLimit ⌝ }
+    requires { ⌜ length (now images) ≡ sideCapacity ⌝ }
     requires { ⌜ ((j : ℕ) → j < sourceCount (now rule) → imageOf (now images) j < slotCount (now graph)) ⌝ }
     ensures { λ r. ⌜ Marks (λ k. not (stays (graphOf (now (graph .entry))) (ruleOf (now (rule .entry))) (now (images .entry)) k))
         (slotCount (now (graph .entry))) r ⌝ }
@@ -71,12 +71,12 @@ pub fn lowest_free(free: &[bool; SLOT_LIMIT], n: usize) -> Places
     requires { ⌜ n ≤ slotLimit ⌝ }
     ensures { λ r. ⌜ Lowest (marked (now (free .entry)) n) (r .count) (r .slots) ⌝ }
 {
-    let mut slots = [UNUSED_PLACE; SIDE_LIMIT];
+    let mut slots = [UNUSED_PLACE; SIDE_CAPACITY];
     let mut count = 0;
     let mut k = 0;
     while k < n {
         if free[k] {
-            if count < SIDE_LIMIT {
+            if count < SIDE_CAPACITY {
                 slots[count] = k as u16;
             }
             count += 1;

@@ -9,7 +9,7 @@ use borrow.Fn.Kinds.{In}
 use borrow.Fn.PlainCycle.{Measures, is, falls, and}
 use lib.ListN.{length, getD}
 use Rattle.definitions.specs.Graph.{slotCount, graphOf, inputsOf}
-use Rattle.definitions.specs.Rule.{ruleOf, sourceInputs}
+use Rattle.definitions.specs.Rule.{sideCapacity, ruleOf, sourceInputs}
 use Rattle.laws.proofs.Rule.{length-source}
 use Rattle.rule_order.specs.InOrder.{visitedAfter}
 use Rattle.rule_order.proofs.InOrder.{in-order-inputs, in-order-here}
@@ -231,7 +231,7 @@ well t s = formed (s .args .rule .now) (s .pre .1 .0 .matchable)
 inside : (t : ℕ) (s : VertexStart t) → s .args .j < length (ruleOf (s .args .rule .now) .source)
 inside t s = rw (length-source (s .args .rule .now)) (s .pre .1 .1 .0)
 
-place : (t : ℕ) (s : VertexStart t) → s .args .j < 16
+place : (t : ℕ) (s : VertexStart t) → s .args .j < sideCapacity
 place t s = omega (arith, s .pre .1 .1 .0, s .pre .1 .0 .matchable .readable .whole .source)
 
 candidate : (t : ℕ) (c : match-vertex-lts.Else2 (match-vertex-calls t) (match-vertex-at t) match-vertex.Post)

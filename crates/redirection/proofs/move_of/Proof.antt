@@ -1,9 +1,10 @@
--- A source output is a source vertex, of which there are at most 16, and a target output's place is inside.
+-- A source output is a source vertex, of which there are at most as many as the code has space for, and a target output's place is inside.
 -- Assumes nothing.
 use mathlib.Core.Path.{sym, ap, _∙_}
 use Prim.Native.Nat.{_<_}
 use native.Mathlib.Omega.{arith}
 use borrow.Author.Needs.{needs}
+use Rattle.definitions.specs.Rule.{sideCapacity}
 use Rattle.laws.proofs.Match.{image-at}
 use Rattle.definitions.specs.Match.{imageOf}
 use Rattle.redirection.specs.Moves.{originInside, resolveIn, moveOf}
@@ -11,7 +12,7 @@ use Rattle.redirection.proofs.Laws.{inside-place}
 use Rattle.redirection.proofs.move_of.Statement.{statement}
 use Rattle.redirection.proofs.move_of.Tie as tie
 
-output-below : (c : tie.After-source-output) → c .source-output .result < 16
+output-below : (c : tie.After-source-output) → c .source-output .result < sideCapacity
 output-below c =
     let s = c .before .before in
     omega (arith, s .pre .1 .0 .outputs (s .args .i) (s .pre .1 .1 .1 .1 .1), s .pre .0 .source, c .source-output .ensures .0)

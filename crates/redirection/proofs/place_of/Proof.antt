@@ -1,4 +1,4 @@
--- A place number below 16 is a rule input's, and one from 16 on a target vertex's.
+-- A place number below the first target one is a rule input's, and one from there on a target vertex's.
 -- Assumes nothing.
 use borrow.Author.Needs.{needs}
 use Rattle.redirection.proofs.Laws.{resolve-given, resolve-made}

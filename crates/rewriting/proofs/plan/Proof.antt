@@ -10,7 +10,7 @@ use borrow.Author.Tests.{not-true, not-false}
 use Rattle.definitions.specs.declared.Reply.the-variants.{Done}
 use Rattle.definitions.specs.Reply.{noResult, noRoom, newCycle, refusal}
 use Rattle.definitions.specs.Graph.{Graph, graphOf, hasCycle}
-use Rattle.definitions.specs.Rule.{targetCount, ruleOf}
+use Rattle.definitions.specs.Rule.{sideLimit, targetCount, ruleOf}
 use Rattle.definitions.specs.Rewriting.{freeSlots}
 use Rattle.laws.proofs.Graph.{length-slots}
 use Rattle.laws.proofs.Rule.{some-rule-outputs}
@@ -133,7 +133,7 @@ write-table-requires c κs =
       prepared (graph s) (rule s) (images s) (s .pre .0) (s .pre .1 .0) (s .pre .1 .1 .0) (fit l) (l .lowest-free .result .count)
           (l .lowest-free .result .slots) (places l),
       (
-        some-rule-outputs (rule s) (s .pre .1 .0 .header),
+        some-rule-outputs (rule s) sideLimit (s .pre .1 .0 .header),
         (l .before .before .before .find-free .ensures, s .pre .1 .1 .1),
       ),
     )

@@ -8,7 +8,7 @@ use mathlib.Core.List.{List}
 use Prim.Native.Nat.{ℕ, _+_, _≤_}
 use native.Mathlib.Omega.{arith}
 use Rattle.definitions.specs.Lists.{lowest}
-use Rattle.definitions.specs.Rule.{sourceCount, targetCount, nodeCount, ruleOf, ruleHeaderFits, badVertex, inVisitingOrder, outputsFit, badNode}
+use Rattle.definitions.specs.Rule.{sideLimit, sourceCount, targetCount, nodeCount, ruleOf, ruleHeaderFits, badVertex, inVisitingOrder, outputsFit, badNode}
 use Rattle.rule_fields.specs.Layout.{WholeRule, ReadableRule, Layered}
 use Rattle.rule_check.proofs.Laws.{whole, readable, layered, refused-header, refused-vertex, refused-order, refused-outputs, refused-node, refused-use, sound}
 use Rattle.rule_check.proofs.check.Statement.{statement}
@@ -19,7 +19,7 @@ use Rattle.rule_check.proofs.check.Tie as tie
 abbrev block₁ : tie.Else1 → List ℕ
 block₁ c = c .before .before .before .args .rule .now
 
-header : (c : tie.Else1) → ruleHeaderFits (block₁ c) ≡ true
+header : (c : tie.Else1) → ruleHeaderFits sideLimit (block₁ c) ≡ true
 header c = sym (c .before .header-fits .ensures) ∙ not-false (c .before .header-fits .result) (c .if1 .left)
 
 laid-out : (c : tie.Else1) → WholeRule (block₁ c)

@@ -7,7 +7,7 @@ use Prim.Native.Nat.{ℕ, _-_}
 use native.Mathlib.Omega.{arith}
 use lib.ListN.{length, getD, drop, length-set}
 use Rattle.definitions.specs.Lists.{any}
-use Rattle.definitions.specs.Rule.{ruleOf, originOf, sameOrigin, made}
+use Rattle.definitions.specs.Rule.{placeNumbers, ruleOf, originOf, sameOrigin, made}
 use Rattle.laws.proofs.Rule.{length-target-outputs}
 use Rattle.rule_outputs.proofs.Laws.{mark-more, mark-ends}
 use Rattle.rule_outputs.proofs.mark_outputs.Statement.{statement}
@@ -16,7 +16,7 @@ use Rattle.rule_outputs.proofs.mark_outputs.Tie as tie
 abbrev Inv-loop : tie.InvT-loop
 Inv-loop rule used₀ outputs i₀ used i =
     let xs = ruleOf rule .targetOutputs in
-    (length used ≡ 256) × ((p : ℕ) → (getD used p false || any (sameOrigin (originOf p)) (drop i xs))
+    (length used ≡ placeNumbers) × ((p : ℕ) → (getD used p false || any (sameOrigin (originOf p)) (drop i xs))
     ≡ (getD used₀ p false || any (sameOrigin (originOf p)) xs))
 
 abbrev μ-loop : tie.MeasureT-loop

@@ -7,7 +7,7 @@ use Prim.Native.Nat.{ℕ, _-_}
 use native.Mathlib.Omega.{arith}
 use lib.ListN.{length, getD, drop}
 use Rattle.definitions.specs.Lists.{any}
-use Rattle.definitions.specs.Rule.{ruleOf, originOf, sameOrigin, named}
+use Rattle.definitions.specs.Rule.{placeNumbers, ruleOf, originOf, sameOrigin, named}
 use Rattle.laws.proofs.Rule.{length-target}
 use Rattle.rule_outputs.proofs.Laws.{holds, no-marks, mark-ends, vertex-more}
 use Rattle.rule_outputs.proofs.marked.Statement.{statement}
@@ -16,7 +16,7 @@ use Rattle.rule_outputs.proofs.marked.Tie as tie
 abbrev Inv-loop : tie.InvT-loop
 Inv-loop rule used₀ count t₀ used t =
     let xs = ruleOf rule .target in
-    (length used ≡ 256) × ((p : ℕ) → (getD used p false || any (holds p) (drop t xs)) ≡ any (holds p) xs)
+    (length used ≡ placeNumbers) × ((p : ℕ) → (getD used p false || any (holds p) (drop t xs)) ≡ any (holds p) xs)
 
 abbrev μ-loop : tie.MeasureT-loop
 μ-loop rule used₀ count t₀ used t = count - t

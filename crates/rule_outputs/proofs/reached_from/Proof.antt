@@ -9,13 +9,13 @@ use Prim.Native.Nat.{_-_, _≤_}
 use native.Mathlib.Omega.{arith}
 use lib.ListN.{replicate}
 use Rattle.definitions.specs.Lists.{build}
-use Rattle.definitions.specs.Rule.{ruleOf}
+use Rattle.definitions.specs.Rule.{sideCapacity, ruleOf}
 use Rattle.laws.proofs.Rule.{length-source}
 use Rattle.rule_outputs.proofs.reached_from.Statement.{statement}
 use Rattle.rule_outputs.proofs.reached_from.Tie as tie
 
 abbrev Inv-loop : tie.InvT-loop
-Inv-loop rule v count found₀ w₀ found w = (w ≤ count) × (found ≡ build (reachedNext (ruleOf rule) v) w ++ replicate (16 - w) false)
+Inv-loop rule v count found₀ w₀ found w = (w ≤ count) × (found ≡ build (reachedNext (ruleOf rule) v) w ++ replicate (sideCapacity - w) false)
 
 abbrev μ-loop : tie.MeasureT-loop
 μ-loop rule v count found₀ w₀ found w = count - w

@@ -1,4 +1,4 @@
--- The loop's invariant: every target vertex below t is named. Target vertex t has the place number 16 + t.
+-- The loop's invariant: every target vertex below t is named. Target vertex t has the place number targetBase + t.
 -- Assumes nothing.
 use mathlib.Core.Path.{_≡_, refl, sym, ap, _∙_}
 use mathlib.Core.Bool.{true}
@@ -7,7 +7,7 @@ use Prim.Native.Nat.{_+_, _-_, _≤_}
 use native.Mathlib.Omega.{arith}
 use lib.ListN.{length}
 use Rattle.definitions.specs.Lists.{allBelow}
-use Rattle.definitions.specs.Rule.{ruleOf, named, made}
+use Rattle.definitions.specs.Rule.{targetBase, ruleOf, named, made}
 use Rattle.laws.proofs.Lists.{allBelow-step, allBelow-fails}
 use Rattle.laws.proofs.Rule.{length-target}
 use Rattle.rule_outputs.proofs.Laws.{made-place}
@@ -48,7 +48,7 @@ loop-again c =
     let r = ruleOf (s .args .rule .now) in (
       omega arith,
       allBelow-step (λ k. named r (made k)) (h .loop .t) (h .loop .inv .1)
-          (ap (named r) (sym (made-place (h .loop .t))) ∙ sym (s .pre .1 (16 + h .loop .t)) ∙ c .if1 .taken),
+          (ap (named r) (sym (made-place (h .loop .t))) ∙ sym (s .pre .1 (targetBase + h .loop .t)) ∙ c .if1 .taken),
     )
 
 returns : tie.Need-returns Inv-loop μ-loop
@@ -57,7 +57,7 @@ returns c =
     let s = h .before .before .before in
     let r = ruleOf (s .args .rule .now) in
     sym (allBelow-fails (λ k. named r (made k)) (length (r .target)) (h .loop .t) (omega (arith, length-target (s .args .rule .now)))
-    (ap (named r) (sym (made-place (h .loop .t))) ∙ sym (s .pre .1 (16 + h .loop .t)) ∙ c .if1 .left))
+    (ap (named r) (sym (made-place (h .loop .t))) ∙ sym (s .pre .1 (targetBase + h .loop .t)) ∙ c .if1 .left))
 
 returns-2 : tie.Need-returns-2 Inv-loop μ-loop
 returns-2 c =

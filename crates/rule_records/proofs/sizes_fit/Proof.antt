@@ -22,7 +22,7 @@ returns-2 : tie.Need-returns-2
 unfolding ruleSizesFit
 returns-2 c =
     let e1 = c .before in
-    simp (← e1 .before .before .source-count .ensures .0, le-leb 1 _ (e1 .if1 .left), lt-leb _ 16 (c .if2 .taken))
+    simp (← e1 .before .before .source-count .ensures .0, le-leb 1 _ (e1 .if1 .left), lt-leb _ _ (c .if2 .taken))
 
 target-count-requires : tie.Need-target-count-requires
 target-count-requires c κs = search needs
@@ -32,7 +32,7 @@ unfolding ruleSizesFit
 returns-3 c =
     let e2 = c .before .before in
     let e1 = e2 .before in
-    simp (← e1 .before .before .source-count .ensures .0, le-leb 1 _ (e1 .if1 .left), le-leb _ 16 (e2 .if2 .left), ← c .before .target-count .ensures .0, lt-leb _ 16 (c .if3 .taken))
+    simp (← e1 .before .before .source-count .ensures .0, le-leb 1 _ (e1 .if1 .left), le-leb _ _ (e2 .if2 .left), ← c .before .target-count .ensures .0, lt-leb _ _ (c .if3 .taken))
 
 returns-4 : tie.Need-returns-4
 unfolding ruleSizesFit
@@ -40,7 +40,7 @@ returns-4 c =
     let e3 = c .before in
     let e2 = e3 .before .before in
     let e1 = e2 .before in
-    simp (← e1 .before .before .source-count .ensures .0, le-leb 1 _ (e1 .if1 .left), le-leb _ 16 (e2 .if2 .left), ← e3 .before .target-count .ensures .0, le-leb _ 16 (e3 .if3 .left), ← e1 .before .output-count .ensures .0, lt-leb 1 _ (c .if4 .taken))
+    simp (← e1 .before .before .source-count .ensures .0, le-leb 1 _ (e1 .if1 .left), le-leb _ _ (e2 .if2 .left), ← e3 .before .target-count .ensures .0, le-leb _ _ (e3 .if3 .left), ← e1 .before .output-count .ensures .0, lt-leb 1 _ (c .if4 .taken))
 
 returns-5 : tie.Need-returns-5
 unfolding ruleSizesFit
@@ -49,7 +49,7 @@ returns-5 c =
     let e3 = e4 .before in
     let e2 = e3 .before .before in
     let e1 = e2 .before in
-    simp (← e1 .before .before .source-count .ensures .0, le-leb 1 _ (e1 .if1 .left), le-leb _ 16 (e2 .if2 .left), ← e3 .before .target-count .ensures .0, le-leb _ 16 (e3 .if3 .left), ← e1 .before .output-count .ensures .0, le-leb 1 _ (e4 .if4 .left), lt-leb _ 2 (c .if5 .taken))
+    simp (← e1 .before .before .source-count .ensures .0, le-leb 1 _ (e1 .if1 .left), le-leb _ _ (e2 .if2 .left), ← e3 .before .target-count .ensures .0, le-leb _ _ (e3 .if3 .left), ← e1 .before .output-count .ensures .0, le-leb 1 _ (e4 .if4 .left), lt-leb _ 2 (c .if5 .taken))
 
 node-count-requires : tie.Need-node-count-requires
 node-count-requires c κs = search needs
@@ -62,7 +62,7 @@ returns-6 c =
     let e3 = e4 .before in
     let e2 = e3 .before .before in
     let e1 = e2 .before in
-    simp (← e1 .before .before .source-count .ensures .0, le-leb 1 _ (e1 .if1 .left), le-leb _ 16 (e2 .if2 .left), ← e3 .before .target-count .ensures .0, le-leb _ 16 (e3 .if3 .left), ← e1 .before .output-count .ensures .0, le-leb 1 _ (e4 .if4 .left), le-leb _ 2 (e5 .if5 .left), ← c .before .node-count .ensures .0, lt-leb _ 64 (c .if6 .taken))
+    simp (← e1 .before .before .source-count .ensures .0, le-leb 1 _ (e1 .if1 .left), le-leb _ _ (e2 .if2 .left), ← e3 .before .target-count .ensures .0, le-leb _ _ (e3 .if3 .left), ← e1 .before .output-count .ensures .0, le-leb 1 _ (e4 .if4 .left), le-leb _ 2 (e5 .if5 .left), ← c .before .node-count .ensures .0, lt-leb _ 64 (c .if6 .taken))
 
 returns-7 : tie.Need-returns-7
 unfolding ruleSizesFit
@@ -73,7 +73,7 @@ returns-7 c =
     let e3 = e4 .before in
     let e2 = e3 .before .before in
     let e1 = e2 .before in
-    simp (← e1 .before .before .source-count .ensures .0, le-leb 1 _ (e1 .if1 .left), le-leb _ 16 (e2 .if2 .left), ← e3 .before .target-count .ensures .0, le-leb _ 16 (e3 .if3 .left), ← e1 .before .output-count .ensures .0, le-leb 1 _ (e4 .if4 .left), le-leb _ 2 (e5 .if5 .left), ← e6 .before .node-count .ensures .0, le-leb _ 64 (e6 .if6 .left))
+    simp (← e1 .before .before .source-count .ensures .0, le-leb 1 _ (e1 .if1 .left), le-leb _ _ (e2 .if2 .left), ← e3 .before .target-count .ensures .0, le-leb _ _ (e3 .if3 .left), ← e1 .before .output-count .ensures .0, le-leb 1 _ (e4 .if4 .left), le-leb _ 2 (e5 .if5 .left), ← e6 .before .node-count .ensures .0, le-leb _ 64 (e6 .if6 .left))
 
 pub sizes-fit-spec : {M : Type 1} → statement M
 sizes-fit-spec =

@@ -5,7 +5,7 @@ use mathlib.Core.List.{List}
 use Prim.Native.Nat.{ℕ, _+_, _*_, _-_, _≤_, _<_}
 use native.Mathlib.Omega.{arith}
 use lib.ListN.{length}
-use Rattle.definitions.specs.Rule.{ruleOf, sourceInputs}
+use Rattle.definitions.specs.Rule.{sideCapacity, ruleOf, sourceInputs}
 use Rattle.uses.specs.Uses.{count}
 use Rattle.uses.specs.Counted.{Counted}
 use Rattle.uses.proofs.Sums.{total-more}
@@ -15,7 +15,7 @@ use Rattle.uses.proofs.add_source_inputs.Tie as tie
 
 abbrev Inv-loop : tie.InvT-loop
 Inv-loop rule w places₀ inputs i₀ places i =
-    (i ≤ inputs) × Counted 16 (passed (ruleReads rule w) (sourceInputs (ruleOf rule) w) i) places
+    (i ≤ inputs) × Counted sideCapacity (passed (ruleReads rule w) (sourceInputs (ruleOf rule) w) i) places
 
 abbrev μ-loop : tie.MeasureT-loop
 μ-loop rule w places₀ inputs i₀ places i = inputs - i
@@ -29,7 +29,7 @@ inputs a = sourceInputs (ruleOf (start a .args .rule .now)) (start a .args .w)
 left : (c : tie.In-loop Inv-loop μ-loop) → c .before .loop .i < length (inputs (c .before))
 left c = omega (arith, c .loop-test .taken, c .before .before .source-input-count .ensures .0)
 
-input-below : (c : tie.After-source-input Inv-loop μ-loop) → c .source-input .result < 16
+input-below : (c : tie.After-source-input Inv-loop μ-loop) → c .source-input .result < sideCapacity
 input-below c =
     let a = c .before .before in
     let s = start a in

@@ -7,7 +7,7 @@ use native.Mathlib.Omega.{arith}
 use borrow.Author.Needs.{needs}
 use mathlib.Core.Logic.{⊎-elim}
 use lib.ListN.{getD, set}
-use Rattle.definitions.specs.Rule.{sourceCount, ruleOf}
+use Rattle.definitions.specs.Rule.{sideCapacity, sourceCount, ruleOf}
 use Rattle.uses.specs.Uses.{placesOf, demandOf}
 use Rattle.uses.specs.Counted.{Counted}
 use Rattle.uses.proofs.Laws.{counted-same, rule-reads-most, places-all, demanded, demanded-below, demanded-from, demanded-one, demand-inner, demand-outer}
@@ -16,7 +16,7 @@ use Rattle.uses.proofs.count_demands.Tie as tie
 
 abbrev Inv-loop : tie.InvT-loop
 Inv-loop rule vertices demands₀ j₀ demands j =
-    (j ≤ vertices) × Counted 16 (demanded (ruleOf rule) j) demands
+    (j ≤ vertices) × Counted sideCapacity (demanded (ruleOf rule) j) demands
 
 abbrev μ-loop : tie.MeasureT-loop
 μ-loop rule vertices demands₀ j₀ demands j = vertices - j
@@ -24,7 +24,7 @@ abbrev μ-loop : tie.MeasureT-loop
 abbrev block : tie.At-loop Inv-loop μ-loop → List ℕ
 block a = a .before .before .before .before .args .rule .now
 
-inside : (c : tie.In-loop Inv-loop μ-loop) → c .before .loop .j < 16
+inside : (c : tie.In-loop Inv-loop μ-loop) → c .before .loop .j < sideCapacity
 inside c = omega (
   arith,
   c .before .before .before .before .before .pre .0 .whole .source,
@@ -38,7 +38,7 @@ present a = a .loop .inv .1 .at (a .loop .j) ∙ demanded-from (ruleOf (block a)
 
 next : (c : tie.After-is-interior Inv-loop μ-loop) (x : ℕ)
     → x ≡ demandOf (ruleOf (block (c .before .before))) (c .before .before .loop .j)
-    → Counted 16 (demanded (ruleOf (block (c .before .before))) (c .before .before .loop .j + 1))
+    → Counted sideCapacity (demanded (ruleOf (block (c .before .before))) (c .before .before .loop .j + 1))
     (set (c .before .before .loop .demands) (c .before .before .loop .j) x)
 next c x e = let a = c .before .before in
     demanded-one (ruleOf (block a)) (a .loop .j) x (inside (c .before)) e (a .loop .inv .1)

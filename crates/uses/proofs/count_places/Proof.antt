@@ -4,6 +4,7 @@ use mathlib.Core.Path.{refl}
 use Prim.Native.Nat.{_-_, _≤_}
 use native.Mathlib.Omega.{arith}
 use borrow.Author.Needs.{needs}
+use Rattle.definitions.specs.Rule.{sideCapacity}
 use Rattle.uses.specs.Uses.{total}
 use Rattle.uses.specs.Counted.{Counted}
 use Rattle.uses.proofs.Laws.{counted-none, counted-same, ruleReads, places-all}
@@ -11,7 +12,7 @@ use Rattle.uses.proofs.count_places.Statement.{statement}
 use Rattle.uses.proofs.count_places.Tie as tie
 
 abbrev Inv-loop : tie.InvT-loop
-Inv-loop rule vertices places₀ w₀ places w = (w ≤ vertices) × Counted 16 (ruleReads rule w) places
+Inv-loop rule vertices places₀ w₀ places w = (w ≤ vertices) × Counted sideCapacity (ruleReads rule w) places
 
 abbrev μ-loop : tie.MeasureT-loop
 μ-loop rule vertices places₀ w₀ places w = vertices - w
@@ -21,7 +22,7 @@ source-count-requires c κs = search needs
 
 loop-holds : tie.Need-loop-holds Inv-loop μ-loop
 unfolding total
-loop-holds c = (omega arith, counted-none 16 (λ v. refl))
+loop-holds c = (omega arith, counted-none sideCapacity (λ v. refl))
 
 add-source-inputs-requires : tie.Need-add-source-inputs-requires Inv-loop μ-loop
 add-source-inputs-requires c κs =

@@ -8,7 +8,7 @@ use borrow.Author.Needs.{needs}
 use borrow.Author.Tests.{not-true, not-false}
 use lib.ListN.{getD}
 use Rattle.definitions.specs.Graph.{slotCount, graphOf}
-use Rattle.definitions.specs.Rule.{ruleOf}
+use Rattle.definitions.specs.Rule.{sideCapacity, ruleOf}
 use Rattle.definitions.specs.Match.{imageOf}
 use Rattle.laws.proofs.Match.{image-at}
 use Rattle.laws.proofs.Rule.{length-source}
@@ -27,7 +27,7 @@ abbrev μ-loop : tie.MeasureT-loop
 abbrev start : tie.At-loop Inv-loop μ-loop → tie.Start Inv-loop μ-loop
 start a = a .before .before .before .before .before
 
-inside : (c : tie.In-loop Inv-loop μ-loop) → c .before .loop .j < 16
+inside : (c : tie.In-loop Inv-loop μ-loop) → c .before .loop .j < sideCapacity
 inside c = omega (arith, start (c .before) .pre .1 .0 .source)
 
 -- what is read for source vertex j is its image, which is a slot
