@@ -4,13 +4,13 @@
 use mathlib.Core.Path.{_≡_, sym, ap, _∙_, subst}
 use mathlib.Core.Bool.{true}
 use mathlib.Core.List.{List}
-use mathlib.Core.Logic.{inl}
 use mathlib.Core.Option.{some, Option·some-injective}
 use Prim.Native.Nat.{ℕ}
 use lib.IntN.{ℤ}
 use lib.ListN.{length, length-map}
 use Rattle.definitions.specs.Fields.{Bytes}
 use Rattle.definitions.specs.Paths.{Acyclic}
+use Rattle.definitions.specs.Reply.{numberIn}
 use Rattle.definitions.specs.Graph.{Graph, graphOf, inputsOf, isVertex, graphBlock, SoundGraph}
 use Rattle.definitions.specs.Rule.{sourceCount, Rule, ruleOf, SoundRule}
 use Rattle.definitions.specs.Match.{readAttribute, Match}
@@ -28,7 +28,7 @@ use Rattle.answers.specs.Written.{imagesIn}
 use Rattle.answers.specs.Rewritten.{Keeps}
 use Rattle.answers.specs.Statements.{Rewrote, Demand3}
 use Rattle.answers.proofs.Maps.{least-is}
-use Rattle.answers.proofs.Rewriting.{free-acyclic, good, done-leaves, written-images}
+use Rattle.answers.proofs.Rewriting.{free-acyclic, done-good, done-leaves, written-images}
 
 -- ---- a rewriting at one match of sound blocks, with room and with no cycle
 
@@ -97,9 +97,9 @@ module _ (graph rule images : List ℕ) (values : List (List ℤ)) where
 module _ (graph rule : List ℕ) (start : ℕ) (before : List ℕ) (reply : ℕ) (graphAfter after : List ℕ)
     (contract : Rewrote graph rule start before reply graphAfter after) where
   -- done is such a rewriting, at the match that the map tells
-  pub accepted : reply ≡ 0 → (values : List (List ℤ)) × Accepted graph rule (imagesIn after (sourceCount rule)) values graphAfter
+  pub accepted : numberIn reply ≡ 0 → (values : List (List ℤ)) × Accepted graph rule (imagesIn after (sourceCount rule)) values graphAfter
   accepted h =
-      let blocks = good graph rule start before reply graphAfter after contract (inl h) in
+      let blocks = done-good graph rule start before reply graphAfter after contract h in
       let left = done-leaves graph rule start before reply graphAfter after contract h in
       let isMatch = least-is graph rule start (left .0) (blocks .1) (blocks .2) (left .2) in
       let same : left .0 ≡ imagesIn after (sourceCount rule) =
@@ -120,13 +120,13 @@ module _ (graph rule : List ℕ) (start : ℕ) (before : List ℕ) (reply : ℕ)
       )
 
   -- An accepted rewriting yields a sound graph, so that rewritings can follow one another.
-  pub yields-sound : reply ≡ 0 → SoundGraph graphAfter
+  pub yields-sound : numberIn reply ≡ 0 → SoundGraph graphAfter
   yields-sound h =
       let a = accepted h in
       accepted-sound graph rule (imagesIn after (sourceCount rule)) (a .0) (a .1) (contract .lentGraph)
 
   -- Its graph is the one table that document 01 describes, for the match that the map tells.
-  pub yields-table : reply ≡ 0 → (values : List (List ℤ))
+  pub yields-table : numberIn reply ≡ 0 → (values : List (List ℤ))
       × (targetResults (readAttribute (graphOf graph) (imagesIn after (sourceCount rule))) (ruleOf rule .target) ≡ some values)
       × (graphAfter ≡ graphBlock (newGraph (graphOf graph) (ruleOf rule) (imagesIn after (sourceCount rule)) values))
       × (graphOf graphAfter ≡ newGraph (graphOf graph) (ruleOf rule) (imagesIn after (sourceCount rule)) values)
@@ -137,7 +137,7 @@ module _ (graph rule : List ℕ) (start : ℕ) (before : List ℕ) (reply : ℕ)
 
   -- Demand 3, for every result type, every function for kinds and operators, and every results of the variables: "before" is the graph
   -- of the block as it came, and "after" that of the bytes at the return.
-  pub demand-3 {ℓ} : {R : Type ℓ} (m : Meaning R) → reply ≡ 0 → Demand3 m graph rule graphAfter after
+  pub demand-3 {ℓ} : {R : Type ℓ} (m : Meaning R) → numberIn reply ≡ 0 → Demand3 m graph rule graphAfter after
   demand-3 m h =
       let images = imagesIn after (sourceCount rule) in
       let a = accepted h in

@@ -1,25 +1,28 @@
 -- What the replies to a request for a rewriting mean, for the C side: theorems from the contract of lg_rewrite alone.
 -- Assumes nothing.
 use mathlib.Core.Path.{_≡_, refl, sym, ap, _∙_, subst}
-use mathlib.Core.Bool.{true, false, not}
-use mathlib.Core.List.{List}
-use mathlib.Core.Logic.{_⊎_, inl, inr, ⊎-elim}
+use mathlib.Core.Bool.{true, false, not, or-true}
+use mathlib.Core.List.{List, [], _∷_}
+use mathlib.Core.Logic.{⊎-elim}
 use mathlib.Core.Option.{none, some}
-use Prim.Native.Nat.{ℕ, _*_, _<_, _≤_}
+use Prim.Native.Nat.{ℕ, _<_, _^_}
 use native.Mathlib.Omega.{arith}
 use borrow.Author.Tests.{not-false}
+use lib.Dec.{eqb}
 use lib.IntN.{ℤ}
 use lib.ListN.{length}
-use Rattle.definitions.specs.declared.Reply.the-variants.{Done}
+use Rattle.definitions.specs.Lists.{member}
 use Rattle.definitions.specs.Paths.{Acyclic}
-use Rattle.definitions.specs.Reply.{noMatch, noResult, noRoom, newCycle, refusal, refused, packed}
+use Rattle.definitions.specs.Reply as Reply
+use Rattle.definitions.specs.Reply.{noMatch, noResult, noRoom, newCycle, refusal, refused, numberOf, numberIn}
 use Rattle.definitions.specs.Graph.{Graph, graphOf, inputsOf, graphBlock, hasCycle, SoundGraph}
 use Rattle.definitions.specs.Rule.{sourceCount, Rule, ruleOf, SoundRule}
 use Rattle.definitions.specs.Match.{readAttribute, Match, MatchFrom, outputImages, NotAfter, LeastFrom, leastMatch}
 use Rattle.definitions.specs.Rewriting.{targetResults, hasRoom, newGraph}
 use Rattle.definitions.specs.Operations.{Outcome, outcome, atReturn, returned, mapBytes, mapBlock, accepted, turnedDown, rewritten, replaced, rewrite}
 use Rattle.laws.proofs.Lists.{decided, true-not-false, option-either}
-use Rattle.laws.proofs.Reply.{packed-refused}
+use Rattle.laws.proofs.Members.{member-left}
+use Rattle.laws.proofs.Reply.{Plain, plain-done, plain-refused}
 use Rattle.laws.proofs.Rewriting.{rewritten-unfit, rewritten-full, rewritten-cyclic, rewritten-done}
 use Rattle.theory.proofs.Paths.{Table, acyclic-sound, acyclic-complete}
 use Rattle.theory.proofs.Results.{named-table}
@@ -29,7 +32,7 @@ use Rattle.replacement.proofs.Site.{Site, site}
 use Rattle.replacement.proofs.Table.{new-inputs}
 use Rattle.answers.specs.Written.{imagesIn}
 use Rattle.answers.specs.Rewritten.{Due}
-use Rattle.answers.specs.Statements.{Rewrote, Good, BlockReplies, WritesLeast}
+use Rattle.answers.specs.Statements.{Rewrote, Good, blockNumbers, BlockReplies, WritesLeast, matchNumbers, rewriteNumbers}
 use Rattle.answers.proofs.Maps.{least-told, least-written}
 use Rattle.answers.proofs.Blocks as Blocks
 use Rattle.answers.proofs.Blocks.{Staged}
@@ -88,7 +91,7 @@ module _ (graph rule : List ℕ) (start : ℕ) (before : List ℕ) where
     unfolding rest replaced
     down-rest n e = rw (least, rest) (rw (e, replaced))
 
-    accepted-rest : (made : Graph) → rewritten g r images ≡ accepted made → rest ≡ outcome Done (graphBlock made) (mapBlock images)
+    accepted-rest : (made : Graph) → rewritten g r images ≡ accepted made → rest ≡ outcome Reply.done (graphBlock made) (mapBlock images)
     unfolding rest replaced
     accepted-rest made e = rw (least, rest) (rw (e, replaced))
 
@@ -103,7 +106,7 @@ module _ (graph rule : List ℕ) (start : ℕ) (before : List ℕ) where
       cyclic-rest h c = down-rest newCycle (rewritten-cyclic g r images values have h c)
 
       done-rest : hasRoom g r images ≡ true → hasCycle (new images values) ≡ false
-          → rest ≡ outcome Done (graphBlock (new images values)) (mapBlock images)
+          → rest ≡ outcome Reply.done (graphBlock (new images values)) (mapBlock images)
       done-rest h c = accepted-rest (new images values) (rewritten-done g r images values have h c)
 
   -- why good blocks are refused, by the number
@@ -119,7 +122,7 @@ module _ (graph rule : List ℕ) (start : ℕ) (before : List ℕ) where
   data Tested : Outcome → Type 0 where
     refusing : (n : ℕ) → Reason n → Tested (outcome (refused n) graph before)
     done : (images : List ℕ) (values : List (List ℤ)) → Least images → Values images values → hasRoom g r images ≡ true
-        → hasCycle (new images values) ≡ false → Tested (outcome Done (graphBlock (new images values)) (mapBlock images))
+        → hasCycle (new images values) ≡ false → Tested (outcome Reply.done (graphBlock (new images values)) (mapBlock images))
 
   -- every call on good blocks comes to one of these, stage by stage, from the last
   tested-values : (images : List ℕ) → Least images → (values : List (List ℤ)) → Values images values → Tested rest
@@ -149,20 +152,30 @@ module _ (graph rule : List ℕ) (start : ℕ) (before : List ℕ) where
 
   -- ---- what each outcome says
 
-  reason-number : {n : ℕ} → Reason n → (noMatch ≤ n) × (n ≤ newCycle)
-  reason-number (unmatched e) = omega arith
-  reason-number (unfit images least e) = omega arith
-  reason-number (full images values least have h) = omega arith
-  reason-number (cyclic images values least have h c) = omega arith
+  -- why good blocks are refused: with a number of rewriting's that is none of the blocks', and that is not 0
+  record OwnNumber (n : ℕ) : Type 0 where
+    own : member n blockNumbers ≡ false
+    listed : member n rewriteNumbers ≡ true
+    small : n < 2 ^ 8
 
-  outcome-number : {o : Outcome} → Tested o
-      → (packed (o .reply) ≡ 0) ⊎ ((noMatch ≤ packed (o .reply)) × (packed (o .reply) ≤ newCycle))
-  unfolding packed
-  outcome-number (refusing n why) = inr (rw (packed-refused n) (reason-number why))
-  outcome-number (done images values least have h c) = inl refl
+  reason-number : {n : ℕ} → Reason n → OwnNumber n × (n ≡ 0 → ⊥)
+  unfolding member
+  reason-number (unmatched e) = (record { own = refl; listed = refl; small = omega arith }, λ z. omega arith)
+  reason-number (unfit images least e) = (record { own = refl; listed = refl; small = omega arith }, λ z. omega arith)
+  reason-number (full images values least have h) = (record { own = refl; listed = refl; small = omega arith }, λ z. omega arith)
+  reason-number (cyclic images values least have h c) = (record { own = refl; listed = refl; small = omega arith }, λ z. omega arith)
 
-  outcome-keeps : {o : Outcome} → Tested o → (packed (o .reply) ≡ 0 → ⊥) → (o .graph ≡ graph) × (o .map ≡ before)
-  unfolding packed
+  outcome-number : {o : Outcome} → Tested o → OwnNumber (numberOf (o .reply))
+  unfolding refusal numberOf member
+  outcome-number (refusing n why) = reason-number why .0
+  outcome-number (done images values least have h c) = record { own = refl; listed = refl; small = omega arith }
+
+  outcome-plain : {o : Outcome} → Tested o → Plain (o .reply)
+  outcome-plain (refusing n why) = plain-refused n
+  outcome-plain (done images values least have h c) = plain-done
+
+  outcome-keeps : {o : Outcome} → Tested o → (numberOf (o .reply) ≡ 0 → ⊥) → (o .graph ≡ graph) × (o .map ≡ before)
+  unfolding numberOf
   outcome-keeps (refusing n why) refusal = (refl, refl)
   outcome-keeps (done images values least have h c) refusal = absurd (refusal refl)
 
@@ -172,8 +185,9 @@ module _ (graph rule : List ℕ) (start : ℕ) (before : List ℕ) where
       (images : List ℕ) × (values : List (List ℤ)) × Least images × Values images values × (after ≡ mapBlock images)
       × (graphAfter ≡ graphBlock (new images values)) × (hasRoom g r images ≡ true) × (hasCycle (new images values) ≡ false)
 
-  outcome-leaves : {o : Outcome} → Tested o → packed (o .reply) ≡ 0 → Leaves (o .graph) (o .map)
-  outcome-leaves (refusing n why) z = absurd (omega (arith, packed-refused n, reason-number why))
+  outcome-leaves : {o : Outcome} → Tested o → numberOf (o .reply) ≡ 0 → Leaves (o .graph) (o .map)
+  unfolding refusal numberOf
+  outcome-leaves (refusing n why) z = absurd (reason-number why .1 z)
   outcome-leaves (done images values least have h c) z = (images, values, least, have, refl, refl, h, c)
 
   -- between sound blocks the number is the one that is due
@@ -196,9 +210,9 @@ module _ (graph rule : List ℕ) (start : ℕ) (before : List ℕ) where
         Due.cyclic images values (is-least images least) (some-fit g r images values have) have (room-enough g r images (is-match images least) h)
         (λ acyclic. true-not-false c (acyclic-free g r images values (at-match images least h) acyclic))
 
-    outcome-due : {o : Outcome} → Tested o → Due g r start (packed (o .reply))
-    unfolding packed
-    outcome-due (refusing n why) = rw (packed-refused n) (reason-due why)
+    outcome-due : {o : Outcome} → Tested o → Due g r start (numberOf (o .reply))
+    unfolding refusal numberOf
+    outcome-due (refusing n why) = reason-due why
     outcome-due (done images values least have h c) =
         Due.done images values (is-least images least) (some-fit g r images values have) have (room-enough g r images (is-match images least) h)
         (free-acyclic g r images values (at-match images least h) c)
@@ -209,9 +223,9 @@ module _ (graph rule : List ℕ) (start : ℕ) (before : List ℕ) where
   staged = record {
     refusing = λ x e. rw (e, rewrite);
     passing = λ e. rw (e, rewrite);
-    later = ⊎-elim inl
-        (λ (n : (noMatch ≤ packed (rest .reply)) × (packed (rest .reply) ≤ newCycle)). inr (n .0))
-        (outcome-number tested);
+    own = outcome-number tested .own;
+    small = outcome-number tested .small;
+    plain = outcome-plain tested;
   }
 
 -- ---- what the replies mean
@@ -229,48 +243,52 @@ module _ (graph rule : List ℕ) (start : ℕ) (before : List ℕ) (reply : ℕ)
   shown = tested graph rule start before
 
   -- at the return from a call on good blocks
-  ends : Good graph rule before → (reply ≡ packed (rest graph rule start before .reply))
+  ends : Good graph rule before → (numberIn reply ≡ numberOf (rest graph rule start before .reply))
       × (graphAfter ≡ rest graph rule start before .graph) × (after ≡ rest graph rule start before .map)
-  ends blocks = Blocks.ends stages met (rest graph rule start before) (Blocks.passed stages met blocks)
+  ends blocks = let pass = Blocks.passes stages met blocks in (pass .number, pass .leftGraph, pass .leftMap)
 
   -- Replies 1 to 3 are given exactly where they are due.
   pub block-replies : BlockReplies graph rule before reply
   block-replies = Blocks.block-replies stages met
 
   -- Replies 0 and 4 to 7 are given for good blocks only.
-  pub good : (reply ≡ 0) ⊎ (noMatch ≤ reply) → (length before ≡ mapBytes) × SoundGraph graph × SoundRule rule
+  pub good : member (numberIn reply) blockNumbers ≡ false → (length before ≡ mapBytes) × SoundGraph graph × SoundRule rule
   good = Blocks.good-only stages met
 
+  -- Done is such a reply.
+  pub done-good : numberIn reply ≡ 0 → (length before ≡ mapBytes) × SoundGraph graph × SoundRule rule
+  unfolding member
+  done-good h = good (rw h refl)
+
   -- For good blocks the reply is the one that is due: 4, 5, 6, 7 or 0, as document 01's table says when.
-  pub due : length before ≡ mapBytes → SoundGraph graph → SoundRule rule → Due (graphOf graph) (ruleOf rule) start reply
+  pub due : length before ≡ mapBytes → SoundGraph graph → SoundRule rule → Due (graphOf graph) (ruleOf rule) start (numberIn reply)
   due size sound soundRule =
       subst (Due (graphOf graph) (ruleOf rule) start) (sym (ends (size, sound, soundRule) .0))
       (outcome-due graph rule start before sound soundRule shown)
 
   -- And it is so exactly when: what is due is replied.
   pub replied : length before ≡ mapBytes → SoundGraph graph → SoundRule rule
-      → (n : ℕ) → Due (graphOf graph) (ruleOf rule) start n → reply ≡ n
+      → (n : ℕ) → Due (graphOf graph) (ruleOf rule) start n → numberIn reply ≡ n
   replied size sound soundRule n is =
-      due-one (graphOf graph) (ruleOf rule) (sound-fixing rule soundRule) start reply n (due size sound soundRule) is
+      due-one (graphOf graph) (ruleOf rule) (sound-fixing rule soundRule) start (numberIn reply) n (due size sound soundRule) is
 
   -- Rewriting gives 0 to 7.
-  pub one-of-eight : reply ≤ newCycle
+  pub one-of-eight : member (numberIn reply) rewriteNumbers ≡ true
+  unfolding member
   one-of-eight =
-      Blocks.by-blocks stages met (reply ≤ newCycle)
-      (λ low high keptGraph keptMap. omega arith)
-      (λ blocks.
-      let n = packed (rest graph rule start before .reply) in
-      ⊎-elim (λ (e : n ≡ 0). omega (arith, ends blocks .0))
-      (λ (l : (noMatch ≤ n) × (n ≤ newCycle)). omega (arith, ends blocks .0))
-      (outcome-number graph rule start before shown))
+      Blocks.by-blocks stages met (member (numberIn reply) rewriteNumbers ≡ true)
+      (λ about keptGraph keptMap.
+      member-left (numberIn reply) matchNumbers (noResult ∷ noRoom ∷ newCycle ∷ [])
+      (rw (member-left (numberIn reply) blockNumbers (noMatch ∷ []) about) (or-true (eqb (numberIn reply) 0))))
+      (λ blocks. rw (ends blocks .0) (outcome-number graph rule start before shown .listed))
 
   -- ---- what is written
 
   -- A refusal returns its number only: every lent byte is as it came.
-  pub refusal-keeps : (reply ≡ 0 → ⊥) → (graphAfter ≡ graph) × (after ≡ before)
+  pub refusal-keeps : (numberIn reply ≡ 0 → ⊥) → (graphAfter ≡ graph) × (after ≡ before)
   refusal-keeps refusal =
       Blocks.by-blocks stages met ((graphAfter ≡ graph) × (after ≡ before))
-      (λ low high keptGraph keptMap. (keptGraph, keptMap))
+      (λ about keptGraph keptMap. (keptGraph, keptMap))
       (λ blocks.
       let end = ends blocks in
       let kept = outcome-keeps graph rule start before shown (λ e. refusal (end .0 ∙ e)) in
@@ -278,36 +296,36 @@ module _ (graph rule : List ℕ) (start : ℕ) (before : List ℕ) (reply : ℕ)
 
   -- Done leaves the map of the least match, and the block of the table that the rewriting at this match makes: its target attributes
   -- have fit results, there is room for its target vertices, and it has no cycle.
-  pub done-leaves : reply ≡ 0 → (images : List ℕ) × (values : List (List ℤ))
+  pub done-leaves : numberIn reply ≡ 0 → (images : List ℕ) × (values : List (List ℤ))
       × (leastMatch (graphOf graph) (ruleOf rule) start ≡ some images)
       × (targetResults (readAttribute (graphOf graph) images) (ruleOf rule .target) ≡ some values)
       × (after ≡ mapBlock images) × (graphAfter ≡ graphBlock (newGraph (graphOf graph) (ruleOf rule) images values))
       × (hasRoom (graphOf graph) (ruleOf rule) images ≡ true)
       × (hasCycle (newGraph (graphOf graph) (ruleOf rule) images values) ≡ false)
   done-leaves h =
-      let end = ends (good (inl h)) in
+      let end = ends (done-good h) in
       let left = outcome-leaves graph rule start before shown (sym (end .0) ∙ h) in
       (left .0, left .1, left .2, left .3, end .2 ∙ left .4, end .1 ∙ left .5, left .6, left .7)
 
   -- The map tells the match: its first S numbers are the images of the least match.
-  pub written-images : reply ≡ 0 → leastMatch (graphOf graph) (ruleOf rule) start ≡ some (imagesIn after (sourceCount rule))
+  pub written-images : numberIn reply ≡ 0 → leastMatch (graphOf graph) (ruleOf rule) start ≡ some (imagesIn after (sourceCount rule))
   written-images h =
-      let blocks = good (inl h) in
+      let blocks = done-good h in
       let left = done-leaves h in
       least-told graph rule start (left .0) (blocks .1) (blocks .2) (left .2) after (left .4)
 
   -- Done writes the map of the least match from the start: number j is the image of source vertex j, and 65535 stands from S on.
-  pub written : reply ≡ 0 → WritesLeast graph rule start after
+  pub written : numberIn reply ≡ 0 → WritesLeast graph rule start after
   written h =
-      let blocks = good (inl h) in
+      let blocks = done-good h in
       let left = done-leaves h in
       least-written graph rule start (left .0) (blocks .1) (blocks .2) (left .2) after (left .4)
 
   -- So it is the map of a match from the start,
-  pub written-match : reply ≡ 0 → MatchFrom (graphOf graph) (ruleOf rule) start (imagesIn after (sourceCount rule))
+  pub written-match : numberIn reply ≡ 0 → MatchFrom (graphOf graph) (ruleOf rule) start (imagesIn after (sourceCount rule))
   written-match h = written h .least .from
 
   -- and no other such match has a lesser first image, or the same first and a lesser second one.
-  pub written-least : reply ≡ 0 → (other : List ℕ) → MatchFrom (graphOf graph) (ruleOf rule) start other
+  pub written-least : numberIn reply ≡ 0 → (other : List ℕ) → MatchFrom (graphOf graph) (ruleOf rule) start other
       → NotAfter (outputImages (ruleOf rule) (imagesIn after (sourceCount rule))) (outputImages (ruleOf rule) other)
   written-least h = written h .least .least

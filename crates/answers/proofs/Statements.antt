@@ -3,6 +3,7 @@
 use mathlib.Core.Path.{_≡_, subst}
 use mathlib.Core.List.{List}
 use Prim.Native.Nat.{ℕ}
+use Rattle.definitions.specs.Reply.{numberIn}
 use Rattle.definitions.specs.Graph.{graphOf}
 use Rattle.definitions.specs.Rule.{sourceCount, ruleOf}
 use Rattle.definitions.specs.Results.{Meaning}
@@ -30,7 +31,7 @@ module _ (graph rule : List ℕ) (start : ℕ) (map : List ℕ) (reply : ℕ) (g
 
   -- lg_rewrite
   module _ (contract : Rewrote graph rule start map reply graphAfter mapAfter) where
-    yielded : reply ≡ 0 → Yields graph rule (imagesIn mapAfter (sourceCount rule)) graphAfter
+    yielded : numberIn reply ≡ 0 → Yields graph rule (imagesIn mapAfter (sourceCount rule)) graphAfter
     yielded h =
         let table = yields-table graph rule start map reply graphAfter mapAfter contract h in
         record {
@@ -57,5 +58,5 @@ module _ (graph rule : List ℕ) (start : ℕ) (map : List ℕ) (reply : ℕ) (g
     }
 
     -- demand 3
-    pub accepted-keeps {ℓ} : {R : Type ℓ} (m : Meaning R) → reply ≡ 0 → Demand3 m graph rule graphAfter mapAfter
+    pub accepted-keeps {ℓ} : {R : Type ℓ} (m : Meaning R) → numberIn reply ≡ 0 → Demand3 m graph rule graphAfter mapAfter
     accepted-keeps = demand-3 graph rule start map reply graphAfter mapAfter contract

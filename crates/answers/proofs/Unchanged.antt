@@ -7,6 +7,7 @@ use Prim.Native.Nat.{ℕ, _+_, _<_}
 use lib.Dec.{T}
 use lib.ListN.{length, getD}
 use Rattle.definitions.specs.Fields.{byteAt}
+use Rattle.definitions.specs.Reply.{numberIn}
 use Rattle.definitions.specs.Graph.{slotBytes, recordAt, Slot, Graph, graphOf, slotOf, inputsOf, slotBlock}
 use Rattle.definitions.specs.Rule.{sourceCount, Rule, ruleOf}
 use Rattle.definitions.specs.Match.{outputImages}
@@ -30,7 +31,7 @@ slot-kept g r images k none =
 
 module _ (graph rule : List ℕ) (start : ℕ) (before : List ℕ) (reply : ℕ) (graphAfter after : List ℕ)
     (contract : Rewrote graph rule start before reply graphAfter after) where
-  pub keeps-record : reply ≡ 0 → (k : ℕ) → T (stays (graphOf graph) (ruleOf rule) (imagesIn after (sourceCount rule)) k)
+  pub keeps-record : numberIn reply ≡ 0 → (k : ℕ) → T (stays (graphOf graph) (ruleOf rule) (imagesIn after (sourceCount rule)) k)
       → ReadsNone (graphOf graph) (ruleOf rule) (imagesIn after (sourceCount rule)) k
       → (i : ℕ) → i < slotBytes → byteAt graphAfter (recordAt k + i) ≡ byteAt graph (recordAt k + i)
   keeps-record h k t none i l =

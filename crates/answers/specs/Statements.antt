@@ -5,15 +5,17 @@
 -- lib.rt shows; and that each one ends, and touches nothing but what it is lent, is part of every proof.
 -- Assumes nothing.
 use mathlib.Core.Path.{_≡_}
-use mathlib.Core.List.{List}
+use mathlib.Core.Bool.{true, false}
+use mathlib.Core.List.{List, [], _∷_, _++_}
 use mathlib.Core.Logic.{_⊎_, _↔_}
 use mathlib.Core.Option.{some}
 use Prim.Native.Nat.{ℕ, _+_, _*_, _<_, _≤_}
 use lib.Dec.{T}
 use lib.IntN.{ℤ}
 use lib.ListN.{length}
+use Rattle.definitions.specs.Lists.{member}
 use Rattle.definitions.specs.Fields.{Bytes, byteAt, u16At}
-use Rattle.definitions.specs.Reply.{badMapLength, badGraph, badRule, noMatch, newCycle, packed}
+use Rattle.definitions.specs.Reply.{badMapLength, badGraph, badRule, noMatch, noResult, noRoom, newCycle, packed, numberIn, placeIn, valueIn}
 use Rattle.definitions.specs.Graph.{unusedPlace, slotBytes, recordAt, Graph, graphOf, graphBlock, graphReply, SoundGraph}
 use Rattle.definitions.specs.Rule.{sourceCount, Rule, ruleOf, ruleReply, SoundRule}
 use Rattle.definitions.specs.Match.{readAttribute, MatchFrom, LeastFrom}
@@ -48,11 +50,17 @@ pub record Rewrote (graph rule : List ℕ) (start : ℕ) (map : List ℕ) (reply
 
 -- ==== what follows: the checks
 
+-- A reply has a number, in bits 0 to 7 of what the C side gets; 0 is done. No request names a place or a value yet: both are zero.
+pub record WithoutPlace (reply : ℕ) : Type 0 where
+  pub place : placeIn reply ≡ 0
+  pub value : valueIn reply ≡ 0
+
 -- "Checking a graph gives 0 or 2, a rule 0 or 3": 0 exactly where the block is sound, and the other exactly where it isn't.
 pub record Verdict (Sound : Type 0) (bad reply : ℕ) : Type 0 where
-  pub done : (reply ≡ 0) ↔ Sound
-  pub refused : (reply ≡ bad) ↔ (Sound → ⊥)
-  pub either : (reply ≡ 0) ⊎ (reply ≡ bad)
+  pub done : (numberIn reply ≡ 0) ↔ Sound
+  pub refused : (numberIn reply ≡ bad) ↔ (Sound → ⊥)
+  pub either : (numberIn reply ≡ 0) ⊎ (numberIn reply ≡ bad)
+  pub plain : WithoutPlace reply
 
 -- follows from CheckedGraph
 abbrev pub GraphVerdict : List ℕ → ℕ → Type 0
@@ -68,16 +76,21 @@ RuleVerdict rule reply = Verdict (SoundRule rule) badRule reply
 abbrev pub Good : List ℕ → List ℕ → List ℕ → Type 0
 Good graph rule map = (length map ≡ mapBytes) × SoundGraph graph × SoundRule rule
 
+-- the numbers that are about the lent blocks; an operation's own are none of these
+abbrev pub blockNumbers : List ℕ
+blockNumbers = badMapLength ∷ badGraph ∷ badRule ∷ []
+
 -- "Bad ones are refused by number": replies 1 to 3, "tested in that order, the lowest that applies"
 pub record BlockReplies (graph rule map : List ℕ) (reply : ℕ) : Type 0 where
   -- "1: map buffer isn't 32 bytes"
-  pub wrongMap : (reply ≡ badMapLength) ↔ (length map ≡ mapBytes → ⊥)
+  pub wrongMap : (numberIn reply ≡ badMapLength) ↔ (length map ≡ mapBytes → ⊥)
   -- "2: bad graph block"
-  pub wrongGraph : (reply ≡ badGraph) ↔ ((length map ≡ mapBytes) × (SoundGraph graph → ⊥))
+  pub wrongGraph : (numberIn reply ≡ badGraph) ↔ ((length map ≡ mapBytes) × (SoundGraph graph → ⊥))
   -- "3: bad rule block"
-  pub wrongRule : (reply ≡ badRule) ↔ ((length map ≡ mapBytes) × SoundGraph graph × (SoundRule rule → ⊥))
+  pub wrongRule : (numberIn reply ≡ badRule) ↔ ((length map ≡ mapBytes) × SoundGraph graph × (SoundRule rule → ⊥))
   -- every other reply is for good blocks only
-  pub good : (reply ≡ 0) ⊎ (noMatch ≤ reply) → Good graph rule map
+  pub good : member (numberIn reply) blockNumbers ≡ false → Good graph rule map
+  pub plain : WithoutPlace reply
 
 -- "Done, in matching and in rewriting, writes the map: sixteen 16-bit numbers, 65535 from S on." The first S of them are the images.
 pub record WritesLeast (graph rule : List ℕ) (start : ℕ) (mapAfter : List ℕ) : Type 0 where
@@ -86,20 +99,24 @@ pub record WritesLeast (graph rule : List ℕ) (start : ℕ) (mapAfter : List �
   pub rest : (j : ℕ) → sourceCount rule ≤ j → j < mapPlaces → u16At mapAfter (2 * j) ≡ unusedPlace
   pub size : length mapAfter ≡ mapBytes
 
+-- the numbers that matching gives
+abbrev pub matchNumbers : List ℕ
+matchNumbers = 0 ∷ blockNumbers ++ noMatch ∷ []
+
 -- follows from Searched
 pub record MatchReplies (graph rule : List ℕ) (start : ℕ) (map : List ℕ) (reply : ℕ) (graphAfter mapAfter : List ℕ) : Type 0 where
   pub blocks : BlockReplies graph rule map reply
   -- "A match is found whenever one exists."
-  pub done : (reply ≡ 0) ↔ (Good graph rule map × ((images : List ℕ) × MatchFrom (graphOf graph) (ruleOf rule) start images))
+  pub done : (numberIn reply ≡ 0) ↔ (Good graph rule map × ((images : List ℕ) × MatchFrom (graphOf graph) (ruleOf rule) start images))
   -- "4: no match from s"
-  pub none : (reply ≡ noMatch)
+  pub none : (numberIn reply ≡ noMatch)
       ↔ (Good graph rule map × ((images : List ℕ) → MatchFrom (graphOf graph) (ruleOf rule) start images → ⊥))
   -- "matching 0 to 4"
-  pub oneOfFive : reply ≤ noMatch
+  pub oneOfFive : member (numberIn reply) matchNumbers ≡ true
   -- "Only rewriting writes the graph." "After a refusal each lent byte is as it came."
   pub graphKept : graphAfter ≡ graph
-  pub refusalKeeps : (reply ≡ 0 → ⊥) → mapAfter ≡ map
-  pub written : reply ≡ 0 → WritesLeast graph rule start mapAfter
+  pub refusalKeeps : (numberIn reply ≡ 0 → ⊥) → mapAfter ≡ map
+  pub written : numberIn reply ≡ 0 → WritesLeast graph rule start mapAfter
 
 -- "An accepted rewriting yields the one table that document 01 describes": for the match `images`, with the results of the target
 -- vertices' expressions. Its block is sound, so that rewritings can follow one another.
@@ -114,18 +131,22 @@ pub record Yields (graph rule images graphAfter : List ℕ) : Type 0 where
   pub records : (k : ℕ) → T (stays (graphOf graph) (ruleOf rule) images k) → ReadsNone (graphOf graph) (ruleOf rule) images k
       → (i : ℕ) → i < slotBytes → byteAt graphAfter (recordAt k + i) ≡ byteAt graph (recordAt k + i)
 
+-- the numbers that rewriting gives
+abbrev pub rewriteNumbers : List ℕ
+rewriteNumbers = matchNumbers ++ noResult ∷ noRoom ∷ newCycle ∷ []
+
 -- follows from Rewrote
 pub record RewriteReplies (graph rule : List ℕ) (start : ℕ) (map : List ℕ) (reply : ℕ) (graphAfter mapAfter : List ℕ) : Type 0 where
   pub blocks : BlockReplies graph rule map reply
   -- "No match, an attribute without a fit result, no room and a cycle are each reported exactly when they are so and nothing earlier in
   -- document 01's order is." Done is due where none of them is so.
-  pub due : Good graph rule map → (n : ℕ) → (reply ≡ n) ↔ (Due (graphOf graph) (ruleOf rule) start n)
+  pub due : Good graph rule map → (n : ℕ) → (numberIn reply ≡ n) ↔ (Due (graphOf graph) (ruleOf rule) start n)
   -- "rewriting 0 to 7"
-  pub oneOfEight : reply ≤ newCycle
+  pub oneOfEight : member (numberIn reply) rewriteNumbers ≡ true
   -- "After a refusal each lent byte is as it came."
-  pub refusalKeeps : (reply ≡ 0 → ⊥) → (graphAfter ≡ graph) × (mapAfter ≡ map)
-  pub written : reply ≡ 0 → WritesLeast graph rule start mapAfter
-  pub yields : reply ≡ 0 → Yields graph rule (imagesIn mapAfter (sourceCount rule)) graphAfter
+  pub refusalKeeps : (numberIn reply ≡ 0 → ⊥) → (graphAfter ≡ graph) × (mapAfter ≡ map)
+  pub written : numberIn reply ≡ 0 → WritesLeast graph rule start mapAfter
+  pub yields : numberIn reply ≡ 0 → Yields graph rule (imagesIn mapAfter (sourceCount rule)) graphAfter
 
 -- ==== what follows: demand 3, of every accepted rewriting
 

@@ -13,7 +13,7 @@ use lib.Seq.{ext-getD}
 use Rattle.definitions.specs.declared.Reply.the-variants.{Done}
 use Rattle.definitions.specs.Lists.{padded, concatMap}
 use Rattle.definitions.specs.Fields.{u16Bytes}
-use Rattle.definitions.specs.Reply.{badMapLength, refused}
+use Rattle.definitions.specs.Reply.{done, badMapLength, refused}
 use Rattle.definitions.specs.Graph.{unusedPlace, graphReply, SoundGraph}
 use Rattle.definitions.specs.Rule.{ruleReply, SoundRule}
 use Rattle.definitions.specs.Match.{imageOf}
@@ -21,6 +21,7 @@ use Rattle.definitions.specs.Operations.{mapPlaces, mapBytes, mapBlock, mapRepl
 use Rattle.laws.proofs.Lists.{decided}
 use Rattle.laws.proofs.Padded.{length-padded, padded-at, taken-at}
 use Rattle.laws.proofs.Reply.{done-or-refused, first-all}
+use Rattle.laws.proofs.Operations.{map-plain, graph-plain, rule-plain}
 use Rattle.graph_check.proofs.Sound as GraphSound
 use Rattle.rule_check.proofs.Sound as RuleSound
 
@@ -42,20 +43,20 @@ map-bytes n images size small rest = sym (ap (concatMap u16Bytes) (filled-up n i
 
 -- ---- past replies 1 to 3
 
-map-done : (images : List ℕ) → mapReply images ≡ Done → length images ≡ mapBytes
+map-done : (images : List ℕ) → mapReply images ≡ done → length images ≡ mapBytes
 unfolding mapReply
 map-done images h =
     ⊎-elim (λ (t : eqb (length images) mapBytes ≡ true). eqb-true (length images) mapBytes t)
     (λ (t : eqb (length images) mapBytes ≡ false).
-    let e : refused badMapLength ≡ Done = simp t at h in
+    let e : refused badMapLength ≡ done = simp t at h in
     absurd (done-or-refused badMapLength (sym e)))
     (decided (eqb (length images) mapBytes))
 
-pub blocks-done : (graph rule images : List ℕ) → blocksReply graph rule images ≡ Done
+pub blocks-done : {value : ℕ} (graph rule images : List ℕ) → blocksReply graph rule images ≡ Done value
     → (length images ≡ mapBytes) × SoundGraph graph × SoundRule rule
 unfolding blocksReply
 blocks-done graph rule images h =
-    let first = first-all (mapReply images) (graphReply graph ∷ ruleReply rule ∷ []) h in
-    let second = first-all (graphReply graph) (ruleReply rule ∷ []) (first .1) in
-    let third = first-all (ruleReply rule) [] (second .1) in
+    let first = first-all (mapReply images) (graphReply graph ∷ ruleReply rule ∷ []) (map-plain images) h in
+    let second = first-all (graphReply graph) (ruleReply rule ∷ []) (graph-plain graph) (first .1) in
+    let third = first-all (ruleReply rule) [] (rule-plain rule) (second .1) in
     (map-done images (first .0), GraphSound.only-sound graph (second .0), RuleSound.only-sound rule (third .0))

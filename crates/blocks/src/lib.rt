@@ -19,7 +19,7 @@ fn check_map(map: &[u8]) -> Reply
     if map.len() != MAP_BYTES {
         return refuse(BAD_MAP_LENGTH);
     }
-    Reply::Done
+    Reply::Done(0)
 }
 
 // Replies 1 to 3, in that order: the map, the graph, the rule.
@@ -28,11 +28,11 @@ pub fn check_blocks(graph: &[u8], rule: &[u8], map: &[u8]) -> Reply
 {
     match check_map(map) {
         Reply::Refused(refusal) => return Reply::Refused(refusal),
-        Reply::Done => {}
+        Reply::Done(_) => {}
     }
     match graph_check::check(graph) {
         Reply::Refused(refusal) => return Reply::Refused(refusal),
-        Reply::Done => {}
+        Reply::Done(_) => {}
     }
     rule_check::check(rule)
 }

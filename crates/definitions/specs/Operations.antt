@@ -12,7 +12,7 @@ use Rattle.definitions.specs.declared.Reply.{Reply}
 use Rattle.definitions.specs.declared.Reply.the-variants.{Done, Refused}
 use Rattle.definitions.specs.Lists.{padded, concatMap}
 use Rattle.definitions.specs.Fields.{u16Bytes}
-use Rattle.definitions.specs.Reply.{badMapLength, noMatch, noResult, noRoom, newCycle, refusal, refused, packed, firstRefusal}
+use Rattle.definitions.specs.Reply.{done, badMapLength, noMatch, noResult, noRoom, newCycle, refusal, refused, packed, firstRefusal}
 use Rattle.definitions.specs.Graph.{unusedPlace, Graph, graphOf, graphBlock, graphReply, hasCycle}
 use Rattle.definitions.specs.Rule.{Rule, ruleOf, ruleReply}
 use Rattle.definitions.specs.Match.{readAttribute, leastMatch}
@@ -50,7 +50,7 @@ unfoldable pub mapBlock : List ℕ → List ℕ
 mapBlock images = concatMap u16Bytes (padded mapPlaces unusedPlace images)
 
 unfoldable pub mapReply : List ℕ → Reply
-mapReply map = cond (eqb (length map) mapBytes) Done (refused badMapLength)
+mapReply map = cond (eqb (length map) mapBytes) done (refused badMapLength)
 
 -- replies 1 to 3: the lent blocks, in that order
 unfoldable pub blocksReply : List ℕ → List ℕ → List ℕ → Reply
@@ -62,12 +62,12 @@ blocksReply graph rule map = firstRefusal (mapReply map ∷ graphReply graph ∷
 unfoldable pub matched : List ℕ → List ℕ → ℕ → List ℕ → Outcome
 matched graph rule start map = elim (leastMatch (graphOf graph) (ruleOf rule) start) [
   | none ↦ outcome (refused noMatch) graph map
-  | some found ↦ outcome Done graph (mapBlock found)
+  | some found ↦ outcome done graph (mapBlock found)
 ]
 
 unfoldable pub findMatch : List ℕ → List ℕ → ℕ → List ℕ → Outcome
 findMatch graph rule start map = elim (blocksReply graph rule map) [
-  | Done ↦ matched graph rule start map
+  | Done value ↦ matched graph rule start map
   | Refused why ↦ outcome (Refused why) graph map
 ]
 
@@ -91,13 +91,13 @@ rewritten g r found = elim (targetResults (readAttribute g found) (r .target)) [
 unfoldable pub replaced : List ℕ → List ℕ → List ℕ → List ℕ → Outcome
 replaced graph rule map found = elim (rewritten (graphOf graph) (ruleOf rule) found) [
   | turnedDown why ↦ outcome (Refused why) graph map
-  | accepted new ↦ outcome Done (graphBlock new) (mapBlock found)
+  | accepted new ↦ outcome done (graphBlock new) (mapBlock found)
 ]
 
 unfoldable pub rewrite : List ℕ → List ℕ → ℕ → List ℕ → Outcome
 rewrite graph rule start map = elim (blocksReply graph rule map) [
   | Refused why ↦ outcome (Refused why) graph map
-  | Done ↦ elim (leastMatch (graphOf graph) (ruleOf rule) start) [
+  | Done value ↦ elim (leastMatch (graphOf graph) (ruleOf rule) start) [
     | none ↦ outcome (refused noMatch) graph map
     | some found ↦ replaced graph rule map found
   ]

@@ -82,10 +82,10 @@ pub const MAP_PLACES: usize = 16;
 
 pub const MAP_BYTES: usize = 2 * MAP_PLACES;
 
-// Where a refusal's fault lies, and why. Both are zero for now.
+// Where a refusal's fault lies, and a value beside it, a count or a reason. Both are zero for now.
 pub struct Place {
     pub index: u32,
-    pub reason: u16,
+    pub value: u32,
 }
 
 // A refusal: the number of the reply table with its place record.
@@ -94,8 +94,8 @@ pub struct Refusal {
     pub place: Place,
 }
 
-// The answer of every operation: done, or a refusal.
+// The answer of every operation: done, with a value where a request names one, or a refusal. A value has 24 bits.
 pub enum Reply {
-    Done,
+    Done(u32),
     Refused(Refusal),
 }

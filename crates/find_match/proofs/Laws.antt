@@ -6,7 +6,7 @@ use mathlib.Core.Option.{none, some}
 use Prim.Native.Nat.{ℕ}
 use Rattle.definitions.specs.declared.Refusal.{Refusal}
 use Rattle.definitions.specs.declared.Reply.the-variants.{Done, Refused}
-use Rattle.definitions.specs.Reply.{noMatch, refused}
+use Rattle.definitions.specs.Reply.{done, noMatch, refused}
 use Rattle.definitions.specs.Graph.{graphOf}
 use Rattle.definitions.specs.Rule.{ruleOf}
 use Rattle.definitions.specs.Match.{leastMatch}
@@ -20,7 +20,7 @@ module _ (graph rule : List ℕ) (start : ℕ) (images : List ℕ) where
   unfolding findMatch
   blocks-refused refusal h = rw (h, findMatch)
 
-  module _ (h : blocksReply graph rule images ≡ Done) where
+  module _ {value : ℕ} (h : blocksReply graph rule images ≡ Done value) where
     searched : matched graph rule start images ≡ findMatch graph rule start images
     unfolding findMatch
     searched = rw (h, findMatch)
@@ -31,6 +31,6 @@ module _ (graph rule : List ℕ) (start : ℕ) (images : List ℕ) where
     nothing-found k = sym (rw (k, matched)) ∙ searched
 
     pub match-found : (found : List ℕ) → leastMatch (graphOf graph) (ruleOf rule) start ≡ some found
-        → outcome Done graph (mapBlock found) ≡ findMatch graph rule start images
+        → outcome done graph (mapBlock found) ≡ findMatch graph rule start images
     unfolding matched
     match-found found k = sym (rw (k, matched)) ∙ searched

@@ -15,7 +15,7 @@ pub fn find_match(graph: &[u8], rule: &[u8], start: usize, map: &mut [u8]) -> Re
 {
     match check_blocks(graph, rule, map) {
         Reply::Refused(refusal) => return Reply::Refused(refusal),
-        Reply::Done => {}
+        Reply::Done(_) => {}
     }
     let found = least_match(graph, rule, start);
     if !found.ok {
@@ -23,5 +23,5 @@ pub fn find_match(graph: &[u8], rule: &[u8], start: usize, map: &mut [u8]) -> Re
     }
     let images = found.images;
     write_map(map, &images);
-    Reply::Done
+    Reply::Done(0)
 }

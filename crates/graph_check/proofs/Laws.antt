@@ -9,9 +9,8 @@ use borrow.Author.Tests.{not-false, lt-ltb, le-ltb}
 use lib.ListN.{length, getD}
 use Rattle.definitions.specs.Lists.{lowest, all}
 use Rattle.definitions.specs.Fields.{byteAt}
-use Rattle.definitions.specs.declared.Reply.the-variants.{Done}
 use Rattle.definitions.specs.Operators.{shapeFits}
-use Rattle.definitions.specs.Reply.{badGraph, refused, flag, place, judged}
+use Rattle.definitions.specs.Reply.{done, badGraph, refused, flag, place, judged}
 use Rattle.definitions.specs.Graph.{unusedPlace, slotCount, outputCount, recordAt, Slot, graphOf, inputsOf, isVertex, headerFits, recordFits, badRecord, badInputs, badOutput, hasCycle, graphFaults, graphReply}
 use Rattle.laws.proofs.Lists.{lowest-passed, all-at}
 use Rattle.laws.proofs.Graph.{vertex-inside, length-slots, slot-of, length-inputs, length-attributes, header-size, few-slots, few-outputs, record-shape}
@@ -82,6 +81,6 @@ module _ (block : List ℕ) where
           unfolding graphReply graphFaults flag place judged
           refused-cycle t = simp (header, le-ltb _ _ records, le-ltb _ _ inputs, le-ltb _ _ outputs, t)
 
-          pub sound : hasCycle (graphOf block) ≡ false → Done ≡ graphReply block
+          pub sound : hasCycle (graphOf block) ≡ false → done ≡ graphReply block
           unfolding graphReply graphFaults flag place judged
           sound f = simp (header, le-ltb _ _ records, le-ltb _ _ inputs, le-ltb _ _ outputs, f)

@@ -7,10 +7,9 @@ use Prim.Native.Nat.{ℕ, _≤_}
 use native.Mathlib.Omega.{arith}
 use borrow.Author.Tests.{not-false}
 use lib.ListN.{length, getD}
-use Rattle.definitions.specs.declared.Reply.the-variants.{Done}
 use Rattle.definitions.specs.Lists.{lowest, all}
 use Rattle.definitions.specs.Paths.{Reads, acyclicBelow}
-use Rattle.definitions.specs.Reply.{badGraph, flag, place}
+use Rattle.definitions.specs.Reply.{done, badGraph, flag, place}
 use Rattle.definitions.specs.Graph.{unusedPlace, slotCount, outputCount, recordAt, graphOf, inputsOf, isVertex, headerFits, recordFits, badRecord, badInputs, badOutput, hasCycle, graphFaults, graphReply, SoundGraph}
 use Rattle.laws.proofs.Lists.{lowest-whole, lowest-passed, all-member, all-members, all-at, all-every}
 use Rattle.laws.proofs.Graph.{reader-inside, length-slots, length-outputs}
@@ -28,7 +27,7 @@ module _ (block : List ℕ) where
     pub outputs : outputCount block ≤ lowest (badOutput (graphOf block)) (outputCount block)
     pub acyclic : hasCycle (graphOf block) ≡ false
 
-  faultless : graphReply block ≡ Done → Faultless
+  faultless : graphReply block ≡ done → Faultless
   unfolding graphReply graphFaults
   faultless h =
       let f₁ = flag (not (headerFits block)) in
@@ -76,11 +75,11 @@ module _ (block : List ℕ) where
   }
 
   -- the reply is done for sound graphs alone
-  pub only-sound : graphReply block ≡ Done → SoundGraph block
+  pub only-sound : graphReply block ≡ done → SoundGraph block
   only-sound h = done-sound (faultless h)
 
   -- and for every sound graph
-  pub every-sound : SoundGraph block → graphReply block ≡ Done
+  pub every-sound : SoundGraph block → graphReply block ≡ done
   unfolding badRecord badInputs badOutput hasCycle
   every-sound s =
       sym (sound block (s .header)

@@ -40,5 +40,5 @@ pub fn check(graph: &[u8]) -> Reply
     if has_cycle(graph) {
         return bad_graph();
     }
-    Reply::Done
+    Reply::Done(0)
 }

@@ -2,7 +2,7 @@
 -- Assumes nothing.
 use mathlib.Core.Path.{_≡_, refl, sym, ap, _∙_, subst}
 use mathlib.Core.Bool.{Bool, true, false, not, or-true, false≢true}
-use mathlib.Core.List.{List, [], _∷_, map, List·Memᴰ, List·Memᴰ·head, List·Memᴰ·tail, List·Memᴰ·not-nil, Memᴰ·append-left, Memᴰ·append-right, List·Memᴰ·append-cases}
+use mathlib.Core.List.{List, [], _∷_, _++_, map, List·Memᴰ, List·Memᴰ·head, List·Memᴰ·tail, List·Memᴰ·not-nil, Memᴰ·append-left, Memᴰ·append-right, List·Memᴰ·append-cases}
 use mathlib.Core.Logic.{⊎-elim}
 use Prim.Native.Nat.{ℕ, zero, suc, _+_, _-_, _<_, _≤_}
 use native.Mathlib.Nat.{not-suc-le-zero, le-of-suc-le-suc}
@@ -40,6 +40,10 @@ mem-member {x} (List·Memᴰ·tail {x = y} m) = simp (mem-member m, or-true)
 
 pub no-member : (x : ℕ) (xs : List ℕ) → (List·Memᴰ x xs → ⊥) → member x xs ≡ false
 no-member x xs h = fails (λ t. h (member-mem x xs t))
+
+-- a member of the first of two lists is one of both
+pub member-left : (x : ℕ) (xs ys : List ℕ) → member x xs ≡ true → member x (xs ++ ys) ≡ true
+member-left x xs ys h = mem-member (Memᴰ·append-left ys (member-mem x xs h))
 
 -- ---- places of members
 

@@ -3,6 +3,7 @@ use definitions::Place;
 use definitions::Refusal;
 use definitions::Reply;
 ghost use mathlib.Core.Path.{_≡_};
+ghost use Prim.Native.Nat.{_<_};
 ghost use Rattle.definitions.specs.Reply as answer;
 
 // The reply table's numbers.
@@ -26,24 +27,27 @@ pub fn refuse(number: u8) -> Reply
 {
     Reply::Refused(Refusal {
         number,
-        place: Place {
-            index: 0,
-            reason: 0,
-        },
+        place: Place { index: 0, value: 0 },
     })
 }
 
-// The number in bits 0 to 7, the place's index in bits 8 to 39, its reason from bit 40 on.
+// In the number that the C side gets, where the place begins, at bit 8, and where the value does, at bit 40.
+const PLACE_UNIT: u64 = 256;
+
+const VALUE_UNIT: u64 = 1099511627776;
+
+// The number in bits 0 to 7, the place in bits 8 to 39, the value in bits 40 to 63.
 pub fn pack(reply: Reply) -> u64
+    requires { ⌜ answer.valueBeside reply < answer.valueLimit ⌝ }
     ensures { λ r. ⌜ r ≡ answer.packed reply ⌝ }
 {
     match reply {
-        Reply::Done => 0,
+        Reply::Done(value) => VALUE_UNIT * (value as u64),
         Reply::Refused(refusal) => {
             let number = refusal.number as u64;
             let index = refusal.place.index as u64;
-            let reason = refusal.place.reason as u64;
-            number + 256 * index + 1099511627776 * reason
+            let value = refusal.place.value as u64;
+            number + PLACE_UNIT * index + VALUE_UNIT * value
         }
     }
 }

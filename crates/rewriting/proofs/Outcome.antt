@@ -8,7 +8,7 @@ use Prim.Native.Nat.{ℕ}
 use lib.ListN.{take}
 use Rattle.definitions.specs.declared.Refusal.{Refusal}
 use Rattle.definitions.specs.declared.Reply.the-variants.{Done, Refused}
-use Rattle.definitions.specs.Reply.{noMatch, refused}
+use Rattle.definitions.specs.Reply.{done, noMatch, refused}
 use Rattle.definitions.specs.Graph.{Graph, graphOf, graphBlock}
 use Rattle.definitions.specs.Rule.{sourceCount, ruleOf, SoundRule}
 use Rattle.definitions.specs.Match.{leastMatch}
@@ -24,7 +24,7 @@ module _ (graph rule : List ℕ) (start : ℕ) (images : List ℕ) where
   unfolding rewrite
   blocks-refused refusal h = rw (h, rewrite)
 
-  module _ (h : blocksReply graph rule images ≡ Done) where
+  module _ {value : ℕ} (h : blocksReply graph rule images ≡ Done value) where
     pub nothing-found : leastMatch (graphOf graph) (ruleOf rule) start ≡ none
         → outcome (refused noMatch) graph images ≡ rewrite graph rule start images
     unfolding rewrite
@@ -41,7 +41,7 @@ module _ (graph rule : List ℕ) (start : ℕ) (images : List ℕ) where
       turned-down why e = sym (rw (e, replaced)) ∙ at-match
 
       pub table-left : (new : Graph) → rewritten (graphOf graph) (ruleOf rule) found ≡ accepted new
-          → outcome Done (graphBlock new) (mapBlock found) ≡ rewrite graph rule start images
+          → outcome done (graphBlock new) (mapBlock found) ≡ rewrite graph rule start images
       unfolding replaced
       table-left new e = sym (rw (e, replaced)) ∙ at-match
 

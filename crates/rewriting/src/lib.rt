@@ -55,7 +55,7 @@ fn plan(graph: &[u8], rule: &[u8], images: &[u16; SIDE_CAPACITY], table: &mut [u
     if has_cycle(made) {
         return refuse(NEW_CYCLE);
     }
-    Reply::Done
+    Reply::Done(0)
 }
 
 // Room for a table: zeros, as many as the longest block has bytes.
@@ -77,10 +77,10 @@ fn replace(graph: &mut [u8], rule: &[u8], images: &[u16; SIDE_CAPACITY]) -> Repl
     let size = graph.len();
     match plan(graph, rule, images, &mut table[0..size]) {
         Reply::Refused(why) => return Reply::Refused(why),
-        Reply::Done => {}
+        Reply::Done(_) => {}
     }
     commit(graph, &table[0..size]);
-    Reply::Done
+    Reply::Done(0)
 }
 
 // Rewrites at the least match from `start`; no other is tried.
@@ -90,7 +90,7 @@ pub fn rewrite(graph: &mut [u8], rule: &[u8], start: usize, map: &mut [u8]) -> R
 {
     match check_blocks(graph, rule, map) {
         Reply::Refused(refusal) => return Reply::Refused(refusal),
-        Reply::Done => {}
+        Reply::Done(_) => {}
     }
     let found = least_match(graph, rule, start);
     if !found.ok {
@@ -99,8 +99,8 @@ pub fn rewrite(graph: &mut [u8], rule: &[u8], start: usize, map: &mut [u8]) -> R
     let images = found.images;
     match replace(graph, rule, &images) {
         Reply::Refused(refusal) => return Reply::Refused(refusal),
-        Reply::Done => {}
+        Reply::Done(_) => {}
     }
     write_map(map, &images);
-    Reply::Done
+    Reply::Done(0)
 }

@@ -8,10 +8,9 @@ use native.Mathlib.Omega.{arith}
 use borrow.Author.Tests.{leb-true, ltb-true, eqb-true, not-false, lt-ltb, le-ltb}
 use lib.Dec.{eqb, leb, ltb}
 use lib.ListN.{length, getD}
-use Rattle.definitions.specs.declared.Reply.the-variants.{Done}
 use Rattle.definitions.specs.Lists.{lowest, all, allBelow}
 use Rattle.definitions.specs.Fields.{byteAt}
-use Rattle.definitions.specs.Reply.{badRule, refused, flag, place, judged}
+use Rattle.definitions.specs.Reply.{done, badRule, refused, flag, place, judged}
 use Rattle.definitions.specs.Rule.{sideLimit, nodeLimit, sourceCount, targetCount, ruleOutputCount, nodeCount, vertexAt, nodeAt, ruleOf, sourceInputs, ruleSizesFit, ruleOutputPlacesFit, ruleHeaderFits, patternFits, sourceInputsFit, targetInputsFit, badVertex, inVisitingOrder, outputsFit, badNode, badUse, ruleFaults, ruleReply}
 use Rattle.laws.proofs.Lists.{needed, lowest-passed, all-at, allBelow-at}
 use Rattle.laws.proofs.Rule.{source-output-of, few-sources, few-targets, few-rule-outputs}
@@ -101,6 +100,6 @@ module _ (block : List ℕ) where
             refused-use l = simp (header, le-ltb _ _ vertices, order, outputs, le-ltb _ _ nodes, lt-ltb _ _ l)
 
             pub sound : sourceCount block + targetCount block ≤ lowest (badUse block) (sourceCount block + targetCount block)
-                → Done ≡ ruleReply block
+                → done ≡ ruleReply block
             unfolding ruleReply ruleFaults flag place judged
             sound l = simp (header, le-ltb _ _ vertices, order, outputs, le-ltb _ _ nodes, le-ltb _ _ l)

@@ -9,11 +9,10 @@ use native.Mathlib.Omega.{arith}
 use borrow.Author.Tests.{lt-ltb, le-ltb, ltb-true, ltb-false, not-false}
 use lib.Dec.{ltb}
 use lib.ListN.{length}
-use Rattle.definitions.specs.declared.Reply.the-variants.{Done}
 use Rattle.definitions.specs.Lists.{lowest, all, range}
 use Rattle.definitions.specs.Fields.{byteAt}
 use Rattle.definitions.specs.Paths.{Reaches}
-use Rattle.definitions.specs.Reply.{badRule, flag, place}
+use Rattle.definitions.specs.Reply.{done, badRule, flag, place}
 use Rattle.definitions.specs.Rule.{sideLimit, sourceCount, targetCount, nodeCount, vertexAt, ruleOf, sourceInputs, ruleHeaderFits, originFits, sourceInputsFit, targetInputsFit, badVertex, inVisitingOrder, reaches, sourceOutputsFit, connected, allNamed, outputsFit, nodeFits, badNode, useFits, badUse, ruleFaults, ruleReply, SoundRule}
 use Rattle.laws.proofs.Lists.{decided, needed, lowest-whole, lowest-passed, all-member, all-members, allBelow-at, allBelow-every, anyBelow-found, anyBelow-some}
 use Rattle.laws.proofs.Ranges.{same-lists, same-self}
@@ -32,7 +31,7 @@ module _ (block : List ℕ) where
     pub nodes : nodeCount block ≤ lowest (badNode block) (nodeCount block)
     pub uses : sourceCount block + targetCount block ≤ lowest (badUse block) (sourceCount block + targetCount block)
 
-  faultless : ruleReply block ≡ Done → Faultless
+  faultless : ruleReply block ≡ done → Faultless
   unfolding ruleReply ruleFaults
   faultless h =
       let n = sourceCount block + targetCount block in
@@ -85,7 +84,7 @@ module _ (block : List ℕ) where
         )
 
   -- the reply is done for sound rules alone
-  pub only-sound : ruleReply block ≡ Done → SoundRule block
+  pub only-sound : ruleReply block ≡ done → SoundRule block
   unfolding inVisitingOrder outputsFit badNode badUse
   only-sound h =
       let f = faultless h in
@@ -146,7 +145,7 @@ module _ (block : List ℕ) where
         simp (allBelow-every (λ i. useFits block v (byteAt block (vertexAt v + 10 + i))) (byteAt block (vertexAt v + 3)) (λ i m. s .uses v i l m))
 
   -- and for every sound rule
-  pub every-sound : SoundRule block → ruleReply block ≡ Done
+  pub every-sound : SoundRule block → ruleReply block ≡ done
   every-sound s =
       let n = sourceCount block + targetCount block in
       sym (sound block (s .header) (lowest-whole (badVertex block) n (vertex-good s)) (in-order s) (outputs-good s)

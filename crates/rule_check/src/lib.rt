@@ -46,5 +46,5 @@ pub fn check(rule: &[u8]) -> Reply
     if bad_use(rule) < vertices {
         return bad_rule();
     }
-    Reply::Done
+    Reply::Done(0)
 }

@@ -5,25 +5,18 @@ use mathlib.Core.List.{List}
 use mathlib.Core.Logic.{_⊎_, inl, inr, ⊎-elim}
 use mathlib.Core.Option.{Option}
 use Prim.Native.Nat.{ℕ}
-use Rattle.definitions.specs.declared.Reply.the-variants.{Done}
-use Rattle.definitions.specs.Reply.{badGraph, badRule, refusal, refused, numberOf, packed, judged}
+use Rattle.definitions.specs.Reply.{done, badGraph, badRule, refusal, refused, numberOf, packed, judged}
 use Rattle.definitions.specs.Graph.{graphFaults, graphReply}
 use Rattle.definitions.specs.Rule.{sideLimit, ruleFaults, ruleReply}
-use Rattle.laws.proofs.Reply.{packed-refused, judged-either}
+use Rattle.laws.proofs.Reply.{plain-packed, judged-either}
+use Rattle.laws.proofs.Operations.{graph-plain, rule-plain}
 
 module _ (number : ℕ) (faults : List (Option ℕ)) where
   judged-number : (numberOf (judged number faults) ≡ 0) ⊎ (numberOf (judged number faults) ≡ number)
   unfolding refusal numberOf
   judged-number =
-      ⊎-elim (λ (e : judged number faults ≡ Done). inl (ap numberOf e))
+      ⊎-elim (λ (e : judged number faults ≡ done). inl (ap numberOf e))
       (λ (e : judged number faults ≡ refused number). inr (ap numberOf e))
-      (judged-either number faults)
-
-  judged-packed : packed (judged number faults) ≡ numberOf (judged number faults)
-  unfolding refusal numberOf packed
-  judged-packed =
-      ⊎-elim (λ (e : judged number faults ≡ Done). rw e)
-      (λ (e : judged number faults ≡ refused number). rw e (packed-refused number))
       (judged-either number faults)
 
 -- checking a graph gives 0 or 2
@@ -32,8 +25,7 @@ unfolding graphReply
 graph-number block = judged-number badGraph (graphFaults block)
 
 pub graph-packed : (block : List ℕ) → packed (graphReply block) ≡ numberOf (graphReply block)
-unfolding graphReply
-graph-packed block = judged-packed badGraph (graphFaults block)
+graph-packed block = plain-packed (graphReply block) (graph-plain block)
 
 -- and a rule 0 or 3
 pub rule-number : (block : List ℕ) → (numberOf (ruleReply block) ≡ 0) ⊎ (numberOf (ruleReply block) ≡ badRule)
@@ -41,5 +33,4 @@ unfolding ruleReply
 rule-number block = judged-number badRule (ruleFaults sideLimit block)
 
 pub rule-packed : (block : List ℕ) → packed (ruleReply block) ≡ numberOf (ruleReply block)
-unfolding ruleReply
-rule-packed block = judged-packed badRule (ruleFaults sideLimit block)
+rule-packed block = plain-packed (ruleReply block) (rule-plain block)

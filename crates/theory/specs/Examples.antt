@@ -114,7 +114,7 @@ AllHold [] = Unit {0}
 AllHold (e ∷ es) = Holds e × AllHold es
 
 done : List ℕ → List ℕ → Outcome
-done graph images = record { reply = Done; graph = graph; map = mapBlock images }
+done graph images = record { reply = Done 0; graph = graph; map = mapBlock images }
 
 -- a refusal leaves both blocks as they came
 refusal : ℕ → List ℕ → Outcome

@@ -7,6 +7,7 @@ use Prim.Native.Nat.{ℕ}
 use borrow.Author.Tests.{not-true, not-false}
 use lib.ListN.{take}
 use Rattle.definitions.specs.declared.Reply.the-variants.{Done}
+use Rattle.definitions.specs.Reply.{done}
 use Rattle.definitions.specs.Rule.{sourceCount}
 use Rattle.definitions.specs.Operations.{outcome, blocksReply}
 use Rattle.blocks.proofs.Laws.{map-bytes, blocks-done}
@@ -28,7 +29,7 @@ abbrev map : tie.After-enum-told → List ℕ
 map c = start c .args .map .now
 
 -- past the first three replies the blocks are good
-good : (c : tie.After-enum-told) → blocksReply (graph c) (rule c) (map c) ≡ Done
+good : (c : tie.After-enum-told) → blocksReply (graph c) (rule c) (map c) ≡ Done (c .enum-told .given .0 .0)
 good c = sym (c .before .before .check-blocks .ensures) ∙ c .enum-told .given .1
 
 check-blocks-requires : tie.Need-check-blocks-requires
@@ -88,7 +89,7 @@ returns-3 c =
     let found = l .least-match .ensures in
     let images = l .least-match .result .images in
     let n = sourceCount (rule b) in
-    ap (outcome Done (graph b)) (w .write-map .ensures ∙ map-bytes n images (found .size yes) (found .small yes) (found .rest yes))
+    ap (outcome done (graph b)) (w .write-map .ensures ∙ map-bytes n images (found .size yes) (found .small yes) (found .rest yes))
     ∙ match-found (graph b) (rule b) (start b .args .start) (map b) (good b) (take n images) (found .found yes)
 
 pub find-match-spec : {M : Type 1} → statement M

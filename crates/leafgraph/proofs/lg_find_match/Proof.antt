@@ -1,7 +1,9 @@
 -- The outcome, with its reply packed.
 -- Assumes nothing.
 use mathlib.Core.Path.{ap, _∙_}
-use Rattle.definitions.specs.Operations.{atReturn, returned}
+use Rattle.definitions.specs.Operations.{Outcome, atReturn, returned}
+use Rattle.laws.proofs.Reply.{plain-fits}
+use Rattle.laws.proofs.Operations.{match-plain}
 use borrow.Author.Needs.{needs}
 use Rattle.leafgraph.proofs.lg_find_match.Statement.{statement}
 use Rattle.leafgraph.proofs.lg_find_match.Tie as tie
@@ -10,7 +12,10 @@ find-match-requires : tie.Need-find-match-requires
 find-match-requires c κs = search needs
 
 pack-requires : tie.Need-pack-requires
-pack-requires c κs = search needs
+pack-requires c κs =
+    let f = c .before .before in
+    let a = f .before .before .before .before .before .args in
+    plain-fits (ap (λ (o : Outcome). o .reply) (f .find-match .ensures)) (match-plain (a .graph .now) (a .rule .now) (a .start) (a .map .now))
 
 same-length : tie.Need-same-length
 same-length c = search needs

@@ -194,7 +194,7 @@ returns-4 c =
     let w = h .before .before .before .before in
     let l = listed w in
     let s = begun l in
-    planned-done _ Done _ (new w) (table w) refl
+    planned-done _ (Done 0) _ (new w) (table w) refl
     (done (graph s) (rule s) (images s) (s .pre .0) (s .pre .1 .0) (s .pre .1 .1 .0) (fit l)
     (l .lowest-free .result .count) (l .lowest-free .result .slots) (places l) (enough w) (sym (judged h) ∙ c .if3 .left))
     (w .write-table .ensures)

@@ -7,6 +7,7 @@ use native.Mathlib.Omega.{arith}
 use lib.ListN.{length, take, length-append}
 use lib.Seq.{take-append-seam}
 use Rattle.definitions.specs.declared.Reply.the-variants.{Done, Refused}
+use Rattle.definitions.specs.Reply.{done}
 use Rattle.definitions.specs.Graph.{slotLimit, recordAt, SoundGraph}
 use Rattle.graph_fields.specs.Layout.{WholeGraph}
 use Rattle.search.proofs.Sound.{graph-readable}
@@ -65,7 +66,7 @@ returns c =
     let p = r .before .before .before in
     let why = r .why .given .0 .0 in
     record {
-      done = λ d. absurd (not-both (Refused why) why d refl);
+      done = λ value d. absurd (not-both (Refused why) why d refl);
       refused = λ other o. (p .plan .ensures .refused other (r .why .given .1 ∙ o), refl);
     }
 
@@ -89,7 +90,7 @@ commit-requires c κs =
     let z = c .before .before .before in
     let t = z .before .before in
     let p = t .before in
-    let made = p .plan .ensures .done (z .enum-told .given .1) in
+    let made = p .plan .ensures .done _ (z .enum-told .given .1) in
     let same = front _ (p .plan .last .1 .1 .1 .0) _ (filled t) ∙ made .3 in (
       search needs,
       (
@@ -107,10 +108,10 @@ returns-2 c =
     let z = y .before .before .before .before in
     let t = z .before .before in
     let p = t .before in
-    let made = p .plan .ensures .done (z .enum-told .given .1) in
+    let made = p .plan .ensures .done _ (z .enum-told .given .1) in
     record {
-      done = λ d. (made .0, made .2, y .commit .ensures ∙ front _ (p .plan .last .1 .1 .1 .0) _ (filled t) ∙ made .3);
-      refused = λ why e. absurd (not-both Done why refl e);
+      done = λ value d. (made .0, made .2, y .commit .ensures ∙ front _ (p .plan .last .1 .1 .1 .0) _ (filled t) ∙ made .3);
+      refused = λ why e. absurd (not-both done why refl e);
     }
 
 pub replace-spec : {M : Type 1} → statement M

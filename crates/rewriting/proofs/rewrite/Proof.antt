@@ -8,6 +8,7 @@ use Prim.Native.Nat.{ℕ}
 use borrow.Author.Tests.{not-true, not-false}
 use lib.ListN.{take}
 use Rattle.definitions.specs.declared.Reply.the-variants.{Done, Refused}
+use Rattle.definitions.specs.Reply.{done}
 use Rattle.definitions.specs.Rule.{sourceCount}
 use Rattle.definitions.specs.Operations.{outcome, blocksReply}
 use Rattle.blocks.proofs.Laws.{map-bytes, blocks-done}
@@ -30,7 +31,7 @@ module _ (c : tie.After-enum-told) where
   abbrev map : List ℕ
   map = start .args .map .now
 
-  good : blocksReply graph rule map ≡ Done
+  good : blocksReply graph rule map ≡ Done (c .enum-told .given .0 .0)
   good = sym (c .before .before .check-blocks .ensures) ∙ c .enum-told .given .1
 
 check-blocks-requires : tie.Need-check-blocks-requires
@@ -150,8 +151,8 @@ returns-4 c =
     let e = p .before .before .before .before in
     let b = begun e in
     let finds = searched e .least-match .ensures in
-    let left = p .replace .ensures .done (z .enum-told2 .given .1) in
-    ap₂ (outcome Done) (left .2)
+    let left = p .replace .ensures .done _ (z .enum-told2 .given .1) in
+    ap₂ (outcome done) (left .2)
     (w .write-map .ensures
     ∙ map-bytes (sourceCount (rule b)) (images e) (finds .size (success e)) (finds .small (success e)) (finds .rest (success e)))
     ∙ table-left (graph b) (rule b) (start b .args .start) (map b) (good b) (found e) (finds .found (success e)) (left .0) (left .1)
