@@ -7,6 +7,7 @@ use definitions::KIND_EMPTY;
 use definitions::SIDE_CAPACITY;
 use definitions::SLOT_BYTES;
 use definitions::SLOT_LIMIT;
+use definitions::TAIL_BYTES;
 use definitions::UNUSED_PLACE;
 use graph_fields::attribute_count;
 use graph_fields::attribute_word;
@@ -34,8 +35,8 @@ ghost use mathlib.Core.Bool.{cond, not};
 ghost use mathlib.Core.List.{_++_};
 ghost use Prim.Native.Nat.{_+_, _*_, _<_};
 ghost use lib.ListN.{length, getD, take};
-ghost use Rattle.definitions.specs.Lists.{padded, concatMap, filter, range};
-ghost use Rattle.definitions.specs.Graph.{headerBytes, slotBytes, slotLimit, attributeLimit, slotCount, emptySlot, graphOf, slotOf, slotBlock, graphBlock};
+ghost use Rattle.definitions.specs.Lists.{padded, filter, range};
+ghost use Rattle.definitions.specs.Graph.{headerBytes, slotBytes, slotLimit, attributeLimit, slotCount, emptySlot, graphOf, slotOf, recordBlock, recordsBlock, graphBlock};
 ghost use Rattle.definitions.specs.Rule.{targetCount, ruleOutputCount, ruleOf, targetOf};
 ghost use Rattle.definitions.specs.Rewriting.{stays, targetSlot, newSlot};
 ghost use Rattle.graph_fields.specs.Layout.{ReadableGraph};
@@ -191,13 +192,13 @@ fn write_slot(
     requires { ⌜ next ≡ length (filter (λ i. not (stays (graphOf (now graph)) (ruleOf (now rule)) (now images) i)) (range 0 k)) ⌝ }
     requires { ⌜ length (now table) ≡ length (now graph) ⌝ }
     ensures { λ r. ⌜ take (headerBytes + slotBytes * (k + 1)) (now (table .exit)) ≡ take (headerBytes + slotBytes * k) (now (table .entry))
-        ++ slotBlock (newSlot (graphOf (now (graph .entry))) (ruleOf (now (rule .entry))) (now (images .entry))
-        (valuesOf (fitResults (now (graph .entry)) (now (rule .entry)) (now (images .entry)))) k) ⌝ }
+        ++ recordBlock (newTable (now (graph .entry)) (now (rule .entry)) (now (images .entry))) k ⌝ }
 {
     let record = new_record(graph, rule, images, places, way, k, free, next);
     let at = HEADER_BYTES + SLOT_BYTES * k;
     let end = at + SLOT_BYTES;
-    write_record(&mut table[at..end], record);
+    let tail = [0u8; TAIL_BYTES];
+    write_record(&mut table[at..end], record, &tail);
 }
 
 // Writes every slot; the header is left as it is.
@@ -215,7 +216,8 @@ fn write_slots(
     requires { ⌜ Marks (λ k. not (stays (graphOf (now graph)) (ruleOf (now rule)) (now images) k)) (slotCount (now graph)) (now free) ⌝ }
     requires { ⌜ length (now table) ≡ length (now graph) ⌝ }
     ensures { λ r. ⌜ now (table .exit) ≡ take headerBytes (now (table .entry))
-        ++ concatMap slotBlock (newTable (now (graph .entry)) (now (rule .entry)) (now (images .entry)) .slots) ⌝ }
+        ++ recordsBlock (newTable (now (graph .entry)) (now (rule .entry)) (now (images .entry)))
+        (length (newTable (now (graph .entry)) (now (rule .entry)) (now (images .entry)) .slots)) ⌝ }
 {
     let slots = slot_count(graph);
     let mut next = 0;

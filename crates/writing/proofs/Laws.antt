@@ -8,23 +8,23 @@ use native.Mathlib.Omega.{arith}
 use lib.ListN.{length, length-append}
 use Rattle.definitions.specs.Lists.{padded}
 use Rattle.definitions.specs.Fields.{u16Bytes, u32Bytes}
-use Rattle.definitions.specs.Graph.{slotBytes, inputLimit, attributeLimit, outputLimit, unusedPlace, Slot, slotTail, slotBlock, headerBlock}
+use Rattle.definitions.specs.Graph.{slotBytes, tailBytes, inputLimit, attributeLimit, outputLimit, unusedPlace, Slot, slotBlock, headerBlock}
 use Rattle.laws.proofs.Pieces.{length-pieces}
 use Rattle.writing.specs.declared.Record.{Record}
-use Rattle.writing.specs.Records.{recordBytes, headerWith, Stands}
+use Rattle.writing.specs.Records.{fieldsOf, recordBytes, headerWith, Stands}
 
-pub stands-bytes : (r : Record) (s : Slot) → Stands r s → recordBytes r ≡ slotBlock s
-unfolding recordBytes slotBlock
-stands-bytes r s h = rw (h .kind, h .operator, h .inputCount, h .attributeCount, h .inputs, h .attributes)
+pub stands-bytes : (tail : List ℕ) (r : Record) (s : Slot) → Stands r s → recordBytes tail r ≡ slotBlock tail s
+unfolding fieldsOf slotBlock
+stands-bytes tail r s h = rw (h .kind, h .operator, h .inputCount, h .attributeCount, h .inputs, h .attributes)
 
 pub header-bytes : (n : ℕ) (outputs : List ℕ)
     → headerWith n (length outputs) (padded outputLimit unusedPlace outputs) ≡ headerBlock n outputs
 unfolding headerWith headerBlock
 header-bytes n outputs = refl
 
-pub record-length : (r : Record) → length (r .inputs) ≡ inputLimit → length (r .attributes) ≡ attributeLimit
-    → length (recordBytes r) ≡ slotBytes
-unfolding recordBytes slotTail u16Bytes u32Bytes
-record-length r inputs attributes =
+pub record-length : (tail : List ℕ) (r : Record) → length tail ≡ tailBytes → length (r .inputs) ≡ inputLimit
+    → length (r .attributes) ≡ attributeLimit → length (recordBytes tail r) ≡ slotBytes
+unfolding fieldsOf u16Bytes u32Bytes
+record-length tail r size inputs attributes =
     simp length-append
     (omega (arith, length-pieces u16Bytes 2 0 (r .inputs) (λ k l. refl), length-pieces u32Bytes 4 0 (r .attributes) (λ k l. refl)))

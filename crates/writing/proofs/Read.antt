@@ -10,14 +10,13 @@ use lib.ListN.{length, getD, take, drop, set, length-drop}
 use lib.Seq.{length-take-le, take-suc-set, getD-take, getD-drop, drop-drop, take-add, ext-getD}
 use Rattle.definitions.specs.Lists.{tabulate, concatMap}
 use Rattle.definitions.specs.Fields.{byteAt, Bytes, u16At, u32At, u16Bytes, u32Bytes}
-use Rattle.definitions.specs.Graph.{slotBytes, inputLimit, attributeLimit, slotTail}
-use Rattle.laws.proofs.Lists.{length-tabulate, getD-tabulate}
+use Rattle.definitions.specs.Graph.{slotBytes, inputsOffset, attributesOffset, tailOffset, inputLimit, attributeLimit}
+use Rattle.laws.proofs.Lists.{length-tabulate}
 use Rattle.laws.proofs.Ranges.{tabulate-more}
-use Rattle.laws.proofs.Pieces.{length-pieces}
-use Rattle.encoding.proofs.Pieces.{in-pieces, below-four, piece-at}
+use Rattle.encoding.proofs.Pieces.{in-pieces, below-four, length-numbered, numbered-at}
 use Rattle.encoding.proofs.Numbers.{length-u16, length-u32, u16-bytes, u32-bytes}
 use Rattle.writing.specs.declared.Record.{Record}
-use Rattle.writing.specs.Records.{recordBytes, inputsAt, attributesAt, fieldsAt}
+use Rattle.writing.specs.Records.{fieldsOf, inputsAt, attributesAt, fieldsAt}
 
 -- an array that is filled from the front: where its first i elements are f's, one more is stored
 pub tabulated-more : (f : ℕ → ℕ) (xs : List ℕ) (i y : ℕ) → i < length xs → y ≡ f i → take i xs ≡ tabulate i f
@@ -52,18 +51,14 @@ module _ (block : List ℕ) (at : ℕ) where
       → ((k i : ℕ) → i < size → getD (bytesOf (f k)) i 0 ≡ byteAt block (at + size * k + i))
       → concatMap bytesOf (tabulate n f) ≡ take (size * n) (drop at block)
   numbers-back bytesOf size n f sized pos l same =
-      let xs = tabulate n f in
+      let xs = concatMap bytesOf (tabulate n f) in
       let run = take (size * n) (drop at block) in
-      let long : length (concatMap bytesOf xs) ≡ size * n =
-      length-pieces bytesOf size 0 xs (λ k m. sized (getD xs k 0)) ∙ ap (λ (m : ℕ). size * m) (length-tabulate n f) in
-      let every : (i : ℕ) → i < size * n → getD (concatMap bytesOf xs) i 0 ≡ byteAt block (at + i) =
-      in-pieces (λ i. getD (concatMap bytesOf xs) i 0 ≡ byteAt block (at + i)) size n pos
+      let long : length xs ≡ size * n = length-numbered bytesOf size n f (λ k m. sized (f k)) in
+      let every : (i : ℕ) → i < size * n → getD xs i 0 ≡ byteAt block (at + i) =
+      in-pieces (λ i. getD xs i 0 ≡ byteAt block (at + i)) size n pos
       (λ k i h m.
-      piece-at bytesOf size 0 xs (λ j p. sized (getD xs j 0)) k i 0 (omega (arith, length-tabulate n f)) m
-      ∙ ap (λ (x : ℕ). getD (bytesOf x) i 0) (getD-tabulate n f k 0 h)
-      ∙ same k i m
-      ∙ ap (byteAt block) (add-assoc at (size * k) i)) in
-      ext-getD 0 (concatMap bytesOf xs) run (long ∙ sym (length-run (size * n) l))
+      numbered-at bytesOf size n f (λ j p. sized (f j)) k i 0 h m ∙ same k i m ∙ ap (byteAt block) (add-assoc at (size * k) i)) in
+      ext-getD 0 xs run (long ∙ sym (length-run (size * n) l))
       (λ i m.
       let inside : i < size * n = omega arith in
       every i inside ∙ sym (run-at (size * n) i inside))
@@ -73,40 +68,40 @@ module _ (block : List ℕ) (at : ℕ) where
 module _ (block : List ℕ) (at : ℕ) where
   pub inputs-size : length (inputsAt block at) ≡ inputLimit
   unfolding inputsAt
-  inputs-size = length-tabulate inputLimit (λ i. u16At block (at + 4 + 2 * i))
+  inputs-size = length-tabulate inputLimit (λ i. u16At block (at + inputsOffset + 2 * i))
 
   pub attributes-size : length (attributesAt block at) ≡ attributeLimit
   unfolding attributesAt
-  attributes-size = length-tabulate attributeLimit (λ i. u32At block (at + 16 + 4 * i))
+  attributes-size = length-tabulate attributeLimit (λ i. u32At block (at + attributesOffset + 4 * i))
 
-joined : {a b c x y z : List ℕ} (tail : List ℕ) → a ≡ x → b ≡ y → c ≡ z → a ++ b ++ c ++ tail ≡ x ++ y ++ z ++ tail
-joined tail e f g = rw (e, f, g)
+joined : {a b c x y z : List ℕ} → a ≡ x → b ≡ y → c ≡ z → a ++ b ++ c ≡ x ++ y ++ z
+joined e f g = rw (e, f, g)
 
 module _ (block : List ℕ) (bytes : Bytes block) (at : ℕ) (whole : at + slotBytes ≤ length block) where
-  inputs-back : concatMap u16Bytes (inputsAt block at) ≡ take 12 (drop (at + 4) block)
+  inputs-back : concatMap u16Bytes (inputsAt block at) ≡ take (2 * inputLimit) (drop (at + inputsOffset) block)
   unfolding inputsAt
   inputs-back =
-      numbers-back block (at + 4) u16Bytes 2 inputLimit (λ i. u16At block (at + 4 + 2 * i)) length-u16 (omega arith) (omega arith)
-      (λ k. u16-bytes block bytes (at + 4 + 2 * k))
+      numbers-back block (at + inputsOffset) u16Bytes 2 inputLimit (λ i. u16At block (at + inputsOffset + 2 * i)) length-u16 (omega arith) (omega arith)
+      (λ k. u16-bytes block bytes (at + inputsOffset + 2 * k))
 
-  attributes-back : concatMap u32Bytes (attributesAt block at) ≡ take 24 (drop (at + 16) block)
+  attributes-back : concatMap u32Bytes (attributesAt block at) ≡ take (4 * attributeLimit) (drop (at + attributesOffset) block)
   unfolding attributesAt
   attributes-back =
-      numbers-back block (at + 16) u32Bytes 4 attributeLimit (λ i. u32At block (at + 16 + 4 * i)) length-u32 (omega arith) (omega arith)
-      (λ k. u32-bytes block bytes (at + 16 + 4 * k))
+      numbers-back block (at + attributesOffset) u32Bytes 4 attributeLimit (λ i. u32At block (at + attributesOffset + 4 * i)) length-u32 (omega arith) (omega arith)
+      (λ k. u32-bytes block bytes (at + attributesOffset + 4 * k))
 
   -- the fields, one after the other
-  in-fields : fieldsAt block at ≡ take 4 (drop at block) ++ take 12 (drop (at + 4) block) ++ take 24 (drop (at + 16) block)
+  in-fields : fieldsAt block at
+      ≡ take inputsOffset (drop at block) ++ take (2 * inputLimit) (drop (at + inputsOffset) block)
+      ++ take (4 * attributeLimit) (drop (at + attributesOffset) block)
   unfolding fieldsAt
   in-fields =
-      take-add 16 24 (drop at block)
-      ∙ rw (take-add 4 12 (drop at block), drop-drop 4 at block, drop-drop 16 at block)
+      take-add attributesOffset (4 * attributeLimit) (drop at block)
+      ∙ rw (take-add inputsOffset (2 * inputLimit) (drop at block), drop-drop inputsOffset at block, drop-drop attributesOffset at block)
 
   pub record-back : (r : Record) → r .kind ≡ byteAt block at → r .operator ≡ byteAt block (at + 1) → r .n ≡ byteAt block (at + 2)
       → r .m ≡ byteAt block (at + 3) → r .inputs ≡ inputsAt block at → r .attributes ≡ attributesAt block at
-      → recordBytes r ≡ fieldsAt block at ++ slotTail
-  unfolding recordBytes
+      → fieldsOf r ≡ fieldsAt block at
+  unfolding fieldsOf
   record-back r kind operator n m inputs attributes =
-      rw (kind, operator, n, m, inputs, attributes)
-      (joined slotTail (first-four block at (omega arith)) inputs-back attributes-back
-      ∙ ap (λ (fields : List ℕ). fields ++ slotTail) (sym in-fields))
+      rw (kind, operator, n, m, inputs, attributes) (joined (first-four block at (omega arith)) inputs-back attributes-back ∙ sym in-fields)

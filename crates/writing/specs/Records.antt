@@ -6,15 +6,19 @@ use Prim.Native.Nat.{ℕ, _+_, _-_, _*_}
 use lib.ListN.{length, take, drop, replicate}
 use Rattle.definitions.specs.Lists.{tabulate, padded, concatMap}
 use Rattle.definitions.specs.Fields.{u16At, u32At, u16Bytes, u32Bytes}
-use Rattle.definitions.specs.Graph.{slotBytes, inputLimit, attributeLimit, unusedPlace, graphLetter, graphVersion, Slot, slotTail}
+use Rattle.definitions.specs.Graph.{headerBytes, outputsEnd, inputsOffset, attributesOffset, tailOffset, inputLimit, attributeLimit, unusedPlace, graphLetter, graphVersion, Slot}
 use Rattle.writing.specs.declared.Record.{Record}
 
-unfoldable pub recordBytes : Record → List ℕ
-recordBytes r =
+-- the bytes of a record's fields: all but the tail
+unfoldable pub fieldsOf : Record → List ℕ
+fieldsOf r =
     (r .kind ∷ r .operator ∷ r .n ∷ r .m ∷ [])
     ++ concatMap u16Bytes (r .inputs)
     ++ concatMap u32Bytes (r .attributes)
-    ++ slotTail
+
+-- the bytes of a record, with the tail that it is given
+abbrev pub recordBytes : List ℕ → Record → List ℕ
+recordBytes tail r = fieldsOf r ++ tail
 
 -- the header for n slots, of whose output places the first `count` are used
 unfoldable pub headerWith : ℕ → ℕ → List ℕ → List ℕ
@@ -24,7 +28,7 @@ headerWith n count places =
     ++ u16Bytes n
     ++ u16Bytes count
     ++ concatMap u16Bytes places
-    ++ replicate 6 0
+    ++ replicate (headerBytes - outputsEnd) 0
 
 -- the record holds the slot: its fields, and what stands in the places that it leaves unused
 pub record Stands (r : Record) (s : Slot) : Type 0 where
@@ -38,14 +42,11 @@ pub record Stands (r : Record) (s : Slot) : Type 0 where
 -- ---- what stands in the record that starts at `at`, also in its unused places
 
 unfoldable pub inputsAt : List ℕ → ℕ → List ℕ
-inputsAt block at = tabulate inputLimit (λ i. u16At block (at + 4 + 2 * i))
+inputsAt block at = tabulate inputLimit (λ i. u16At block (at + inputsOffset + 2 * i))
 
 unfoldable pub attributesAt : List ℕ → ℕ → List ℕ
-attributesAt block at = tabulate attributeLimit (λ i. u32At block (at + 16 + 4 * i))
+attributesAt block at = tabulate attributeLimit (λ i. u32At block (at + attributesOffset + 4 * i))
 
--- the bytes of a record's fields: all but the tail's 8
-abbrev pub fieldBytes : ℕ
-fieldBytes = slotBytes - 8
-
+-- the bytes of its fields
 unfoldable pub fieldsAt : List ℕ → ℕ → List ℕ
-fieldsAt block at = take fieldBytes (drop at block)
+fieldsAt block at = take tailOffset (drop at block)

@@ -1,20 +1,26 @@
 // Numbers, slot records and headers, written into a part of a block that the caller lends on; and the reader of a record.
 use definitions::ATTRIBUTE_LIMIT;
+use definitions::ATTRIBUTES_OFFSET;
 use definitions::GRAPH_LETTER;
 use definitions::GRAPH_VERSION;
+use definitions::HEADER_BYTES;
 use definitions::INPUT_LIMIT;
+use definitions::INPUTS_OFFSET;
 use definitions::OUTPUT_LIMIT;
+use definitions::OUTPUTS_END;
+use definitions::OUTPUTS_OFFSET;
+use definitions::SLOT_BYTES;
+use definitions::TAIL_OFFSET;
 use fields::byte_at;
 use fields::u16_at;
 use fields::u32_at;
 ghost use mathlib.Core.Path.{_≡_};
-ghost use mathlib.Core.List.{_++_};
 ghost use Prim.Native.Nat.{_+_, _*_, _≤_};
 ghost use lib.ListN.{length, replicate};
 ghost use Rattle.definitions.specs.Lists.{concatMap};
 ghost use Rattle.definitions.specs.Fields.{u16Bytes, u32Bytes};
-ghost use Rattle.definitions.specs.Graph.{headerBytes, slotBytes, inputLimit, attributeLimit, outputLimit, slotTail};
-ghost use Rattle.writing.specs.Records.{recordBytes, headerWith, inputsAt, attributesAt, fieldsAt};
+ghost use Rattle.definitions.specs.Graph.{headerBytes, slotBytes, tailBytes, inputLimit, attributeLimit, outputLimit};
+ghost use Rattle.writing.specs.Records.{fieldsOf, recordBytes, headerWith, inputsAt, attributesAt, fieldsAt};
 
 // What a slot's record holds: kind, operator, input count n, attribute count m, and every place, the unused ones too.
 pub struct Record {
@@ -87,22 +93,23 @@ pub fn copy(to: &mut [u8], from: &[u8])
 
 // ---- records
 
-// Writes a slot's record into the 48 bytes of its slot.
-pub fn write_record(part: &mut [u8], record: Record)
+// Writes a slot's record into the 48 bytes of its slot, with the tail that the caller gives it.
+pub fn write_record(part: &mut [u8], record: Record, tail: &[u8])
     requires { ⌜ length (now part) ≡ slotBytes ⌝ }
     requires { ⌜ length («record» .inputs) ≡ inputLimit ⌝ }
     requires { ⌜ length («record» .attributes) ≡ attributeLimit ⌝ }
-    ensures { λ r. ⌜ now (part .exit) ≡ recordBytes «record» ⌝ }
+    requires { ⌜ length (now tail) ≡ tailBytes ⌝ }
+    ensures { λ r. ⌜ now (part .exit) ≡ recordBytes (now (tail .entry)) «record» ⌝ }
 {
     part[0] = record.kind;
     part[1] = record.operator;
     part[2] = record.n;
     part[3] = record.m;
     let inputs = record.inputs;
-    put_u16s(&mut part[4..16], &inputs);
+    put_u16s(&mut part[INPUTS_OFFSET..ATTRIBUTES_OFFSET], &inputs);
     let attributes = record.attributes;
-    put_u32s(&mut part[16..40], &attributes);
-    clear(&mut part[40..48]);
+    put_u32s(&mut part[ATTRIBUTES_OFFSET..TAIL_OFFSET], &attributes);
+    copy(&mut part[TAIL_OFFSET..SLOT_BYTES], tail);
 }
 
 // Every input place of the record that starts at `at`.
@@ -113,7 +120,7 @@ fn read_inputs(block: &[u8], at: usize) -> [u16; INPUT_LIMIT]
     let mut inputs = [0u16; INPUT_LIMIT];
     let mut i = 0;
     while i < INPUT_LIMIT {
-        inputs[i] = u16_at(block, at + 4 + 2 * i) as u16;
+        inputs[i] = u16_at(block, at + INPUTS_OFFSET + 2 * i) as u16;
         i += 1;
     }
     inputs
@@ -127,18 +134,18 @@ fn read_attributes(block: &[u8], at: usize) -> [u32; ATTRIBUTE_LIMIT]
     let mut attributes = [0u32; ATTRIBUTE_LIMIT];
     let mut i = 0;
     while i < ATTRIBUTE_LIMIT {
-        attributes[i] = u32_at(block, at + 16 + 4 * i) as u32;
+        attributes[i] = u32_at(block, at + ATTRIBUTES_OFFSET + 4 * i) as u32;
         i += 1;
     }
     attributes
 }
 
-// The record of a slot whose 48 bytes start at `at`: every place as it stands, the unused ones too, so that a record that is
-// read and written again has the bytes that it was read from, and a clear tail.
+// The record of a slot whose 48 bytes start at `at`: every place as it stands, the unused ones too, so that the fields of a record
+// that is read and written again have the bytes that they were read from. The tail is not looked at.
 pub fn read_record(block: &[u8], at: usize) -> Record
     requires { ⌜ at + slotBytes ≤ length (now block) ⌝ }
     ensures { λ r. ⌜ (length (r .inputs) ≡ inputLimit) × (length (r .attributes) ≡ attributeLimit) ⌝ }
-    ensures { λ r. ⌜ recordBytes r ≡ fieldsAt (now (block .entry)) at ++ slotTail ⌝ }
+    ensures { λ r. ⌜ fieldsOf r ≡ fieldsAt (now (block .entry)) at ⌝ }
 {
     let kind = byte_at(block, at);
     let operator = byte_at(block, at + 1);
@@ -169,7 +176,7 @@ pub fn write_header(part: &mut [u8], slots: u16, count: u16, outputs: &[u16; OUT
     part[2] = GRAPH_LETTER as u8;
     part[3] = 0;
     let numbers = [GRAPH_VERSION as u16, slots, count];
-    put_u16s(&mut part[4..10], &numbers);
-    put_u16s(&mut part[10..18], outputs);
-    clear(&mut part[18..24]);
+    put_u16s(&mut part[4..OUTPUTS_OFFSET], &numbers);
+    put_u16s(&mut part[OUTPUTS_OFFSET..OUTPUTS_END], outputs);
+    clear(&mut part[OUTPUTS_END..HEADER_BYTES]);
 }

@@ -5,8 +5,8 @@ use mathlib.Core.List.{List, [], _++_, map}
 use Prim.Native.Nat.{ℕ}
 use native.Mathlib.Omega.{arith}
 use lib.ListN.{length, length-map}
-use Rattle.definitions.specs.Lists.{padded, concatMap}
-use Rattle.definitions.specs.Graph.{headerBytes, outputLimit, unusedPlace, slotCount, outputCount, graphOf, slotBlock, headerBlock, graphBlock}
+use Rattle.definitions.specs.Lists.{padded}
+use Rattle.definitions.specs.Graph.{headerBytes, outputLimit, unusedPlace, slotCount, outputCount, graphOf, recordsBlock, headerBlock, graphBlock}
 use Rattle.definitions.specs.Rule.{ruleOf}
 use Rattle.definitions.specs.Rewriting.{redirect, newSlot, newGraph}
 use Rattle.laws.proofs.Lists.{length-tabulate, map-same}
@@ -115,7 +115,7 @@ returns c =
     let front = part-more 0 headerBytes table header (omega arith)
     (w .before .before .before .table .given .0 ∙ h .before .before .write-header-arg .given .2) [] (omega arith) refl in
     w .write-slots .ensures
-    ∙ ap (λ l. l ++ concatMap slotBlock (newTable graph rule images .slots)) (front ∙ written)
+    ∙ ap (λ l. l ++ recordsBlock (newTable graph rule images) (length (newTable graph rule images .slots))) (front ∙ written)
 
 pub write-table-spec : {M : Type 1} → statement M
 write-table-spec =

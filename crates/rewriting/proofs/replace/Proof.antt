@@ -11,8 +11,6 @@ use Rattle.definitions.specs.Graph.{slotLimit, recordAt, SoundGraph}
 use Rattle.graph_fields.specs.Layout.{WholeGraph}
 use Rattle.search.proofs.Sound.{graph-readable}
 use Rattle.encoding.proofs.Blocks.{block-readable}
-use Rattle.commit.specs.Tables.{ClearTails}
-use Rattle.commit.proofs.Blocks.{clear-tails}
 use Rattle.rewriting.proofs.Replies.{not-both}
 use borrow.Author.Needs.{needs}
 use Rattle.rewriting.proofs.replace.Statement.{statement}
@@ -90,13 +88,8 @@ commit-requires c κs =
     let t = z .before .before in
     let p = t .before in
     let made = p .plan .ensures .done (z .enum-told .given .1) in
-    let same = front _ (p .plan .last .1 .1 .1 .0) _ (filled t) ∙ made .3 in (
-      search needs,
-      (
-        subst WholeGraph (sym same) (block-readable (made .0) (made .1) .whole),
-        subst ClearTails (sym same) (clear-tails (made .0) (made .1)),
-      ),
-    )
+    let same = front _ (p .plan .last .1 .1 .1 .0) _ (filled t) ∙ made .3 in
+    (search needs, subst WholeGraph (sym same) (block-readable (made .0) (made .1) .whole))
 
 same-length-2 : tie.Need-same-length-2
 same-length-2 c = search needs

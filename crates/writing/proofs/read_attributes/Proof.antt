@@ -7,7 +7,7 @@ use lib.ListN.{length, take, length-set}
 use lib.Seq.{take-all}
 use Rattle.definitions.specs.Lists.{tabulate}
 use Rattle.definitions.specs.Fields.{u32At}
-use Rattle.definitions.specs.Graph.{attributeLimit}
+use Rattle.definitions.specs.Graph.{attributesOffset, attributeLimit}
 use Rattle.writing.specs.Records.{attributesAt}
 use Rattle.writing.proofs.Read.{tabulated-more}
 use Rattle.writing.proofs.read_attributes.Statement.{statement}
@@ -15,7 +15,7 @@ use Rattle.writing.proofs.read_attributes.Tie as tie
 
 abbrev Inv-loop : tie.InvT-loop
 Inv-loop block at attributes₀ i₀ attributes i =
-    (i ≤ attributeLimit) × (length attributes ≡ attributeLimit) × (take i attributes ≡ tabulate i (λ k. u32At block (at + 16 + 4 * k)))
+    (i ≤ attributeLimit) × (length attributes ≡ attributeLimit) × (take i attributes ≡ tabulate i (λ k. u32At block (at + attributesOffset + 4 * k)))
 
 abbrev μ-loop : tie.MeasureT-loop
 μ-loop block at attributes₀ i₀ attributes i = attributeLimit - i
@@ -57,7 +57,7 @@ loop-again c =
     let a = c .before .before .before .before .args in (
       omega arith,
       simp (length-set, l .inv .1),
-      tabulated-more (λ k. u32At (a .block .now) (a .at + 16 + 4 * k)) (l .attributes) (l .i) (c .u32-at .result)
+      tabulated-more (λ k. u32At (a .block .now) (a .at + attributesOffset + 4 * k)) (l .attributes) (l .i) (c .u32-at .result)
           (omega (arith, l .inv .1)) (c .u32-at .ensures .0) (l .inv .2),
     )
 
@@ -68,7 +68,7 @@ returns c =
     let a = c .before .before .before .args in
     let last : l .i ≡ attributeLimit = omega arith in
     sym (take-all (l .i) (l .attributes) (omega (arith, l .inv .1))) ∙ l .inv .2
-    ∙ ap (λ (n : ℕ). tabulate n (λ k. u32At (a .block .now) (a .at + 16 + 4 * k))) last
+    ∙ ap (λ (n : ℕ). tabulate n (λ k. u32At (a .block .now) (a .at + attributesOffset + 4 * k))) last
 
 pub read-attributes-spec : {M : Type 1} → statement M
 read-attributes-spec =

@@ -7,7 +7,7 @@ use lib.ListN.{length, take, length-set}
 use lib.Seq.{take-all}
 use Rattle.definitions.specs.Lists.{tabulate}
 use Rattle.definitions.specs.Fields.{u16At}
-use Rattle.definitions.specs.Graph.{inputLimit}
+use Rattle.definitions.specs.Graph.{inputsOffset, inputLimit}
 use Rattle.writing.specs.Records.{inputsAt}
 use Rattle.writing.proofs.Read.{tabulated-more}
 use Rattle.writing.proofs.read_inputs.Statement.{statement}
@@ -15,7 +15,7 @@ use Rattle.writing.proofs.read_inputs.Tie as tie
 
 abbrev Inv-loop : tie.InvT-loop
 Inv-loop block at inputs₀ i₀ inputs i =
-    (i ≤ inputLimit) × (length inputs ≡ inputLimit) × (take i inputs ≡ tabulate i (λ k. u16At block (at + 4 + 2 * k)))
+    (i ≤ inputLimit) × (length inputs ≡ inputLimit) × (take i inputs ≡ tabulate i (λ k. u16At block (at + inputsOffset + 2 * k)))
 
 abbrev μ-loop : tie.MeasureT-loop
 μ-loop block at inputs₀ i₀ inputs i = inputLimit - i
@@ -57,7 +57,7 @@ loop-again c =
     let a = c .before .before .before .before .args in (
       omega arith,
       simp (length-set, l .inv .1),
-      tabulated-more (λ k. u16At (a .block .now) (a .at + 4 + 2 * k)) (l .inputs) (l .i) (c .u16-at .result)
+      tabulated-more (λ k. u16At (a .block .now) (a .at + inputsOffset + 2 * k)) (l .inputs) (l .i) (c .u16-at .result)
           (omega (arith, l .inv .1)) (c .u16-at .ensures .0) (l .inv .2),
     )
 
@@ -68,7 +68,7 @@ returns c =
     let a = c .before .before .before .args in
     let last : l .i ≡ inputLimit = omega arith in
     sym (take-all (l .i) (l .inputs) (omega (arith, l .inv .1))) ∙ l .inv .2
-    ∙ ap (λ (n : ℕ). tabulate n (λ k. u16At (a .block .now) (a .at + 4 + 2 * k))) last
+    ∙ ap (λ (n : ℕ). tabulate n (λ k. u16At (a .block .now) (a .at + inputsOffset + 2 * k))) last
 
 pub read-inputs-spec : {M : Type 1} → statement M
 read-inputs-spec =

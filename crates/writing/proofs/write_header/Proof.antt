@@ -6,7 +6,7 @@ use native.Mathlib.Omega.{arith}
 use lib.ListN.{length-set}
 use Rattle.definitions.specs.Lists.{concatMap}
 use Rattle.definitions.specs.Fields.{u16Bytes}
-use Rattle.definitions.specs.Graph.{graphLetter}
+use Rattle.definitions.specs.Graph.{headerBytes, outputsOffset, outputsEnd, graphLetter}
 use Rattle.writing.specs.Records.{headerWith}
 use Rattle.writing.proofs.Written.{filled-up}
 use borrow.Author.Needs.{needs}
@@ -89,7 +89,7 @@ returns c =
     let start = one .before .before .before .before .before in
     let size = three .before .before .clear-arg .given .2 in
     filled-up (start .args .part .now) (76 ∷ 71 ∷ graphLetter ∷ 0 ∷ [])
-    (one .before .put-u16s .last .0) (two .before .put-u16s2 .last .0) (three .before .clear .last .0) 4 10 18 24
+    (one .before .put-u16s .last .0) (two .before .put-u16s2 .last .0) (three .before .clear .last .0) 4 outputsOffset outputsEnd headerBytes
     (omega arith) (omega arith) (omega arith) (start .pre .0) refl
     (one .part .given .0 ∙ one .before .before .before .put-u16s-arg .given .2)
     (two .part2 .given .0 ∙ two .before .before .before .put-u16s-arg2 .given .2)

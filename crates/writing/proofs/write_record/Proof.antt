@@ -4,8 +4,8 @@ use mathlib.Core.Path.{refl, _∙_}
 use mathlib.Core.List.{[], _∷_}
 use native.Mathlib.Omega.{arith}
 use lib.ListN.{length-set}
-use Rattle.definitions.specs.Graph.{slotTail}
-use Rattle.writing.specs.Records.{recordBytes}
+use Rattle.definitions.specs.Graph.{slotBytes, inputsOffset, attributesOffset, tailOffset}
+use Rattle.writing.specs.Records.{fieldsOf}
 use Rattle.writing.proofs.Written.{filled-up}
 use borrow.Author.Needs.{needs}
 use Rattle.writing.proofs.write_record.Statement.{statement}
@@ -30,7 +30,7 @@ part-put-u16s-start : tie.Need-part-put-u16s-start
 part-put-u16s-start c = search needs
 
 part-put-u16s-end : tie.Need-part-put-u16s-end
-part-put-u16s-end c = simp length-set (omega (arith, c .before .before .pre .0))
+part-put-u16s-end c = simp length-set (omega (arith, c .before .before .before .pre .0))
 
 slice-aggregate-put-u16s : tie.Need-slice-aggregate-put-u16s
 slice-aggregate-put-u16s c = search needs
@@ -53,20 +53,20 @@ slice-aggregate-put-u32s c = search needs
 put-u32s-requires : tie.Need-put-u32s-requires
 put-u32s-requires c κs = search needs
 
-sub-clear : tie.Need-sub-clear
-sub-clear c = search needs
+sub-copy : tie.Need-sub-copy
+sub-copy c = search needs
 
-part-clear-start : tie.Need-part-clear-start
-part-clear-start c = search needs
+part-copy-start : tie.Need-part-copy-start
+part-copy-start c = search needs
 
-part-clear-end : tie.Need-part-clear-end
-part-clear-end c =
+part-copy-end : tie.Need-part-copy-end
+part-copy-end c =
     let two = c .before in
     let one = two .before .before .before .before .before .before in
     omega (arith, two .part2 .given .1, simp length-set at (one .part .given .1))
 
-clear-requires : tie.Need-clear-requires
-clear-requires c κs = search needs
+copy-requires : tie.Need-copy-requires
+copy-requires c κs = search needs
 
 same-length : tie.Need-same-length
 same-length c =
@@ -76,21 +76,20 @@ same-length c =
     three .part3 .given .1 ∙ two .part2 .given .1 ∙ one .part .given .1 ∙ simp length-set
 
 returns : tie.Need-returns
-unfolding recordBytes slotTail
+unfolding fieldsOf
 returns c =
     let three = c .before in
     let two = three .before .before .before .before in
     let one = two .before .before .before .before .before .before in
-    let start = one .before .before .before .before .before .before in
+    let start = one .before .before .before .before .before .before .before in
     let r = start .args .«record» in
-    let size = three .before .before .clear-arg .given .2 in
     filled-up (start .args .part .now) (r .kind ∷ r .operator ∷ r .n ∷ r .m ∷ [])
-    (one .before .put-u16s .last .0) (two .before .put-u32s .last .0) (three .before .clear .last .0) 4 16 40 48
+    (one .before .put-u16s .last .0) (two .before .put-u32s .last .0) (three .before .copy .last .0) inputsOffset attributesOffset tailOffset slotBytes
     (omega arith) (omega arith) (omega arith) (start .pre .0) refl
     (one .part .given .0 ∙ one .before .before .before .put-u16s-arg .given .2)
     (two .part2 .given .0 ∙ two .before .before .before .put-u32s-arg .given .2)
-    (three .part3 .given .0 ∙ size)
-    ∙ rw (one .before .put-u16s .ensures, two .before .put-u32s .ensures, three .before .clear .ensures, size) refl
+    (three .part3 .given .0 ∙ three .before .before .copy-arg .given .2)
+    ∙ rw (one .before .put-u16s .ensures, two .before .put-u32s .ensures, three .before .copy .ensures) refl
 
 pub write-record-spec : {M : Type 1} → statement M
 write-record-spec =
@@ -110,9 +109,9 @@ write-record-spec =
     part-put-u32s-end
     slice-aggregate-put-u32s
     put-u32s-requires
-    sub-clear
-    part-clear-start
-    part-clear-end
-    clear-requires
+    sub-copy
+    part-copy-start
+    part-copy-end
+    copy-requires
     same-length
     returns)
