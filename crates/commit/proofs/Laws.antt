@@ -12,7 +12,7 @@ use Rattle.definitions.specs.Graph.{headerBytes, slotBytes, tailOffset, tailByt
 use Rattle.laws.proofs.Parts.{putPart, length-part, part-more}
 use Rattle.encoding.proofs.Pieces.{in-pieces}
 use Rattle.encoding.proofs.Numbers.{u32-bytes}
-use Rattle.writing.specs.Records.{fieldsAt}
+use Rattle.graph_records.specs.Records.{fieldsAt}
 use Rattle.commit.specs.Tables.{Committed, slotAt}
 
 -- equal words of bytes are equal bytes

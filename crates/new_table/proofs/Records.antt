@@ -19,8 +19,8 @@ use Rattle.laws.proofs.Lists.{map-same}
 use Rattle.laws.proofs.Graph.{length-slots}
 use Rattle.laws.proofs.Rule.{length-target, target-attributes-at}
 use Rattle.shapes.proofs.Values.{target-values, value-count}
-use Rattle.writing.specs.declared.Record.{Record}
-use Rattle.writing.specs.Records.{Stands}
+use Rattle.graph_records.specs.declared.Record.{Record}
+use Rattle.graph_records.specs.Records.{Stands}
 use Rattle.target_attributes.specs.Words.{isGiven, Given}
 use Rattle.target_attributes.proofs.Laws.{told-given}
 use Rattle.vacancies.proofs.Laws.{free-position}

@@ -7,8 +7,8 @@ use native.Mathlib.Omega.{arith}
 use lib.ListN.{length, take, drop, length-drop}
 use lib.Seq.{length-take-le}
 use Rattle.definitions.specs.Graph.{slotBytes, tailOffset, tailBytes, recordAt}
-use Rattle.writing.specs.Records.{recordBytes}
-use Rattle.writing.proofs.Laws.{record-length}
+use Rattle.graph_records.specs.Records.{recordBytes}
+use Rattle.graph_records.proofs.Laws.{record-length}
 use Rattle.commit.proofs.Laws.{whole-record, kept-slot, written-slot}
 use borrow.Author.Needs.{needs}
 use Rattle.commit.proofs.commit_slot.Statement.{statement}

@@ -11,7 +11,7 @@ use Rattle.definitions.specs.Rewriting.{newSlot}
 use Rattle.laws.proofs.Rewriting.{new-slot-at}
 use Rattle.laws.proofs.Graph.{length-slots}
 use Rattle.laws.proofs.Parts.{putPart, part-more}
-use Rattle.writing.proofs.Laws.{stands-bytes}
+use Rattle.graph_records.proofs.Laws.{stands-bytes}
 use Rattle.new_table.specs.Slots.{valuesOf, fitResults, newTable}
 use borrow.Author.Needs.{needs}
 use Rattle.new_table.proofs.write_slot.Statement.{statement}

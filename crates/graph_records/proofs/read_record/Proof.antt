@@ -4,9 +4,9 @@ use mathlib.Core.Path.{ap, _∙_}
 use native.Mathlib.Omega.{arith}
 use lib.ListN.{length}
 use borrow.Author.Needs.{needs}
-use Rattle.writing.proofs.Read.{inputs-size, attributes-size, record-back}
-use Rattle.writing.proofs.read_record.Statement.{statement}
-use Rattle.writing.proofs.read_record.Tie as tie
+use Rattle.graph_records.proofs.Read.{inputs-size, attributes-size, record-back}
+use Rattle.graph_records.proofs.read_record.Statement.{statement}
+use Rattle.graph_records.proofs.read_record.Tie as tie
 
 byte-at-requires : tie.Need-byte-at-requires
 byte-at-requires c κs = search needs

@@ -7,7 +7,7 @@ use lib.ListN.{length, take, drop, replicate}
 use Rattle.definitions.specs.Lists.{tabulate, padded, concatMap}
 use Rattle.definitions.specs.Fields.{u16At, u32At, u16Bytes, u32Bytes}
 use Rattle.definitions.specs.Graph.{headerBytes, outputsEnd, inputsOffset, attributesOffset, tailOffset, inputLimit, attributeLimit, unusedPlace, graphLetter, graphVersion, Slot}
-use Rattle.writing.specs.declared.Record.{Record}
+use Rattle.graph_records.specs.declared.Record.{Record}
 
 -- the bytes of a record's fields: all but the tail
 unfoldable pub fieldsOf : Record → List ℕ

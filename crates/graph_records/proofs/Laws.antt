@@ -10,8 +10,8 @@ use Rattle.definitions.specs.Lists.{padded}
 use Rattle.definitions.specs.Fields.{u16Bytes, u32Bytes}
 use Rattle.definitions.specs.Graph.{slotBytes, tailBytes, inputLimit, attributeLimit, outputLimit, unusedPlace, Slot, slotBlock, headerBlock}
 use Rattle.laws.proofs.Pieces.{length-pieces}
-use Rattle.writing.specs.declared.Record.{Record}
-use Rattle.writing.specs.Records.{fieldsOf, recordBytes, headerWith, Stands}
+use Rattle.graph_records.specs.declared.Record.{Record}
+use Rattle.graph_records.specs.Records.{fieldsOf, recordBytes, headerWith, Stands}
 
 pub stands-bytes : (tail : List ℕ) (r : Record) (s : Slot) → Stands r s → recordBytes tail r ≡ slotBlock tail s
 unfolding fieldsOf slotBlock

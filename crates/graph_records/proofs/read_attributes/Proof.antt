@@ -8,10 +8,10 @@ use lib.Seq.{take-all}
 use Rattle.definitions.specs.Lists.{tabulate}
 use Rattle.definitions.specs.Fields.{u32At}
 use Rattle.definitions.specs.Graph.{attributesOffset, attributeLimit}
-use Rattle.writing.specs.Records.{attributesAt}
-use Rattle.writing.proofs.Read.{tabulated-more}
-use Rattle.writing.proofs.read_attributes.Statement.{statement}
-use Rattle.writing.proofs.read_attributes.Tie as tie
+use Rattle.graph_records.specs.Records.{attributesAt}
+use Rattle.graph_records.proofs.Read.{tabulated-more}
+use Rattle.graph_records.proofs.read_attributes.Statement.{statement}
+use Rattle.graph_records.proofs.read_attributes.Tie as tie
 
 abbrev Inv-loop : tie.InvT-loop
 Inv-loop block at attributes₀ i₀ attributes i =

@@ -15,8 +15,8 @@ use Rattle.laws.proofs.Lists.{length-tabulate}
 use Rattle.laws.proofs.Ranges.{tabulate-more}
 use Rattle.encoding.proofs.Pieces.{in-pieces, below-four, length-numbered, numbered-at}
 use Rattle.encoding.proofs.Numbers.{length-u16, length-u32, u16-bytes, u32-bytes}
-use Rattle.writing.specs.declared.Record.{Record}
-use Rattle.writing.specs.Records.{fieldsOf, inputsAt, attributesAt, fieldsAt}
+use Rattle.graph_records.specs.declared.Record.{Record}
+use Rattle.graph_records.specs.Records.{fieldsOf, inputsAt, attributesAt, fieldsAt}
 
 -- an array that is filled from the front: where its first i elements are f's, one more is stored
 pub tabulated-more : (f : ℕ → ℕ) (xs : List ℕ) (i y : ℕ) → i < length xs → y ≡ f i → take i xs ≡ tabulate i f

@@ -8,10 +8,10 @@ use lib.Seq.{take-all}
 use Rattle.definitions.specs.Lists.{tabulate}
 use Rattle.definitions.specs.Fields.{u16At}
 use Rattle.definitions.specs.Graph.{inputsOffset, inputLimit}
-use Rattle.writing.specs.Records.{inputsAt}
-use Rattle.writing.proofs.Read.{tabulated-more}
-use Rattle.writing.proofs.read_inputs.Statement.{statement}
-use Rattle.writing.proofs.read_inputs.Tie as tie
+use Rattle.graph_records.specs.Records.{inputsAt}
+use Rattle.graph_records.proofs.Read.{tabulated-more}
+use Rattle.graph_records.proofs.read_inputs.Statement.{statement}
+use Rattle.graph_records.proofs.read_inputs.Tie as tie
 
 abbrev Inv-loop : tie.InvT-loop
 Inv-loop block at inputs₀ i₀ inputs i =

@@ -5,11 +5,11 @@ use mathlib.Core.List.{[], _∷_}
 use native.Mathlib.Omega.{arith}
 use lib.ListN.{length-set}
 use Rattle.definitions.specs.Graph.{slotBytes, inputsOffset, attributesOffset, tailOffset}
-use Rattle.writing.specs.Records.{fieldsOf}
-use Rattle.writing.proofs.Written.{filled-up}
+use Rattle.graph_records.specs.Records.{fieldsOf}
+use Rattle.graph_records.proofs.Filled.{filled-up}
 use borrow.Author.Needs.{needs}
-use Rattle.writing.proofs.write_record.Statement.{statement}
-use Rattle.writing.proofs.write_record.Tie as tie
+use Rattle.graph_records.proofs.write_record.Statement.{statement}
+use Rattle.graph_records.proofs.write_record.Tie as tie
 
 slice-write-part : tie.Need-slice-write-part
 slice-write-part c = search needs
