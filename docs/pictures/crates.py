@@ -30,7 +30,7 @@ ROLES = [
     ("matching", "#cfeee2", "#00795c", 0.40,
      "attributes uses matching search find_match"),
     ("rewriting", "#fde2bd", "#b06200", 0.75,
-     "vacancies redirection target_attributes writing new_table commit rewriting"),
+     "vacancies redirection target_attributes writing graph_records new_table commit rewriting"),
     ("exported operations and answers", "#f9d3c5", "#b83b00", 0.50,
      "reply leafgraph answers"),
     ("programs", "#f0d8e8", "#8c3a70", 0.50, "examples"),
