@@ -11,7 +11,6 @@ use definitions::OUTPUTS_END;
 use definitions::OUTPUTS_OFFSET;
 use definitions::SLOT_BYTES;
 use definitions::TAIL_OFFSET;
-use fields::byte_at;
 use fields::u16_at;
 use fields::u32_at;
 use writing::clear;
@@ -90,17 +89,17 @@ pub fn read_record(block: &[u8], at: usize) -> Record
     ensures { λ r. ⌜ (length (r .inputs) ≡ inputLimit) × (length (r .attributes) ≡ attributeLimit) ⌝ }
     ensures { λ r. ⌜ fieldsOf r ≡ fieldsAt (now (block .entry)) at ⌝ }
 {
-    let kind = byte_at(block, at);
-    let operator = byte_at(block, at + 1);
-    let n = byte_at(block, at + 2);
-    let m = byte_at(block, at + 3);
+    let kind = block[at];
+    let operator = block[at + 1];
+    let n = block[at + 2];
+    let m = block[at + 3];
     let inputs = read_inputs(block, at);
     let attributes = read_attributes(block, at);
     Record {
-        kind: kind as u8,
-        operator: operator as u8,
-        n: n as u8,
-        m: m as u8,
+        kind,
+        operator,
+        n,
+        m,
         inputs,
         attributes,
     }
