@@ -20,7 +20,9 @@ use Rattle.laws.proofs.Match.{image-inside}
 use Rattle.laws.proofs.Rewriting.{rewritten-unfit, rewritten-full, rewritten-cyclic, rewritten-done}
 use Rattle.laws.proofs.Graph.{length-slots}
 use Rattle.laws.proofs.Rule.{length-source, length-target}
-use Rattle.search.proofs.Sound.{graph-readable, rule-readable, rule-layered, rule-matchable}
+use Rattle.graph_check.proofs.Readable.{graph-readable}
+use Rattle.rule_check.proofs.Readable.{rule-readable, rule-layered}
+use Rattle.attributes.proofs.Sound.{rule-evaluable}
 use Rattle.encoding.specs.Tables.{Table}
 use Rattle.shapes.proofs.Sound.{new-table}
 use Rattle.vacancies.specs.Vacant.{Lowest}
@@ -84,7 +86,7 @@ module _ (graph rule images : List ℕ) (sound : SoundGraph graph) (soundRule : 
         oldTable = graph-readable graph sound;
         patterns = rule-readable rule soundRule;
         layered = rule-layered rule soundRule;
-        evaluable = rule-matchable rule soundRule .evaluable;
+        evaluable = rule-evaluable rule soundRule;
         resolvable = sound-resolvable rule soundRule;
         imageSize = isMatched .size;
         placeSize = places .size;

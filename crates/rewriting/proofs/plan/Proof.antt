@@ -14,7 +14,9 @@ use Rattle.definitions.specs.Rule.{sideLimit, targetCount, ruleOf}
 use Rattle.definitions.specs.Rewriting.{freeSlots}
 use Rattle.laws.proofs.Graph.{length-slots}
 use Rattle.laws.proofs.Rule.{some-rule-outputs}
-use Rattle.search.proofs.Sound.{graph-readable, rule-readable, rule-matchable}
+use Rattle.graph_check.proofs.Readable.{graph-readable}
+use Rattle.rule_check.proofs.Readable.{rule-readable}
+use Rattle.attributes.proofs.Sound.{rule-evaluable}
 use Rattle.encoding.specs.Tables.{Table}
 use Rattle.encoding.proofs.Blocks.{block-readable, block-closed, block-cycle}
 use Rattle.graph_fields.specs.Layout.{ReadableGraph, Closed}
@@ -44,7 +46,7 @@ all-fit-requires c κs =
       graph-readable (graph s) (s .pre .0),
       (
         rule-readable (rule s) (s .pre .1 .0),
-        (rule-matchable (rule s) (s .pre .1 .0) .evaluable, s .pre .1 .1 .0 .size),
+        (rule-evaluable (rule s) (s .pre .1 .0), s .pre .1 .1 .0 .size),
       ),
     )
 

@@ -9,7 +9,7 @@ use lib.Seq.{take-append-seam}
 use Rattle.definitions.specs.declared.Reply.the-variants.{Done, Refused}
 use Rattle.definitions.specs.Graph.{slotLimit, recordAt, SoundGraph}
 use Rattle.graph_fields.specs.Layout.{WholeGraph}
-use Rattle.search.proofs.Sound.{graph-readable}
+use Rattle.graph_check.proofs.Readable.{graph-readable}
 use Rattle.encoding.proofs.Blocks.{block-readable}
 use Rattle.commit.specs.Tables.{ClearTails}
 use Rattle.commit.proofs.Blocks.{clear-tails}

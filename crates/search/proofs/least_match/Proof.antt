@@ -1,8 +1,10 @@
 -- The counts are what the nested search asks for.
 -- Assumes nothing.
+use Rattle.graph_check.proofs.Readable.{graph-readable, graph-closed, graph-outputs}
+use Rattle.rule_check.proofs.Readable.{rule-readable, rule-layered}
+use Rattle.matching.proofs.Sound.{rule-matchable}
 use Rattle.search.proofs.least_match.Statement.{statement}
 use Rattle.search.proofs.least_match.Tie as tie
-use Rattle.search.proofs.Sound.{graph-readable, graph-closed, graph-outputs, rule-readable, rule-layered, rule-matchable}
 
 count-uses-requires : tie.Need-count-uses-requires
 count-uses-requires c κs =
