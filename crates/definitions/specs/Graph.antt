@@ -9,7 +9,7 @@ use lib.Dec.{eqb, ltb}
 use lib.IntN.{ℤ, pos, negsuc}
 use lib.ListN.{length, getD, replicate}
 use Rattle.definitions.specs.declared.Reply.{Reply}
-use Rattle.definitions.specs.Lists.{within, lowest, tabulate, all, padded, concatMap}
+use Rattle.definitions.specs.Lists.{within, lowest, total, tabulate, all, padded, concatMap, count}
 use Rattle.definitions.specs.Fields.{byteAt, u16At, u32At, filled, markFits, signed, u16Bytes, u32Bytes}
 use Rattle.definitions.specs.Operators.{kindEmpty, kindProj, shapeFits}
 use Rattle.definitions.specs.Paths.{Reads, Acyclic, acyclicBelow}
@@ -98,6 +98,14 @@ inputsOf g v = slotOf g v .inputs
 -- a vertex is a slot that is not Empty
 unfoldable pub isVertex : Graph → ℕ → Bool
 isVertex g v = not (eqb (slotOf g v .kind) kindEmpty)
+
+-- how many input places name slot v
+unfoldable pub readsOf : Graph → ℕ → ℕ
+readsOf g v = total (λ w. count v (inputsOf g w)) (length (g .slots))
+
+-- how many input places and graph outputs name slot v
+unfoldable pub usesOf : Graph → ℕ → ℕ
+usesOf g v = readsOf g v + count v (g .outputs)
 
 -- ---- the block of a graph; a record's last 8 bytes are zero for now
 

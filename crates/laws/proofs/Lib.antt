@@ -15,3 +15,4 @@ pub mod Filling
 pub mod Results
 pub mod Rewriting
 pub mod Parts
+pub mod Sums

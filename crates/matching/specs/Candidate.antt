@@ -5,9 +5,9 @@ use Prim.Native.Nat.{ℕ, suc}
 use lib.Dec.{eqb}
 use lib.ListN.{length}
 use Rattle.definitions.specs.Operators.{kindEmpty}
-use Rattle.definitions.specs.Graph.{Slot, Graph, slotOf}
+use Rattle.definitions.specs.Graph.{Slot, Graph, slotOf, usesOf}
 use Rattle.definitions.specs.Rule.{Pattern, Rule, sourceOf}
-use Rattle.uses.specs.Uses.{usesOf, demandOf}
+use Rattle.uses.specs.Uses.{demandOf}
 use Rattle.matching.specs.declared.Head.{Head}
 
 unfoldable pub slotHead : Slot → Head

@@ -6,12 +6,12 @@ use mathlib.Core.List.{List, []}
 use Prim.Native.Nat.{ℕ, _<_}
 use lib.ListN.{length, getD}
 use Rattle.definitions.specs.Operators.{kindEmpty}
-use Rattle.definitions.specs.Graph.{slotLimit, slotCount, graphOf}
+use Rattle.definitions.specs.Graph.{slotLimit, slotCount, graphOf, usesOf}
 use Rattle.definitions.specs.Rule.{sideCapacity, sourceCount, anything, ruleOf, sourceOf, sourceInputs, isRuleInput, accessesBelow}
 use Rattle.graph_fields.specs.Layout.{ReadableGraph, Closed}
 use Rattle.rule_fields.specs.Layout.{ReadableRule, Layered}
 use Rattle.attributes.specs.Evaluable.{Evaluable}
-use Rattle.uses.specs.Uses.{usesOf, demandOf}
+use Rattle.uses.specs.Uses.{demandOf}
 
 pub record Matchable (block : List ℕ) : Type 0 where
   pub readable : ReadableRule block

@@ -8,17 +8,17 @@ use mathlib.Core.Logic.{⊎-elim}
 use Prim.Native.Nat.{ℕ, _+_, _<_, _≤_}
 use native.Mathlib.Omega.{arith}
 use lib.ListN.{length}
-use Rattle.definitions.specs.Lists.{filter, member, range}
+use Rattle.definitions.specs.Lists.{filter, member, range, count, total}
 use Rattle.definitions.specs.Paths.{Reads}
-use Rattle.definitions.specs.Graph.{Graph, inputsOf}
+use Rattle.definitions.specs.Graph.{Graph, inputsOf, readsOf, usesOf}
 use Rattle.definitions.specs.Rule.{Rule, sourceInputs, isRuleInput}
 use Rattle.definitions.specs.Match.{imageOf, innerImages, Private}
 use Rattle.laws.proofs.Lists.{decided, true-not-false}
 use Rattle.laws.proofs.Graph.{reader-inside}
 use Rattle.laws.proofs.Members.{member-mem, mem-member}
 use Rattle.laws.proofs.Match.{inner-distinct, inner-below}
-use Rattle.uses.specs.Uses.{count, total, readsOf, usesOf, placesOf}
-use Rattle.uses.proofs.Sums.{count-none, count-some, count-map, total-same, total-none, total-part, sumOver, sum-map, sum-filter, sum-range, total-parts}
+use Rattle.uses.specs.Uses.{placesOf}
+use Rattle.laws.proofs.Sums.{count-none, count-some, count-map, total-same, total-none, total-part, sumOver, sum-map, sum-filter, sum-range, total-parts}
 
 module _ (g : Graph) (r : Rule) (images : List ℕ)
     (plain : (j : ℕ) → isRuleInput r j ≡ true → sourceInputs r j ≡ [])

@@ -10,7 +10,8 @@ use borrow.Author.Tests.{ltb-true, ltb-false, eqb-true, eqb-false, eq-eqb, ne-eq
 use lib.Dec.{eqb, ltb}
 use lib.ListN.{length, getD, take, set, replicate, length-set, length-replicate}
 use lib.Seq.{take-all, length-take-le, getD-set-same, getD-set-other}
-use Rattle.definitions.specs.Graph.{graphOf, slotCount, inputsOf}
+use Rattle.definitions.specs.Lists.{count, total}
+use Rattle.definitions.specs.Graph.{graphOf, slotCount, inputsOf, readsOf}
 use Rattle.definitions.specs.Rule.{Rule, ruleOf, sourceCount, sourceInputs}
 use Rattle.definitions.specs.Match.{isInterior}
 use Rattle.laws.proofs.Lists.{decided}
@@ -19,9 +20,9 @@ use Rattle.laws.proofs.Rule.{length-source, source-count-at}
 use Rattle.laws.proofs.Builds.{getD-none}
 use Rattle.graph_fields.specs.Layout.{ReadableGraph}
 use Rattle.rule_fields.specs.Layout.{ReadableRule}
-use Rattle.uses.specs.Uses.{count, total, readsOf, placesOf, demandOf}
+use Rattle.uses.specs.Uses.{placesOf, demandOf}
 use Rattle.uses.specs.Counted.{Counted}
-use Rattle.uses.proofs.Sums.{count-length, count-more, total-most}
+use Rattle.laws.proofs.Sums.{count-length, count-more, total-most}
 
 -- ---- arrays of counts
 

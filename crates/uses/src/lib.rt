@@ -14,13 +14,13 @@ use rule_fields::source_output;
 ghost use mathlib.Core.Path.{_≡_};
 ghost use Prim.Native.Nat.{ℕ, _+_, _<_};
 ghost use lib.ListN.{length, getD};
-ghost use Rattle.definitions.specs.Lists.{member};
-ghost use Rattle.definitions.specs.Graph.{slotLimit, slotCount, graphOf, inputsOf};
+ghost use Rattle.definitions.specs.Lists.{member, count, total};
+ghost use Rattle.definitions.specs.Graph.{slotLimit, slotCount, graphOf, inputsOf, readsOf, usesOf};
 ghost use Rattle.definitions.specs.Rule.{sideCapacity, sourceCount, ruleOf, sourceInputs};
 ghost use Rattle.definitions.specs.Match.{isInterior};
 ghost use Rattle.graph_fields.specs.Layout.{ReadableGraph, Closed, OutputsNamed};
 ghost use Rattle.rule_fields.specs.Layout.{WholeRule, ReadableRule, Layered};
-ghost use Rattle.uses.specs.Uses.{count, total, readsOf, usesOf, placesOf, demandOf};
+ghost use Rattle.uses.specs.Uses.{placesOf, demandOf};
 ghost use Rattle.uses.specs.Counted.{Counted};
 
 // ---- the graph

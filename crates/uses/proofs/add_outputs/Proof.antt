@@ -3,12 +3,10 @@
 use mathlib.Core.Path.{refl}
 use Prim.Native.Nat.{ℕ, _*_, _-_, _≤_, _<_}
 use mathlib.Core.List.{List}
-use native.Mathlib.Nat.{add-comm}
 use native.Mathlib.Omega.{arith}
 use lib.ListN.{length}
-use Rattle.definitions.specs.Graph.{unusedPlace, slotCount, graphOf}
+use Rattle.definitions.specs.Graph.{unusedPlace, slotCount, graphOf, readsOf, usesOf}
 use Rattle.laws.proofs.Graph.{length-outputs}
-use Rattle.uses.specs.Uses.{count, readsOf, usesOf}
 use Rattle.uses.specs.Counted.{Counted}
 use Rattle.uses.proofs.Laws.{passed, pass-none, pass-one, pass-all, pass-most, reads-all, graph-reads-most}
 use Rattle.uses.proofs.add_outputs.Statement.{statement}
@@ -107,7 +105,7 @@ returns c =
     let graph = graphOf (start a .args .graph .now) in
     pass-all (readsOf graph) (outputs a) (a .loop .i) (usesOf graph)
     (omega (arith, c .loop-test .left, a .before .output-count .ensures .0, length-outputs (start a .args .graph .now)))
-    (λ v. add-comm (readsOf graph v) (count v (graph .outputs))) (a .loop .inv .1)
+    (λ v. refl) (a .loop .inv .1)
 
 pub add-outputs-spec : {M : Type 1} → statement M
 add-outputs-spec =

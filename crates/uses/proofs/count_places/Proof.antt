@@ -4,8 +4,8 @@ use mathlib.Core.Path.{refl}
 use Prim.Native.Nat.{_-_, _≤_}
 use native.Mathlib.Omega.{arith}
 use borrow.Author.Needs.{needs}
+use Rattle.definitions.specs.Lists.{total}
 use Rattle.definitions.specs.Rule.{sideCapacity}
-use Rattle.uses.specs.Uses.{total}
 use Rattle.uses.specs.Counted.{Counted}
 use Rattle.uses.proofs.Laws.{counted-none, counted-same, ruleReads, places-all}
 use Rattle.uses.proofs.count_places.Statement.{statement}

@@ -3,7 +3,7 @@
 use mathlib.Core.Path.{refl}
 use Prim.Native.Nat.{_-_, _≤_}
 use native.Mathlib.Omega.{arith}
-use Rattle.uses.specs.Uses.{total}
+use Rattle.definitions.specs.Lists.{total}
 use Rattle.uses.specs.Counted.{Counted}
 use Rattle.uses.proofs.Laws.{counted-none, counted-same, graphReads, reads-all}
 use Rattle.uses.proofs.count_uses.Statement.{statement}

@@ -12,10 +12,9 @@ use borrow.Author.Tests.{ltb-true, ltb-false, eqb-true, eqb-false, eq-eqb, ne-eq
 use lib.Dec.{eqb, ltb}
 use lib.ListN.{length, getD, take}
 use lib.Seq.{take-suc}
-use Rattle.definitions.specs.Lists.{filter, member, distinct, range, tabulate}
+use Rattle.definitions.specs.Lists.{total, filter, member, count, distinct, range, tabulate}
 use Rattle.laws.proofs.Lists.{decided, bit, and-left, and-right}
 use Rattle.laws.proofs.Ranges.{range-more}
-use Rattle.uses.specs.Uses.{count, total}
 
 -- ---- count
 
