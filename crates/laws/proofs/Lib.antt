@@ -16,3 +16,4 @@ pub mod Results
 pub mod Rewriting
 pub mod Parts
 pub mod Sums
+pub mod Counts

@@ -13,13 +13,13 @@ use Rattle.definitions.specs.Operators.{kindEmpty}
 use Rattle.definitions.specs.Paths.{Reads}
 use Rattle.definitions.specs.Graph.{Graph, slotOf, inputsOf, isVertex, usesOf}
 use Rattle.definitions.specs.Rule.{Rule, anything, sourceOf, ruleOf, sourceCount, sourceInputs, inputKind, isRuleInput, accessesBelow}
-use Rattle.definitions.specs.Match.{imageOf, isInterior, Match}
+use Rattle.definitions.specs.Match.{imageOf, isInterior, Match, placesOf}
 use Rattle.laws.proofs.Lists.{decided, true-not-false, and-left, and-right, needed}
 use Rattle.laws.proofs.Members.{holds, true-holds, mem-place}
 use Rattle.laws.proofs.Match.{image-inside}
 use Rattle.laws.proofs.Rule.{source-reader, length-source}
-use Rattle.uses.specs.Uses.{placesOf, demandOf}
-use Rattle.uses.proofs.Inside.{private-uses}
+use Rattle.rule_uses.specs.Demands.{demandOf}
+use Rattle.theory.proofs.Inside.{private-uses}
 use Rattle.matching.specs.declared.Head.{Head}
 use Rattle.matching.specs.Candidate.{slotHead, patternHead, headFits, usesFit, isCandidate}
 use Rattle.matching.specs.Setting.{Matchable}

@@ -7,7 +7,7 @@ use lib.ListN.{length}
 use Rattle.definitions.specs.Operators.{kindEmpty}
 use Rattle.definitions.specs.Graph.{Slot, Graph, slotOf, usesOf}
 use Rattle.definitions.specs.Rule.{Pattern, Rule, sourceOf}
-use Rattle.uses.specs.Uses.{demandOf}
+use Rattle.rule_uses.specs.Demands.{demandOf}
 use Rattle.matching.specs.declared.Head.{Head}
 
 unfoldable pub slotHead : Slot → Head

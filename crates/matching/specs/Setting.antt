@@ -11,7 +11,7 @@ use Rattle.definitions.specs.Rule.{sideCapacity, sourceCount, anything, ruleOf,
 use Rattle.graph_fields.specs.Layout.{ReadableGraph, Closed}
 use Rattle.rule_fields.specs.Layout.{ReadableRule, Layered}
 use Rattle.attributes.specs.Evaluable.{Evaluable}
-use Rattle.uses.specs.Uses.{demandOf}
+use Rattle.rule_uses.specs.Demands.{demandOf}
 
 pub record Matchable (block : List ℕ) : Type 0 where
   pub readable : ReadableRule block

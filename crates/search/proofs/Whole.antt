@@ -16,7 +16,7 @@ use Rattle.laws.proofs.Members.{holds, true-holds}
 use Rattle.laws.proofs.Graph.{vertex-inside}
 use Rattle.laws.proofs.Rule.{source-reader}
 use Rattle.laws.proofs.Padded.{taken-at}
-use Rattle.uses.proofs.Inside.{uses-private}
+use Rattle.theory.proofs.Inside.{uses-private}
 use Rattle.matching.specs.Partial.{Partial}
 use Rattle.matching.proofs.Candidates.{Formed, wild-input}
 use Rattle.matching.proofs.Maps.{takes-same}

@@ -1,2 +1,1 @@
-pub mod Uses
 pub mod Counted

@@ -7,11 +7,12 @@ use native.Mathlib.Omega.{arith}
 use lib.ListN.{length}
 use Rattle.definitions.specs.Lists.{count}
 use Rattle.definitions.specs.Graph.{unusedPlace, graphOf, inputsOf}
-use Rattle.uses.specs.Counted.{Counted}
+use Rattle.laws.specs.Counted.{Counted}
 use Rattle.laws.proofs.Sums.{total-more}
-use Rattle.uses.proofs.Laws.{passed, pass-none, pass-one, pass-all, pass-most, graphReads, graph-reads-most}
-use Rattle.uses.proofs.add_inputs.Statement.{statement}
-use Rattle.uses.proofs.add_inputs.Tie as tie
+use Rattle.laws.proofs.Counts.{passed, pass-none, pass-one, pass-all, pass-most}
+use Rattle.graph_uses.proofs.Laws.{graphReads, graph-reads-most}
+use Rattle.graph_uses.proofs.add_inputs.Statement.{statement}
+use Rattle.graph_uses.proofs.add_inputs.Tie as tie
 
 abbrev Inv-loop : tie.InvT-loop
 Inv-loop graph k uses₀ places i₀ uses i =

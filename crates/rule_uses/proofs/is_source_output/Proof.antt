@@ -11,8 +11,8 @@ use Rattle.definitions.specs.Lists.{member, any}
 use Rattle.definitions.specs.Rule.{ruleOf}
 use Rattle.laws.proofs.Rule.{length-source-outputs}
 use Rattle.laws.proofs.Walks.{any-found, any-turn, any-ends, member-any}
-use Rattle.uses.proofs.is_source_output.Statement.{statement}
-use Rattle.uses.proofs.is_source_output.Tie as tie
+use Rattle.rule_uses.proofs.is_source_output.Statement.{statement}
+use Rattle.rule_uses.proofs.is_source_output.Tie as tie
 
 abbrev Inv-loop : tie.InvT-loop
 Inv-loop rule j number i₀ i = member j (ruleOf rule .sourceOutputs) ≡ any (eqb j) (drop i (ruleOf rule .sourceOutputs))

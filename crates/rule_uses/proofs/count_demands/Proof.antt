@@ -8,11 +8,13 @@ use borrow.Author.Needs.{needs}
 use mathlib.Core.Logic.{⊎-elim}
 use lib.ListN.{getD, set}
 use Rattle.definitions.specs.Rule.{sideCapacity, sourceCount, ruleOf}
-use Rattle.uses.specs.Uses.{placesOf, demandOf}
-use Rattle.uses.specs.Counted.{Counted}
-use Rattle.uses.proofs.Laws.{counted-same, rule-reads-most, places-all, demanded, demanded-below, demanded-from, demanded-one, demand-inner, demand-outer}
-use Rattle.uses.proofs.count_demands.Statement.{statement}
-use Rattle.uses.proofs.count_demands.Tie as tie
+use Rattle.definitions.specs.Match.{placesOf}
+use Rattle.rule_uses.specs.Demands.{demandOf}
+use Rattle.laws.specs.Counted.{Counted}
+use Rattle.laws.proofs.Counts.{counted-same}
+use Rattle.rule_uses.proofs.Laws.{rule-reads-most, places-all, demanded, demanded-below, demanded-from, demanded-one, demand-inner, demand-outer}
+use Rattle.rule_uses.proofs.count_demands.Statement.{statement}
+use Rattle.rule_uses.proofs.count_demands.Tie as tie
 
 abbrev Inv-loop : tie.InvT-loop
 Inv-loop rule vertices demands₀ j₀ demands j =

@@ -7,11 +7,12 @@ use native.Mathlib.Omega.{arith}
 use lib.ListN.{length}
 use Rattle.definitions.specs.Lists.{count}
 use Rattle.definitions.specs.Rule.{sideCapacity, ruleOf, sourceInputs}
-use Rattle.uses.specs.Counted.{Counted}
+use Rattle.laws.specs.Counted.{Counted}
 use Rattle.laws.proofs.Sums.{total-more}
-use Rattle.uses.proofs.Laws.{passed, pass-none, pass-one, pass-all, pass-most, ruleReads, rule-reads-most, source-few}
-use Rattle.uses.proofs.add_source_inputs.Statement.{statement}
-use Rattle.uses.proofs.add_source_inputs.Tie as tie
+use Rattle.laws.proofs.Counts.{passed, pass-none, pass-one, pass-all, pass-most}
+use Rattle.rule_uses.proofs.Laws.{ruleReads, rule-reads-most, source-few}
+use Rattle.rule_uses.proofs.add_source_inputs.Statement.{statement}
+use Rattle.rule_uses.proofs.add_source_inputs.Tie as tie
 
 abbrev Inv-loop : tie.InvT-loop
 Inv-loop rule w places₀ inputs i₀ places i =

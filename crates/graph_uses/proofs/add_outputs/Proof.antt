@@ -7,10 +7,11 @@ use native.Mathlib.Omega.{arith}
 use lib.ListN.{length}
 use Rattle.definitions.specs.Graph.{unusedPlace, slotCount, graphOf, readsOf, usesOf}
 use Rattle.laws.proofs.Graph.{length-outputs}
-use Rattle.uses.specs.Counted.{Counted}
-use Rattle.uses.proofs.Laws.{passed, pass-none, pass-one, pass-all, pass-most, reads-all, graph-reads-most}
-use Rattle.uses.proofs.add_outputs.Statement.{statement}
-use Rattle.uses.proofs.add_outputs.Tie as tie
+use Rattle.laws.specs.Counted.{Counted}
+use Rattle.laws.proofs.Counts.{passed, pass-none, pass-one, pass-all, pass-most}
+use Rattle.graph_uses.proofs.Laws.{reads-all, graph-reads-most}
+use Rattle.graph_uses.proofs.add_outputs.Statement.{statement}
+use Rattle.graph_uses.proofs.add_outputs.Tie as tie
 
 abbrev Inv-loop : tie.InvT-loop
 Inv-loop graph uses₀ number i₀ uses i =

@@ -3,8 +3,8 @@
 use mathlib.Core.Bool.{and-false}
 use borrow.Author.Needs.{needs}
 use Rattle.definitions.specs.Match.{isInterior}
-use Rattle.uses.proofs.is_interior.Statement.{statement}
-use Rattle.uses.proofs.is_interior.Tie as tie
+use Rattle.rule_uses.proofs.is_interior.Statement.{statement}
+use Rattle.rule_uses.proofs.is_interior.Tie as tie
 
 is-rule-input-requires : tie.Need-is-rule-input-requires
 is-rule-input-requires c κs = search needs

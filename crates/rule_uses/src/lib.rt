@@ -1,11 +1,6 @@
-// Counts that a search makes once for each call, so that no candidate needs a look over the whole table: how often each slot is
-// named, and how often the image of each interior source vertex may be.
+// How often the image of each source vertex of a rule may be named, counted once, so that one comparison decides whether an image is
+// read from outside.
 use definitions::SIDE_CAPACITY;
-use definitions::SLOT_LIMIT;
-use graph_fields::input_at;
-use graph_fields::input_count;
-use graph_fields::output_at;
-use graph_fields::slot_count;
 use rule_fields::is_rule_input;
 use rule_fields::source_count;
 use rule_fields::source_input;
@@ -14,71 +9,12 @@ use rule_fields::source_output;
 ghost use mathlib.Core.Path.{_≡_};
 ghost use Prim.Native.Nat.{ℕ, _+_, _<_};
 ghost use lib.ListN.{length, getD};
-ghost use Rattle.definitions.specs.Lists.{member, count, total};
-ghost use Rattle.definitions.specs.Graph.{slotLimit, slotCount, graphOf, inputsOf, readsOf, usesOf};
+ghost use Rattle.definitions.specs.Lists.{total, member, count};
 ghost use Rattle.definitions.specs.Rule.{sideCapacity, sourceCount, ruleOf, sourceInputs};
-ghost use Rattle.definitions.specs.Match.{isInterior};
-ghost use Rattle.graph_fields.specs.Layout.{ReadableGraph, Closed, OutputsNamed};
+ghost use Rattle.definitions.specs.Match.{isInterior, placesOf};
+ghost use Rattle.laws.specs.Counted.{Counted};
 ghost use Rattle.rule_fields.specs.Layout.{WholeRule, ReadableRule, Layered};
-ghost use Rattle.uses.specs.Uses.{placesOf, demandOf};
-ghost use Rattle.uses.specs.Counted.{Counted};
-
-// ---- the graph
-
-// Counts the input places of slot k, after those of the slots below it.
-fn add_inputs(graph: &[u8], k: usize, uses: &mut [u16; SLOT_LIMIT])
-    requires { ⌜ ReadableGraph (now graph) ⌝ }
-    requires { ⌜ Closed (now graph) ⌝ }
-    requires { ⌜ k < slotCount (now graph) ⌝ }
-    requires { ⌜ Counted slotLimit (λ v. total (λ w. count v (inputsOf (graphOf (now graph)) w)) k) (now uses) ⌝ }
-    ensures { λ r. ⌜ Counted slotLimit (λ v. total (λ w. count v (inputsOf (graphOf (now (graph .entry))) w)) (k + 1))
-        (now (uses .exit)) ⌝ }
-{
-    let places = input_count(graph, k);
-    let mut i = 0;
-    while i < places {
-        let input = input_at(graph, k, i);
-        uses[input] += 1;
-        i += 1;
-    }
-}
-
-// Counts the output places, after all input places.
-fn add_outputs(graph: &[u8], uses: &mut [u16; SLOT_LIMIT])
-    requires { ⌜ ReadableGraph (now graph) ⌝ }
-    requires { ⌜ OutputsNamed (now graph) ⌝ }
-    requires { ⌜ Counted slotLimit (readsOf (graphOf (now graph))) (now uses) ⌝ }
-    ensures { λ r. ⌜ Counted slotLimit (usesOf (graphOf (now (graph .entry)))) (now (uses .exit)) ⌝ }
-{
-    let outputs = graph_fields::output_count(graph);
-    let mut i = 0;
-    while i < outputs {
-        let output = output_at(graph, i);
-        uses[output] += 1;
-        i += 1;
-    }
-}
-
-// How often each slot is named, by input places and by graph outputs.
-pub fn count_uses(graph: &[u8]) -> [u16; SLOT_LIMIT]
-    requires { ⌜ ReadableGraph (now graph) ⌝ }
-    requires { ⌜ Closed (now graph) ⌝ }
-    requires { ⌜ OutputsNamed (now graph) ⌝ }
-    ensures { λ r. ⌜ (length r ≡ slotLimit)
-        × ((v : ℕ) → v < slotCount (now (graph .entry)) → getD r v 0 ≡ usesOf (graphOf (now (graph .entry))) v) ⌝ }
-{
-    let slots = slot_count(graph);
-    let mut uses = [0u16; SLOT_LIMIT];
-    let mut k = 0;
-    while k < slots {
-        add_inputs(graph, k, &mut uses);
-        k += 1;
-    }
-    add_outputs(graph, &mut uses);
-    uses
-}
-
-// ---- the rule
+ghost use Rattle.rule_uses.specs.Demands.{demandOf};
 
 // Whether source vertex j is an output.
 fn is_source_output(rule: &[u8], j: usize) -> bool

@@ -12,12 +12,11 @@ use Rattle.definitions.specs.Lists.{filter, member, range, count, total}
 use Rattle.definitions.specs.Paths.{Reads}
 use Rattle.definitions.specs.Graph.{Graph, inputsOf, readsOf, usesOf}
 use Rattle.definitions.specs.Rule.{Rule, sourceInputs, isRuleInput}
-use Rattle.definitions.specs.Match.{imageOf, innerImages, Private}
+use Rattle.definitions.specs.Match.{imageOf, placesOf, innerImages, Private}
 use Rattle.laws.proofs.Lists.{decided, true-not-false}
 use Rattle.laws.proofs.Graph.{reader-inside}
 use Rattle.laws.proofs.Members.{member-mem, mem-member}
 use Rattle.laws.proofs.Match.{inner-distinct, inner-below}
-use Rattle.uses.specs.Uses.{placesOf}
 use Rattle.laws.proofs.Sums.{count-none, count-some, count-map, total-same, total-none, total-part, sumOver, sum-map, sum-filter, sum-range, total-parts}
 
 module _ (g : Graph) (r : Rule) (images : List ℕ)

@@ -6,10 +6,11 @@ use native.Mathlib.Omega.{arith}
 use borrow.Author.Needs.{needs}
 use Rattle.definitions.specs.Lists.{total}
 use Rattle.definitions.specs.Rule.{sideCapacity}
-use Rattle.uses.specs.Counted.{Counted}
-use Rattle.uses.proofs.Laws.{counted-none, counted-same, ruleReads, places-all}
-use Rattle.uses.proofs.count_places.Statement.{statement}
-use Rattle.uses.proofs.count_places.Tie as tie
+use Rattle.laws.specs.Counted.{Counted}
+use Rattle.laws.proofs.Counts.{counted-none, counted-same}
+use Rattle.rule_uses.proofs.Laws.{ruleReads, places-all}
+use Rattle.rule_uses.proofs.count_places.Statement.{statement}
+use Rattle.rule_uses.proofs.count_places.Tie as tie
 
 abbrev Inv-loop : tie.InvT-loop
 Inv-loop rule vertices places₀ w₀ places w = (w ≤ vertices) × Counted sideCapacity (ruleReads rule w) places

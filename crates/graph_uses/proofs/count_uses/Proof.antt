@@ -4,10 +4,11 @@ use mathlib.Core.Path.{refl}
 use Prim.Native.Nat.{_-_, _≤_}
 use native.Mathlib.Omega.{arith}
 use Rattle.definitions.specs.Lists.{total}
-use Rattle.uses.specs.Counted.{Counted}
-use Rattle.uses.proofs.Laws.{counted-none, counted-same, graphReads, reads-all}
-use Rattle.uses.proofs.count_uses.Statement.{statement}
-use Rattle.uses.proofs.count_uses.Tie as tie
+use Rattle.laws.specs.Counted.{Counted}
+use Rattle.laws.proofs.Counts.{counted-none, counted-same}
+use Rattle.graph_uses.proofs.Laws.{graphReads, reads-all}
+use Rattle.graph_uses.proofs.count_uses.Statement.{statement}
+use Rattle.graph_uses.proofs.count_uses.Tie as tie
 
 abbrev Inv-loop : tie.InvT-loop
 Inv-loop graph slots uses₀ k₀ uses k = (k ≤ slots) × Counted 512 (graphReads graph k) uses
