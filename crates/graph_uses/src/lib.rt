@@ -8,19 +8,14 @@ use graph_fields::slot_count;
 ghost use mathlib.Core.Path.{_≡_};
 ghost use Prim.Native.Nat.{ℕ, _+_, _<_};
 ghost use lib.ListN.{length, getD};
-ghost use Rattle.definitions.specs.Lists.{total, count};
-ghost use Rattle.definitions.specs.Graph.{slotLimit, slotCount, graphOf, inputsOf, readsOf, usesOf};
+ghost use Rattle.definitions.specs.Graph.{slotLimit, slotCount, graphOf, usesOf};
 ghost use Rattle.laws.specs.Counted.{Counted};
-ghost use Rattle.graph_fields.specs.Layout.{ReadableGraph, Closed, OutputsNamed};
+ghost use Rattle.graph_uses.specs.Countable.{readsBelow, CountableGraph, InputsNext, OutputsNext};
 
 // Counts the input places of slot k, after those of the slots below it.
 fn add_inputs(graph: &[u8], k: usize, uses: &mut [u16; SLOT_LIMIT])
-    requires { ⌜ ReadableGraph (now graph) ⌝ }
-    requires { ⌜ Closed (now graph) ⌝ }
-    requires { ⌜ k < slotCount (now graph) ⌝ }
-    requires { ⌜ Counted slotLimit (λ v. total (λ w. count v (inputsOf (graphOf (now graph)) w)) k) (now uses) ⌝ }
-    ensures { λ r. ⌜ Counted slotLimit (λ v. total (λ w. count v (inputsOf (graphOf (now (graph .entry))) w)) (k + 1))
-        (now (uses .exit)) ⌝ }
+    requires { ⌜ InputsNext (now graph) k (now uses) ⌝ }
+    ensures { λ r. ⌜ Counted slotLimit (readsBelow (graphOf (now (graph .entry))) (k + 1)) (now (uses .exit)) ⌝ }
 {
     let places = input_count(graph, k);
     let mut i = 0;
@@ -33,9 +28,7 @@ fn add_inputs(graph: &[u8], k: usize, uses: &mut [u16; SLOT_LIMIT])
 
 // Counts the output places, after all input places.
 fn add_outputs(graph: &[u8], uses: &mut [u16; SLOT_LIMIT])
-    requires { ⌜ ReadableGraph (now graph) ⌝ }
-    requires { ⌜ OutputsNamed (now graph) ⌝ }
-    requires { ⌜ Counted slotLimit (readsOf (graphOf (now graph))) (now uses) ⌝ }
+    requires { ⌜ OutputsNext (now graph) (now uses) ⌝ }
     ensures { λ r. ⌜ Counted slotLimit (usesOf (graphOf (now (graph .entry)))) (now (uses .exit)) ⌝ }
 {
     let outputs = graph_fields::output_count(graph);
@@ -49,9 +42,7 @@ fn add_outputs(graph: &[u8], uses: &mut [u16; SLOT_LIMIT])
 
 // How often each slot is named, by input places and by graph outputs.
 pub fn count_uses(graph: &[u8]) -> [u16; SLOT_LIMIT]
-    requires { ⌜ ReadableGraph (now graph) ⌝ }
-    requires { ⌜ Closed (now graph) ⌝ }
-    requires { ⌜ OutputsNamed (now graph) ⌝ }
+    requires { ⌜ CountableGraph (now graph) ⌝ }
     ensures { λ r. ⌜ (length r ≡ slotLimit)
         × ((v : ℕ) → v < slotCount (now (graph .entry)) → getD r v 0 ≡ usesOf (graphOf (now (graph .entry))) v) ⌝ }
 {

@@ -6,15 +6,16 @@ use mathlib.Core.List.{List}
 use mathlib.Core.Logic.{⊎-elim}
 use Prim.Native.Nat.{ℕ, _+_, _*_, _<_, _≤_}
 use native.Mathlib.Omega.{arith}
-use borrow.Author.Tests.{eqb-true, eqb-false, eq-eqb, ne-eqb}
+use borrow.Author.Tests.{eqb-true, eqb-false, eq-eqb}
 use lib.Dec.{eqb}
-use lib.ListN.{length, getD, take, set, replicate, length-set, length-replicate}
-use lib.Seq.{take-all, length-take-le, getD-set-same, getD-set-other}
+use lib.ListN.{length, getD, drop, set, replicate, length-set, length-replicate, drop-of-length-le}
+use lib.Seq.{getD-set-same, getD-set-other}
 use Rattle.definitions.specs.Lists.{total, count}
 use Rattle.laws.specs.Counted.{Counted}
 use Rattle.laws.proofs.Lists.{decided}
 use Rattle.laws.proofs.Builds.{getD-none}
-use Rattle.laws.proofs.Sums.{count-length, count-more, total-most}
+use Rattle.laws.proofs.Walks.{rest}
+use Rattle.laws.proofs.Sums.{count-length, total-most}
 
 pub counted-none : (n : ℕ) {f : ℕ → ℕ} → ((v : ℕ) → f v ≡ 0) → Counted n f (replicate n 0)
 counted-none n h = record { places = length-replicate n 0; at = λ v. getD-none n v 0 ∙ sym (h v) }
@@ -33,38 +34,52 @@ counted-put {g = g} {xs = xs} u x l e h c = record {
       (decided (eqb v u));
 }
 
--- one more use of u
-pub counted-more : {n : ℕ} {f g : ℕ → ℕ} {xs : List ℕ} (u : ℕ) → u < n → ((v : ℕ) → g v ≡ f v + cond (eqb v u) 1 0)
-    → Counted n f xs → Counted n g (set xs u (getD xs u 0 + 1))
-counted-more {xs = xs} u l h c = counted-put u (getD xs u 0 + 1) l
-    (ap (λ (k : ℕ). k + 1) (c .at u) ∙ sym (h u ∙ simp (eq-eqb u u refl)))
-    (λ v other. sym (h v ∙ simp (ne-eqb v u other) (omega arith))) c
+-- ---- a loop that counts the elements of a list: what is counted and what is left make the whole
 
--- ---- a loop that counts the elements of a list, on top of counts that are there
+pub record Counting (n : ℕ) (whole : ℕ → ℕ) (left counts : List ℕ) : Type 0 where
+  pub places : length counts ≡ n
+  pub at : (v : ℕ) → getD counts v 0 + count v left ≡ whole v
 
--- what is counted of v after i elements
-abbrev pub passed : (ℕ → ℕ) → List ℕ → ℕ → ℕ → ℕ
-passed f xs i v = f v + count v (take i xs)
+-- an element, and those after it
+count-next : (xs : List ℕ) (i d u : ℕ) → i < length xs → u ≡ getD xs i d → (v : ℕ)
+    → count v (drop i xs) ≡ cond (eqb v u) 1 0 + count v (drop (i + 1) xs)
+count-next xs i d u l e v = rw e (ap (count v) (rest xs i d l) ∙ unfold count in refl)
 
-module _ {n : ℕ} (f : ℕ → ℕ) {counts : List ℕ} (xs : List ℕ) where
-  pub pass-none : Counted n f counts → Counted n (passed f xs 0) counts
-  unfolding count
-  pass-none c = counted-same (λ v. omega arith) c
+module _ {n : ℕ} {whole : ℕ → ℕ} {counts : List ℕ} (xs : List ℕ) where
+  -- the loop starts on top of counts that are there
+  pub counting-starts : {f : ℕ → ℕ} → ((v : ℕ) → f v + count v xs ≡ whole v) → Counted n f counts → Counting n whole xs counts
+  counting-starts h c = record { places = c .places; at = λ v. ap (λ (k : ℕ). k + count v xs) (c .at v) ∙ h v }
 
-  pub pass-one : (i d u : ℕ) → i < length xs → u ≡ getD xs i d → u < n → Counted n (passed f xs i) counts
-      → Counted n (passed f xs (i + 1)) (set counts u (getD counts u 0 + 1))
-  pass-one i d u l e h c = counted-more u h
-      (λ v. let more : count v (take (i + 1) xs) ≡ count v (take i xs) + cond (eqb v u) 1 0 = rw e (count-more v xs i d l) in
-      omega (arith, more)) c
+  module _ (i : ℕ) where
+    pub counting-ends : length xs ≤ i → Counting n whole (drop i xs) counts → Counted n whole counts
+    unfolding count
+    counting-ends l c =
+        let none = drop-of-length-le xs l in
+        record { places = c .places; at = λ v. omega (arith, rw none at (c .at v)) }
 
-  pub pass-all : (i : ℕ) (g : ℕ → ℕ) → length xs ≤ i → ((v : ℕ) → f v + count v xs ≡ g v) → Counted n (passed f xs i) counts
-      → Counted n g counts
-  pass-all i g l h c = counted-same (λ v. ap (λ (ys : List ℕ). f v + count v ys) (take-all i xs l) ∙ h v) c
+    module _ (d u : ℕ) (l : i < length xs) (e : u ≡ getD xs i d) where
+      -- the present element is counted
+      pub counting-turn : u < n → Counting n whole (drop i xs) counts
+          → Counting n whole (drop (i + 1) xs) (set counts u (getD counts u 0 + 1))
+      counting-turn inside c = record {
+        places = simp length-set (c .places);
+        at = λ v. ⊎-elim
+            (λ (t : eqb v u ≡ true).
+            let more : count v (drop i xs) ≡ 1 + count v (drop (i + 1) xs) = rw t at (count-next xs i d u l e v) in
+            let put : getD (set counts u (getD counts u 0 + 1)) v 0 ≡ getD counts v 0 + 1 =
+            rw (eqb-true v u t) (getD-set-same counts u (getD counts u 0 + 1) 0 (omega (arith, c .places))) in
+            omega (arith, more, put, c .at v))
+            (λ (t : eqb v u ≡ false).
+            let same : count v (drop i xs) ≡ 0 + count v (drop (i + 1) xs) = rw t at (count-next xs i d u l e v) in
+            omega (arith, same, getD-set-other counts u v (getD counts u 0 + 1) 0 (eqb-false v u t), c .at v))
+            (decided (eqb v u));
+      }
 
-  -- so that a count stays small
-  pub pass-most : (i u most : ℕ) → i ≤ length xs → f u ≤ most → Counted n (passed f xs i) counts
-      → getD counts u 0 ≤ most + length xs
-  pass-most i u most l h c = omega (arith, c .at u, count-length u (take i xs), length-take-le i xs l)
+      -- and before that its count is not yet whole, so the array has room for it
+      pub counting-room : Counting n whole (drop i xs) counts → getD counts u 0 < whole u
+      counting-room c =
+          let more : count u (drop i xs) ≡ 1 + count u (drop (i + 1) xs) = rw (eq-eqb u u refl) at (count-next xs i d u l e u) in
+          omega (arith, more, c .at u)
 
 -- ---- how large counts can be: a vertex has at most 6 input places
 

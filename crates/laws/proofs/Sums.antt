@@ -10,35 +10,17 @@ use native.Mathlib.Numerals.{add-one}
 use native.Mathlib.Omega.{arith}
 use borrow.Author.Tests.{ltb-true, ltb-false, eqb-true, eqb-false, eq-eqb, ne-eqb, not-true}
 use lib.Dec.{eqb, ltb}
-use lib.ListN.{length, getD, take}
-use lib.Seq.{take-suc}
+use lib.ListN.{length}
 use Rattle.definitions.specs.Lists.{total, filter, member, count, distinct, range, tabulate}
 use Rattle.laws.proofs.Lists.{decided, bit, and-left, and-right}
 use Rattle.laws.proofs.Ranges.{range-more}
 
 -- ---- count
 
-pub count-append : (x : ℕ) (xs ys : List ℕ) → count x (xs ++ ys) ≡ count x xs + count x ys
-unfolding count
-count-append x [] ys = omega arith
-count-append x (y ∷ xs) ys = omega (arith, count-append x xs ys)
-
 pub count-length : (x : ℕ) (xs : List ℕ) → count x xs ≤ length xs
 unfolding count
 count-length x [] = omega arith
 count-length x (y ∷ xs) = omega (arith, bit (eqb x y), count-length x xs)
-
--- one more element of the list
-pub count-more : (x : ℕ) (xs : List ℕ) (i d : ℕ) → i < length xs
-    → count x (take (i + 1) xs) ≡ count x (take i xs) + cond (eqb x (getD xs i d)) 1 0
-count-more x xs i d l =
-    ap (λ (n : ℕ). count x (take n xs)) (add-one i)
-    ∙ ap (count x) (take-suc xs i d l)
-    ∙ count-append x (take i xs) (getD xs i d ∷ [])
-    ∙ ap (λ (n : ℕ). count x (take i xs) + n) single
-  where
-    single : count x (getD xs i d ∷ []) ≡ cond (eqb x (getD xs i d)) 1 0
-    single = unfold count in omega arith
 
 -- ---- total
 

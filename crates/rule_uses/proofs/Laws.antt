@@ -1,6 +1,6 @@
--- How often the first source vertices name a source vertex, how large that can be, and arrays of demands.
+-- How large the counts of a rule can be, and arrays of demands.
 -- Assumes nothing.
-use mathlib.Core.Path.{_≡_, sym, ap, _∙_}
+use mathlib.Core.Path.{_≡_, refl, sym, ap, _∙_}
 use mathlib.Core.Bool.{true, false, cond}
 use mathlib.Core.List.{List}
 use mathlib.Core.Logic.{⊎-elim}
@@ -8,8 +8,7 @@ use Prim.Native.Nat.{ℕ, _+_, _*_, _<_, _≤_}
 use native.Mathlib.Omega.{arith}
 use borrow.Author.Tests.{ltb-true, ltb-false, lt-ltb, le-ltb}
 use lib.Dec.{ltb}
-use lib.ListN.{length, set}
-use Rattle.definitions.specs.Lists.{total, count}
+use lib.ListN.{set}
 use Rattle.definitions.specs.Rule.{Rule, ruleOf, sourceCount, sourceInputs}
 use Rattle.definitions.specs.Match.{isInterior, placesOf}
 use Rattle.laws.specs.Counted.{Counted}
@@ -17,23 +16,25 @@ use Rattle.laws.proofs.Lists.{decided}
 use Rattle.laws.proofs.Rule.{length-source, source-count-at}
 use Rattle.laws.proofs.Counts.{counted-put, reads-most}
 use Rattle.rule_fields.specs.Layout.{ReadableRule}
+use Rattle.rule_uses.specs.Countable.{placesBelow}
 use Rattle.rule_uses.specs.Demands.{demandOf}
 
--- how often the source vertices below k name v
-abbrev pub ruleReads : List ℕ → ℕ → ℕ → ℕ
-ruleReads block k v = total (λ w. count v (sourceInputs (ruleOf block) w)) k
-
-pub source-few : {block : List ℕ} → ReadableRule block → (j : ℕ) → j < sourceCount block
-    → length (sourceInputs (ruleOf block) j) ≤ 6
-source-few {block} readable j l = omega (arith, source-count-at block j l, readable .inputs j (omega arith))
-
-pub rule-reads-most : {block : List ℕ} → ReadableRule block → (k v : ℕ) → k ≤ sourceCount block → ruleReads block k v ≤ 6 * k
-rule-reads-most {block} readable k v h = reads-most (sourceInputs (ruleOf block)) k v (λ w l. source-few readable w (omega arith))
-
--- all source vertices
-pub places-all : (block : List ℕ) (k v : ℕ) → k ≡ sourceCount block → ruleReads block k v ≡ placesOf (ruleOf block) v
+-- the source vertices below the last one are all
+pub places-all : (block : List ℕ) (w j : ℕ) → w ≡ sourceCount block → placesBelow (ruleOf block) w j ≡ placesOf (ruleOf block) j
 unfolding placesOf
-places-all block k v e = ap (λ (n : ℕ). ruleReads block n v) (e ∙ sym (length-source block))
+places-all block w j e = ap (λ (n : ℕ). placesBelow (ruleOf block) n j) (e ∙ sym (length-source block))
+
+module _ {block : List ℕ} (readable : ReadableRule block) where
+  pub places-below-most : (w j : ℕ) → w ≤ sourceCount block → placesBelow (ruleOf block) w j ≤ 6 * w
+  places-below-most w j h = reads-most (sourceInputs (ruleOf block)) w j
+      (λ u l. omega (arith, source-count-at block u (omega arith), readable .inputs u (omega arith)))
+
+  pub places-most : (j : ℕ) → placesOf (ruleOf block) j ≤ 6 * sourceCount block
+  places-most j = omega (
+    arith,
+    places-all block (sourceCount block) j refl,
+    places-below-most (sourceCount block) j (omega arith),
+  )
 
 -- ---- demands: below j what is demanded, and from j on the number of places
 

@@ -9,11 +9,12 @@ use rule_fields::source_output;
 ghost use mathlib.Core.Path.{_≡_};
 ghost use Prim.Native.Nat.{ℕ, _+_, _<_};
 ghost use lib.ListN.{length, getD};
-ghost use Rattle.definitions.specs.Lists.{total, member, count};
-ghost use Rattle.definitions.specs.Rule.{sideCapacity, sourceCount, ruleOf, sourceInputs};
+ghost use Rattle.definitions.specs.Lists.{member};
+ghost use Rattle.definitions.specs.Rule.{sideCapacity, sourceCount, ruleOf};
 ghost use Rattle.definitions.specs.Match.{isInterior, placesOf};
 ghost use Rattle.laws.specs.Counted.{Counted};
-ghost use Rattle.rule_fields.specs.Layout.{WholeRule, ReadableRule, Layered};
+ghost use Rattle.rule_fields.specs.Layout.{WholeRule};
+ghost use Rattle.rule_uses.specs.Countable.{placesBelow, CountableRule, InputsNext};
 ghost use Rattle.rule_uses.specs.Demands.{demandOf};
 
 // Whether source vertex j is an output.
@@ -48,12 +49,8 @@ fn is_interior(rule: &[u8], j: usize) -> bool
 
 // Counts the input places of source vertex w, after those of the vertices below it.
 fn add_source_inputs(rule: &[u8], w: usize, places: &mut [u16; SIDE_CAPACITY])
-    requires { ⌜ ReadableRule (now rule) ⌝ }
-    requires { ⌜ Layered (now rule) ⌝ }
-    requires { ⌜ w < sourceCount (now rule) ⌝ }
-    requires { ⌜ Counted sideCapacity (λ j. total (λ u. count j (sourceInputs (ruleOf (now rule)) u)) w) (now places) ⌝ }
-    ensures { λ r. ⌜ Counted sideCapacity (λ j. total (λ u. count j (sourceInputs (ruleOf (now (rule .entry))) u)) (w + 1))
-        (now (places .exit)) ⌝ }
+    requires { ⌜ InputsNext (now rule) w (now places) ⌝ }
+    ensures { λ r. ⌜ Counted sideCapacity (placesBelow (ruleOf (now (rule .entry))) (w + 1)) (now (places .exit)) ⌝ }
 {
     let inputs = source_input_count(rule, w);
     let mut i = 0;
@@ -66,8 +63,7 @@ fn add_source_inputs(rule: &[u8], w: usize, places: &mut [u16; SIDE_CAPACITY])
 
 // How often input places of source vertices name each source vertex.
 fn count_places(rule: &[u8]) -> [u16; SIDE_CAPACITY]
-    requires { ⌜ ReadableRule (now rule) ⌝ }
-    requires { ⌜ Layered (now rule) ⌝ }
+    requires { ⌜ CountableRule (now rule) ⌝ }
     ensures { λ r. ⌜ Counted sideCapacity (placesOf (ruleOf (now (rule .entry)))) r ⌝ }
 {
     let vertices = source_count(rule);
@@ -82,8 +78,7 @@ fn count_places(rule: &[u8]) -> [u16; SIDE_CAPACITY]
 
 // What each source vertex demands of the uses of its image.
 pub fn count_demands(rule: &[u8]) -> [u16; SIDE_CAPACITY]
-    requires { ⌜ ReadableRule (now rule) ⌝ }
-    requires { ⌜ Layered (now rule) ⌝ }
+    requires { ⌜ CountableRule (now rule) ⌝ }
     ensures { λ r. ⌜ (length r ≡ sideCapacity)
         × ((j : ℕ) → j < sourceCount (now (rule .entry)) → getD r j 0 ≡ demandOf (ruleOf (now (rule .entry))) j) ⌝ }
 {

@@ -1,18 +1,18 @@
 -- The loop's invariant: below j stands what is demanded, and from j on the number of places.
 -- Assumes nothing.
-use mathlib.Core.Path.{_≡_, refl, sym, ap, _∙_}
+use mathlib.Core.Path.{_≡_, sym, ap, _∙_}
 use mathlib.Core.List.{List}
-use Prim.Native.Nat.{ℕ, _+_, _*_, _-_, _≤_, _<_}
+use Prim.Native.Nat.{ℕ, _+_, _-_, _≤_, _<_}
 use native.Mathlib.Omega.{arith}
 use borrow.Author.Needs.{needs}
 use mathlib.Core.Logic.{⊎-elim}
 use lib.ListN.{getD, set}
-use Rattle.definitions.specs.Rule.{sideCapacity, sourceCount, ruleOf}
+use Rattle.definitions.specs.Rule.{sideCapacity, ruleOf}
 use Rattle.definitions.specs.Match.{placesOf}
 use Rattle.rule_uses.specs.Demands.{demandOf}
 use Rattle.laws.specs.Counted.{Counted}
 use Rattle.laws.proofs.Counts.{counted-same}
-use Rattle.rule_uses.proofs.Laws.{rule-reads-most, places-all, demanded, demanded-below, demanded-from, demanded-one, demand-inner, demand-outer}
+use Rattle.rule_uses.proofs.Laws.{places-most, demanded, demanded-below, demanded-from, demanded-one, demand-inner, demand-outer}
 use Rattle.rule_uses.proofs.count_demands.Statement.{statement}
 use Rattle.rule_uses.proofs.count_demands.Tie as tie
 
@@ -29,7 +29,7 @@ block a = a .before .before .before .before .args .rule .now
 inside : (c : tie.In-loop Inv-loop μ-loop) → c .before .loop .j < sideCapacity
 inside c = omega (
   arith,
-  c .before .before .before .before .before .pre .0 .whole .source,
+  c .before .before .before .before .before .pre .readable .whole .source,
   c .loop-test .taken,
   c .before .before .before .source-count .ensures .0,
 )
@@ -68,11 +68,8 @@ array-read-demands c = omega arith
 add-demands : tie.Need-add-demands Inv-loop μ-loop
 add-demands c =
     let a = c .before .before .before in
-    let s = a .before .before .before .before in
-    let most : placesOf (ruleOf (block a)) (a .loop .j) ≤ 6 * sourceCount (block a) =
-    rw (places-all (block a) (sourceCount (block a)) (a .loop .j) refl) at
-    (rule-reads-most (s .pre .0) (sourceCount (block a)) (a .loop .j) (omega arith)) in
-    omega (arith, present a, most, s .pre .0 .whole .source)
+    let readable = a .before .before .before .before .pre .readable in
+    omega (arith, present a, places-most readable (a .loop .j), readable .whole .source)
 
 array-write-demands : tie.Need-array-write-demands Inv-loop μ-loop
 array-write-demands c = omega arith

@@ -5,15 +5,16 @@ use Prim.Native.Nat.{_-_, _≤_}
 use native.Mathlib.Omega.{arith}
 use borrow.Author.Needs.{needs}
 use Rattle.definitions.specs.Lists.{total}
-use Rattle.definitions.specs.Rule.{sideCapacity}
+use Rattle.definitions.specs.Rule.{sideCapacity, ruleOf}
 use Rattle.laws.specs.Counted.{Counted}
 use Rattle.laws.proofs.Counts.{counted-none, counted-same}
-use Rattle.rule_uses.proofs.Laws.{ruleReads, places-all}
+use Rattle.rule_uses.specs.Countable.{placesBelow}
+use Rattle.rule_uses.proofs.Laws.{places-all}
 use Rattle.rule_uses.proofs.count_places.Statement.{statement}
 use Rattle.rule_uses.proofs.count_places.Tie as tie
 
 abbrev Inv-loop : tie.InvT-loop
-Inv-loop rule vertices places₀ w₀ places w = (w ≤ vertices) × Counted sideCapacity (ruleReads rule w) places
+Inv-loop rule vertices places₀ w₀ places w = (w ≤ vertices) × Counted sideCapacity (placesBelow (ruleOf rule) w) places
 
 abbrev μ-loop : tie.MeasureT-loop
 μ-loop rule vertices places₀ w₀ places w = vertices - w
@@ -29,7 +30,7 @@ add-source-inputs-requires : tie.Need-add-source-inputs-requires Inv-loop μ-loo
 add-source-inputs-requires c κs =
     let a = c .before .before in
     let s = a .before .before .before in
-    (s .pre .0, (s .pre .1, (omega arith, a .loop .inv .1)))
+    record { readable = s .pre .readable; layered = s .pre .layered; vertex = omega arith; counted = a .loop .inv .1 }
 
 add-w : tie.Need-add-w Inv-loop μ-loop
 add-w c = omega arith
