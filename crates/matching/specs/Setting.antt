@@ -30,3 +30,9 @@ pub record Setting (graph rule used demanded : List ℕ) : Type 0 where
   pub matchable : Matchable rule
   pub uses : (length used ≡ slotLimit) × ((v : ℕ) → v < slotCount graph → getD used v 0 ≡ usesOf (graphOf graph) v)
   pub demands : (length demanded ≡ sideCapacity) × ((j : ℕ) → j < sourceCount rule → getD demanded j 0 ≡ demandOf (ruleOf rule) j)
+
+-- a source vertex, and a slot that may be its image
+pub record PairReady (graph rule used demanded : List ℕ) (j v : ℕ) : Type 0 where
+  pub setting : Setting graph rule used demanded
+  pub vertex : j < sourceCount rule
+  pub slot : v < slotCount graph

@@ -17,21 +17,20 @@ use rule_fields::source_input_count;
 use rule_fields::source_kind;
 use rule_fields::source_operator;
 ghost use mathlib.Core.Path.{_≡_};
-ghost use mathlib.Core.Bool.{true};
-ghost use mathlib.Core.List.{[], _∷_};
 ghost use Prim.Native.Nat.{suc, _<_, _≤_, max};
 ghost use lib.Dec.{eqb};
 ghost use lib.ListN.{length, getD, drop};
 ghost use Rattle.definitions.specs.Lists.{anyBelow};
-ghost use Rattle.definitions.specs.Graph.{slotCount, graphOf, slotOf, inputsOf};
+ghost use Rattle.definitions.specs.Graph.{slotCount, graphOf, slotOf};
 ghost use Rattle.definitions.specs.Rule.{sideCapacity, sourceCount, ruleOf, sourceOf, sourceInputs};
 ghost use Rattle.definitions.specs.Match.{imageOf};
 ghost use Rattle.graph_fields.specs.Layout.{ReadableGraph};
 ghost use Rattle.rule_fields.specs.Layout.{ReadableRule};
-ghost use Rattle.rule_order.specs.InOrder.{InOrder, visitedAfter};
+ghost use Rattle.rule_order.specs.InOrder.{visitedAfter};
 ghost use Rattle.matching.specs.Candidate.{slotHead, patternHead, headFits, usesFit, isCandidate};
-ghost use Rattle.matching.specs.Partial.{Partial, Sends, SendsInputs, Step};
-ghost use Rattle.matching.specs.Setting.{Matchable, Setting};
+ghost use Rattle.matching.specs.Partial.{Sends, SendsInputs, Step};
+ghost use Rattle.matching.specs.Setting.{PairReady};
+ghost use Rattle.matching.specs.Ready.{SettleReady, VertexReady, InputsReady};
 
 // What a record says of itself in four numbers. A look at these is cheap, and turns away most candidates.
 pub struct Head {
@@ -107,9 +106,7 @@ fn is_candidate(
     j: usize,
     v: usize,
 ) -> bool
-    requires { ⌜ Setting (now graph) (now rule) (now uses) (now demands) ⌝ }
-    requires { ⌜ j < sourceCount (now rule) ⌝ }
-    requires { ⌜ v < slotCount (now graph) ⌝ }
+    requires { ⌜ PairReady (now graph) (now rule) (now uses) (now demands) j v ⌝ }
     ensures { λ r. ⌜ r ≡ isCandidate (graphOf (now (graph .entry))) (ruleOf (now (rule .entry))) j v ⌝ }
 {
     if !head_fits(pattern_head(rule, j), slot_head(graph, v)) {
@@ -139,13 +136,7 @@ fn is_taken(images: &[u16; SIDE_CAPACITY], next: usize, v: usize) -> bool
 // Gives source vertex j, a candidate whose inputs have their images, the image v: where v is no lower vertex's image, and the
 // attributes agree.
 fn settle(graph: &[u8], rule: &[u8], j: usize, v: usize, images: &mut [u16; SIDE_CAPACITY]) -> bool
-    requires { ⌜ ReadableGraph (now graph) ⌝ }
-    requires { ⌜ Matchable (now rule) ⌝ }
-    requires { ⌜ j < sourceCount (now rule) ⌝ }
-    requires { ⌜ v < slotCount (now graph) ⌝ }
-    requires { ⌜ isCandidate (graphOf (now graph)) (ruleOf (now rule)) j v ≡ true ⌝ }
-    requires { ⌜ Partial (graphOf (now graph)) (ruleOf (now rule)) j (now images) ⌝ }
-    requires { ⌜ SendsInputs (graphOf (now graph)) (ruleOf (now rule)) j v 0 (now images) ⌝ }
+    requires { ⌜ SettleReady (now graph) (now rule) j v (now images) ⌝ }
     ensures { λ r. ⌜ Step (graphOf (now (graph .entry))) (ruleOf (now (rule .entry))) j (now (images .entry)) (Sends j v) (suc j) r
         (now (images .exit)) ⌝ }
 {
@@ -181,11 +172,7 @@ pub fn match_vertex(
     next: usize,
     images: &mut [u16; SIDE_CAPACITY],
 ) -> bool
-    requires { ⌜ Setting (now graph) (now rule) (now uses) (now demands) ⌝ }
-    requires { ⌜ j < sourceCount (now rule) ⌝ }
-    requires { ⌜ v < slotCount (now graph) ⌝ }
-    requires { ⌜ Partial (graphOf (now graph)) (ruleOf (now rule)) next (now images) ⌝ }
-    requires { ⌜ InOrder (ruleOf (now rule)) next (j ∷ []) ⌝ }
+    requires { ⌜ VertexReady (now graph) (now rule) (now uses) (now demands) j v next (now images) ⌝ }
     ensures { λ r. ⌜ Step (graphOf (now (graph .entry))) (ruleOf (now (rule .entry))) next (now (images .entry)) (Sends j v)
         (max next (suc j)) r (now (images .exit)) ⌝ }
 {
@@ -213,13 +200,7 @@ fn match_inputs(
     next: usize,
     images: &mut [u16; SIDE_CAPACITY],
 ) -> bool
-    requires { ⌜ Setting (now graph) (now rule) (now uses) (now demands) ⌝ }
-    requires { ⌜ j < sourceCount (now rule) ⌝ }
-    requires { ⌜ v < slotCount (now graph) ⌝ }
-    requires { ⌜ i ≤ length (sourceInputs (ruleOf (now rule)) j) ⌝ }
-    requires { ⌜ length (sourceInputs (ruleOf (now rule)) j) ≤ length (inputsOf (graphOf (now graph)) v) ⌝ }
-    requires { ⌜ Partial (graphOf (now graph)) (ruleOf (now rule)) next (now images) ⌝ }
-    requires { ⌜ InOrder (ruleOf (now rule)) next (drop i (sourceInputs (ruleOf (now rule)) j)) ⌝ }
+    requires { ⌜ InputsReady (now graph) (now rule) (now uses) (now demands) j v i next (now images) ⌝ }
     ensures { λ r. ⌜ Step (graphOf (now (graph .entry))) (ruleOf (now (rule .entry))) next (now (images .entry))
         (SendsInputs (graphOf (now (graph .entry))) (ruleOf (now (rule .entry))) j v i)
         (visitedAfter next (drop i (sourceInputs (ruleOf (now (rule .entry))) j))) r (now (images .exit)) ⌝ }

@@ -51,7 +51,7 @@ returns-2 c =
     look-passes (graphOf (s .args .graph .now)) (ruleOf (s .args .rule .now)) (s .args .j) (s .args .v) (a .pattern-head .result)
     (h .before .slot-head .result) (h .head-fits .result) (a .pattern-head .ensures) (h .before .slot-head .ensures) (h .head-fits .ensures)
     (not-false _ (e .if1 .left)) (c .uses-fit .result) (getD (s .args .demands .now) (s .args .j) 0) (getD (s .args .uses .now) (s .args .v) 0)
-    (c .uses-fit .ensures) (s .pre .0 .demands .1 (s .args .j) (s .pre .1 .0)) (s .pre .0 .uses .1 (s .args .v) (s .pre .1 .1))
+    (c .uses-fit .ensures) (s .pre .setting .demands .1 (s .args .j) (s .pre .vertex)) (s .pre .setting .uses .1 (s .args .v) (s .pre .slot))
 
 pub is-candidate-spec : {M : Type 1} → statement M
 is-candidate-spec =
