@@ -28,7 +28,7 @@ ROLES = [
      "acyclic graph_faults graph_check rule_records rule_order rule_outputs"
      " rule_expressions rule_check blocks"),
     ("matching", "#cfeee2", "#00795c", 0.40,
-     "attributes graph_uses rule_uses matching search find_match"),
+     "attributes graph_uses rule_uses match_look matching search find_match"),
     ("rewriting", "#fde2bd", "#b06200", 0.75,
      "vacancies redirection target_attributes writing new_table commit rewriting"),
     ("exported operations and answers", "#f9d3c5", "#b83b00", 0.50,

@@ -22,9 +22,9 @@ use Rattle.laws.proofs.Lists.{decided, true-not-false, anyBelow-found, anyBelow
 use Rattle.laws.proofs.Members.{holds, true-holds}
 use Rattle.attributes.specs.Evaluable.{agreeFirst}
 use Rattle.attributes.proofs.Laws.{agree-pairs, agree-first-below}
-use Rattle.matching.specs.Candidate.{slotHead, patternHead, isCandidate}
+use Rattle.match_look.specs.Candidate.{slotHead, patternHead, isCandidate}
 use Rattle.matching.specs.Partial.{Partial, Extends, Sends, SendsInputs, Step}
-use Rattle.matching.proofs.Candidates.{Formed, wild-input, candidate-same, candidate-vertex, candidate-uses}
+use Rattle.match_look.proofs.Candidates.{Formed, wild-input, candidate-same, candidate-vertex, candidate-uses}
 
 -- ---- what a vertex asks of a map, it asks of the images of lower vertices
 

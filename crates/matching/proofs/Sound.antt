@@ -5,7 +5,7 @@ use Prim.Native.Nat.{ℕ}
 use Rattle.definitions.specs.Rule.{SoundRule}
 use Rattle.rule_check.proofs.Readable.{rule-readable, rule-layered, rule-plain, rule-bare, rule-below}
 use Rattle.attributes.proofs.Sound.{rule-evaluable}
-use Rattle.matching.specs.Setting.{Matchable}
+use Rattle.match_look.specs.Setting.{Matchable}
 
 pub rule-matchable : (block : List ℕ) → SoundRule block → Matchable block
 rule-matchable block sound = record {

@@ -9,8 +9,8 @@ use Rattle.definitions.specs.Graph.{slotCount, graphOf, inputsOf}
 use Rattle.definitions.specs.Rule.{sourceCount, ruleOf, sourceInputs}
 use Rattle.graph_fields.specs.Layout.{ReadableGraph}
 use Rattle.rule_order.specs.InOrder.{InOrder}
-use Rattle.matching.specs.Candidate.{isCandidate}
-use Rattle.matching.specs.Setting.{Matchable, Setting}
+use Rattle.match_look.specs.Candidate.{isCandidate}
+use Rattle.match_look.specs.Setting.{Matchable, Setting}
 use Rattle.matching.specs.Partial.{Partial, SendsInputs}
 
 -- source vertex j is the next, its inputs have the inputs of slot v as their images, and v passed the look

@@ -24,7 +24,7 @@ use Rattle.rule_check.proofs.Readable.{rule-readable, output-counts}
 use Rattle.rule_order.specs.InOrder.{InOrder, visitedAfter}
 use Rattle.rule_order.proofs.InOrder.{in-order-first, in-order-rest, in-order-start, in-order-whole}
 use Rattle.matching.specs.Partial.{Partial, Extends, Sends, Step}
-use Rattle.matching.proofs.Candidates.{Formed, formed}
+use Rattle.match_look.proofs.Candidates.{Formed, formed}
 use Rattle.matching.proofs.Maps.{partial-same}
 use Rattle.matching.proofs.Sound.{rule-matchable}
 use Rattle.search.specs.Finds.{Finds}

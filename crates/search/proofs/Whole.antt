@@ -18,7 +18,7 @@ use Rattle.laws.proofs.Rule.{source-reader}
 use Rattle.laws.proofs.Padded.{taken-at}
 use Rattle.theory.proofs.Inside.{uses-private}
 use Rattle.matching.specs.Partial.{Partial}
-use Rattle.matching.proofs.Candidates.{Formed, wild-input}
+use Rattle.match_look.proofs.Candidates.{Formed, wild-input}
 use Rattle.matching.proofs.Maps.{takes-same}
 
 module _ (g : Graph) (r : Rule) (f : Formed r) (images : List ℕ) (p : Partial g r (length (r .source)) images)

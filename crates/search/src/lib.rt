@@ -12,7 +12,7 @@ use rule_uses::count_demands;
 ghost use Rattle.definitions.specs.Graph.{graphOf, SoundGraph};
 ghost use Rattle.definitions.specs.Rule.{sourceCount, ruleOf, SoundRule};
 ghost use Rattle.definitions.specs.Match.{leastMatch};
-ghost use Rattle.matching.specs.Setting.{Setting};
+ghost use Rattle.match_look.specs.Setting.{Setting};
 ghost use Rattle.search.specs.Finds.{Finds};
 
 // The images of all source vertices, where `ok`; in the places after them stands 65535.

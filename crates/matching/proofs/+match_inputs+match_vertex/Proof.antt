@@ -13,8 +13,8 @@ use Rattle.definitions.specs.Rule.{sideCapacity, ruleOf, sourceInputs}
 use Rattle.laws.proofs.Rule.{length-source}
 use Rattle.rule_order.specs.InOrder.{visitedAfter}
 use Rattle.rule_order.proofs.InOrder.{in-order-inputs, in-order-here}
-use Rattle.matching.specs.Candidate.{isCandidate}
-use Rattle.matching.proofs.Candidates.{Formed, formed, candidate-inputs}
+use Rattle.match_look.specs.Candidate.{isCandidate}
+use Rattle.match_look.proofs.Candidates.{Formed, formed, candidate-inputs}
 use Rattle.laws.proofs.Match.{image-at}
 use Rattle.matching.proofs.Steps.{mapped, no-candidate, inputs-fail, inputs-pass, inputs-done, input-in-order, others-in-order, input-fails, input-passes}
 use Rattle.matching.proofs.match_inputs.Reads as match-inputs
@@ -24,7 +24,7 @@ use Rattle.matching.proofs.match_vertex.Reads as match-vertex
 use Rattle.matching.proofs.match_vertex.Kinds as match-vertex-kinds
 use Rattle.matching.proofs.+match_inputs+match_vertex.Lts-match_vertex as match-vertex-lts
 use Rattle.graph_fields.proofs.input_at.Reads as input-at-reads
-use Rattle.matching.proofs.is_candidate.Reads as is-candidate-reads
+use Rattle.match_look.proofs.is_candidate.Reads as is-candidate-reads
 use Rattle.matching.proofs.is_image.Reads as is-image-reads
 use Rattle.matching.proofs.settle.Reads as settle-reads
 use Rattle.fields.proofs.greater.Reads as greater-reads

@@ -9,7 +9,7 @@ use lib.ListN.{length}
 use Rattle.definitions.specs.Graph.{graphOf}
 use Rattle.definitions.specs.Rule.{ruleOf}
 use Rattle.laws.proofs.Rule.{length-source}
-use Rattle.matching.proofs.Candidates.{Formed, formed, candidate-attributes}
+use Rattle.match_look.proofs.Candidates.{Formed, formed, candidate-attributes}
 use Rattle.matching.proofs.Maps.{settled}
 use Rattle.matching.proofs.Steps.{is-taken, disagree}
 use Rattle.matching.proofs.settle.Statement.{statement}

@@ -12,7 +12,7 @@ use Rattle.laws.proofs.Graph.{length-slots}
 use Rattle.laws.proofs.Rule.{length-source}
 use Rattle.graph_check.proofs.Readable.{graph-readable}
 use Rattle.rule_check.proofs.Readable.{rule-readable, rule-layered, output-counts}
-use Rattle.matching.proofs.Candidates.{Formed, formed}
+use Rattle.match_look.proofs.Candidates.{Formed, formed}
 use Rattle.search.proofs.search.Statement.{statement}
 use Rattle.search.proofs.search.Tie as tie
 use Rattle.search.proofs.Steps.{Outputs, outputs-read, Passed, PassedSecond, passed-start, second-start, Blank, blank-start, blank-after, Rooted, rooted-after, root-fails, root-made, second-fails, seconds-passed, nothing-mapped, first-in-order, second-in-order, nothing-found, one-found, two-found}

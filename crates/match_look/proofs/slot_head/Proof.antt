@@ -1,9 +1,9 @@
 -- The four numbers, one by one.
 -- Assumes nothing.
 use borrow.Author.Needs.{needs}
-use Rattle.matching.specs.Candidate.{slotHead}
-use Rattle.matching.proofs.slot_head.Statement.{statement}
-use Rattle.matching.proofs.slot_head.Tie as tie
+use Rattle.match_look.specs.Candidate.{slotHead}
+use Rattle.match_look.proofs.slot_head.Statement.{statement}
+use Rattle.match_look.proofs.slot_head.Tie as tie
 
 kind-of-requires : tie.Need-kind-of-requires
 kind-of-requires c κs = search needs

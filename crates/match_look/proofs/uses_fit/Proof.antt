@@ -2,10 +2,10 @@
 -- Assumes nothing.
 use borrow.Author.Needs.{needs}
 use borrow.Author.Tests.{eq-eqb}
-use Rattle.matching.specs.Candidate.{usesFit}
-use Rattle.matching.proofs.Candidates.{demand-left}
-use Rattle.matching.proofs.uses_fit.Statement.{statement}
-use Rattle.matching.proofs.uses_fit.Tie as tie
+use Rattle.match_look.specs.Candidate.{usesFit}
+use Rattle.match_look.proofs.Candidates.{demand-left}
+use Rattle.match_look.proofs.uses_fit.Statement.{statement}
+use Rattle.match_look.proofs.uses_fit.Tie as tie
 
 returns : tie.Need-returns
 unfolding usesFit

@@ -1,9 +1,9 @@
 -- The four numbers, one by one.
 -- Assumes nothing.
 use borrow.Author.Needs.{needs}
-use Rattle.matching.specs.Candidate.{patternHead}
-use Rattle.matching.proofs.pattern_head.Statement.{statement}
-use Rattle.matching.proofs.pattern_head.Tie as tie
+use Rattle.match_look.specs.Candidate.{patternHead}
+use Rattle.match_look.proofs.pattern_head.Statement.{statement}
+use Rattle.match_look.proofs.pattern_head.Tie as tie
 
 source-kind-requires : tie.Need-source-kind-requires
 source-kind-requires c κs = search needs

@@ -5,9 +5,9 @@ use borrow.Author.Tests.{not-true, not-false}
 use lib.ListN.{getD}
 use Rattle.definitions.specs.Graph.{graphOf}
 use Rattle.definitions.specs.Rule.{ruleOf}
-use Rattle.matching.proofs.Candidates.{look-fails, look-passes}
-use Rattle.matching.proofs.is_candidate.Statement.{statement}
-use Rattle.matching.proofs.is_candidate.Tie as tie
+use Rattle.match_look.proofs.Candidates.{look-fails, look-passes}
+use Rattle.match_look.proofs.is_candidate.Statement.{statement}
+use Rattle.match_look.proofs.is_candidate.Tie as tie
 
 pattern-head-requires : tie.Need-pattern-head-requires
 pattern-head-requires c κs = search needs

@@ -8,7 +8,7 @@ use Rattle.definitions.specs.Operators.{kindEmpty}
 use Rattle.definitions.specs.Graph.{Slot, Graph, slotOf, usesOf}
 use Rattle.definitions.specs.Rule.{Pattern, Rule, sourceOf}
 use Rattle.rule_uses.specs.Demands.{demandOf}
-use Rattle.matching.specs.declared.Head.{Head}
+use Rattle.match_look.specs.declared.Head.{Head}
 
 unfoldable pub slotHead : Slot → Head
 slotHead s = record { kind = s .kind; operator = s .operator; inputs = length (s .inputs); attributes = length (s .attributes) }

@@ -1,10 +1,10 @@
 -- Each test decides one part of the look.
 -- Assumes nothing.
 use borrow.Author.Tests.{eq-eqb, ne-eqb}
-use Rattle.matching.specs.Candidate.{headFits}
-use Rattle.matching.proofs.Candidates.{last-fits}
-use Rattle.matching.proofs.head_fits.Statement.{statement}
-use Rattle.matching.proofs.head_fits.Tie as tie
+use Rattle.match_look.specs.Candidate.{headFits}
+use Rattle.match_look.proofs.Candidates.{last-fits}
+use Rattle.match_look.proofs.head_fits.Statement.{statement}
+use Rattle.match_look.proofs.head_fits.Tie as tie
 
 returns : tie.Need-returns
 unfolding headFits

@@ -20,9 +20,9 @@ use Rattle.laws.proofs.Match.{image-inside}
 use Rattle.laws.proofs.Rule.{source-reader, length-source}
 use Rattle.rule_uses.specs.Demands.{demandOf}
 use Rattle.theory.proofs.Inside.{private-uses}
-use Rattle.matching.specs.declared.Head.{Head}
-use Rattle.matching.specs.Candidate.{slotHead, patternHead, headFits, usesFit, isCandidate}
-use Rattle.matching.specs.Setting.{Matchable}
+use Rattle.match_look.specs.declared.Head.{Head}
+use Rattle.match_look.specs.Candidate.{slotHead, patternHead, headFits, usesFit, isCandidate}
+use Rattle.match_look.specs.Setting.{Matchable}
 
 -- ---- the four numbers
 
