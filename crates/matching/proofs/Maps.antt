@@ -20,7 +20,7 @@ use Rattle.definitions.specs.Attributes.{agrees}
 use Rattle.definitions.specs.Match.{imageOf, attributeOf, readAttribute, isInterior, Takes, Match}
 use Rattle.laws.proofs.Lists.{decided, true-not-false, anyBelow-found, anyBelow-some, map-at, map-same}
 use Rattle.laws.proofs.Members.{holds, true-holds}
-use Rattle.attributes.specs.Evaluable.{agreeFirst}
+use Rattle.attributes.specs.Agreement.{agreeFirst}
 use Rattle.attributes.proofs.Laws.{agree-pairs, agree-first-below}
 use Rattle.uses.specs.Uses.{usesOf, placesOf}
 use Rattle.matching.specs.Candidate.{slotHead, patternHead, isCandidate}

@@ -16,7 +16,7 @@ use Rattle.definitions.specs.Rule.{sideCapacity, Rule, sourceOf, sourceInputs}
 use Rattle.definitions.specs.Match.{imageOf, readAttribute, Match}
 use Rattle.laws.proofs.Lists.{decided, true-not-false}
 use Rattle.laws.proofs.Walks.{rest}
-use Rattle.attributes.specs.Evaluable.{agreeFirst}
+use Rattle.attributes.specs.Agreement.{agreeFirst}
 use Rattle.rule_order.specs.InOrder.{InOrder, visitedAfter}
 use Rattle.rule_order.proofs.InOrder.{in-order-first, in-order-rest}
 use Rattle.matching.specs.Candidate.{isCandidate}

@@ -22,7 +22,7 @@ use Rattle.laws.proofs.Rule.{input-inside, length-source, length-source-outputs
 use Rattle.theory.proofs.Fixing.{sound-fixing}
 use Rattle.graph_fields.specs.Layout.{ReadableGraph, Closed, OutputsNamed}
 use Rattle.rule_fields.specs.Layout.{ReadableRule, Layered}
-use Rattle.attributes.specs.Evaluable.{Evaluable}
+use Rattle.match_values.specs.Evaluable.{Evaluable}
 use Rattle.matching.specs.Setting.{Matchable}
 use Rattle.graph_check.proofs.Laws as graph-check
 use Rattle.rule_records.proofs.Laws.{pattern-inputs, pattern-attributes}

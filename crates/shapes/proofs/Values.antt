@@ -21,7 +21,7 @@ use Rattle.laws.proofs.Lists.{all-every}
 use Rattle.laws.proofs.Rule.{length-target, target-attributes-at, target-attribute-at, use-inside}
 use Rattle.laws.proofs.Results.{results-length, result-at, values-at, vertex-results}
 use Rattle.numbers.specs.Value.{bounded}
-use Rattle.attributes.proofs.Laws.{node-bounded}
+use Rattle.match_values.proofs.Laws.{node-bounded}
 
 -- ---- words
 

@@ -19,7 +19,7 @@ ghost use Rattle.definitions.specs.Rewriting.{vertexResults, targetResults};
 ghost use Rattle.numbers.specs.Value.{valueOf, bounded};
 ghost use Rattle.graph_fields.specs.Layout.{ReadableGraph};
 ghost use Rattle.rule_fields.specs.Layout.{ReadableRule};
-ghost use Rattle.attributes.specs.Evaluable.{Evaluable};
+ghost use Rattle.match_values.specs.Evaluable.{Evaluable};
 ghost use Rattle.target_attributes.specs.Words.{wordOfValue, indexLike, Given, isGiven};
 
 // The words of a vertex's attributes, where `ok`; zero stands in the unused places.

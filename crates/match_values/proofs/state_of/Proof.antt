@@ -1,8 +1,8 @@
 -- The arms are the definition's.
 -- Assumes nothing.
 use borrow.Author.Needs.{needs}
-use Rattle.attributes.proofs.state_of.Statement.{statement}
-use Rattle.attributes.proofs.state_of.Tie as tie
+use Rattle.match_values.proofs.state_of.Statement.{statement}
+use Rattle.match_values.proofs.state_of.Tie as tie
 
 enum-told : tie.Need-enum-told
 enum-told c = search needs

@@ -2,9 +2,9 @@
 -- Assumes nothing.
 use borrow.Author.Tests.{eq-eqb, ne-eqb}
 use Rattle.numbers.specs.Value.{valueOf}
-use Rattle.attributes.specs.Memo.{remembered}
-use Rattle.attributes.proofs.recalled.Statement.{statement}
-use Rattle.attributes.proofs.recalled.Tie as tie
+use Rattle.match_values.specs.Memo.{remembered}
+use Rattle.match_values.proofs.recalled.Statement.{statement}
+use Rattle.match_values.proofs.recalled.Tie as tie
 
 returns : tie.Need-returns
 unfolding valueOf remembered

@@ -1,9 +1,9 @@
 -- The memo of which no result is known holds true results only.
 -- Assumes nothing.
 use borrow.Author.Needs.{needs}
-use Rattle.attributes.proofs.Laws.{memo-none}
-use Rattle.attributes.proofs.operation_value.Statement.{statement}
-use Rattle.attributes.proofs.operation_value.Tie as tie
+use Rattle.match_values.proofs.Laws.{memo-none}
+use Rattle.match_values.proofs.operation_value.Statement.{statement}
+use Rattle.match_values.proofs.operation_value.Tie as tie
 
 node-value-requires : tie.Need-node-value-requires
 node-value-requires c κs =

@@ -9,23 +9,23 @@ use Rattle.definitions.specs.Graph.{graphOf}
 use Rattle.definitions.specs.Rule.{nodeCount, nodeForm, nodeFits}
 use Rattle.definitions.specs.Match.{readAttribute}
 use Rattle.numbers.specs.Value.{valueOf, bounded}
-use Rattle.attributes.specs.Memo.{nodeResult}
+use Rattle.match_values.specs.Memo.{nodeResult}
 use Rattle.rule_expressions.proofs.Laws.{left-earlier, right-earlier}
-use Rattle.attributes.proofs.Laws.{combined-gives, node-bounded, remembered-value, memo-more}
+use Rattle.match_values.proofs.Laws.{combined-gives, node-bounded, remembered-value, memo-more}
 use borrow.Fn.Kinds.{In}
 use borrow.Fn.PlainCycle.{Measures, is, falls, and}
-use Rattle.attributes.proofs.node_value.Reads as node-value
-use Rattle.attributes.proofs.node_value.Kinds as node-value-kinds
-use Rattle.attributes.proofs.+node_value.Lts-node_value as node-value-lts
-use Rattle.attributes.proofs.leaf_value.Reads as leaf-value-reads
-use Rattle.attributes.proofs.magnitude_of.Reads as magnitude-of-reads
-use Rattle.attributes.proofs.recalled.Reads as recalled-reads
-use Rattle.attributes.proofs.state_of.Reads as state-of-reads
+use Rattle.match_values.proofs.node_value.Reads as node-value
+use Rattle.match_values.proofs.node_value.Kinds as node-value-kinds
+use Rattle.match_values.proofs.+node_value.Lts-node_value as node-value-lts
+use Rattle.match_values.proofs.leaf_value.Reads as leaf-value-reads
+use Rattle.match_values.proofs.magnitude_of.Reads as magnitude-of-reads
+use Rattle.match_values.proofs.recalled.Reads as recalled-reads
+use Rattle.match_values.proofs.state_of.Reads as state-of-reads
 use Rattle.numbers.proofs.combine.Reads as combine-reads
 use Rattle.rule_nodes.proofs.node_byte.Reads as node-byte-reads
 use Rattle.rule_nodes.proofs.node_form.Reads as node-form-reads
-use Rattle.attributes.proofs.+node_value.{statement}
-use Rattle.attributes.proofs.+node_value.Tie.{close}
+use Rattle.match_values.proofs.+node_value.{statement}
+use Rattle.match_values.proofs.+node_value.Tie.{close}
 
 abbrev μ-node-value : Measures 5 node-value-kinds.ps ℕ
 μ-node-value κs a = a .1 .1 .1 .0
