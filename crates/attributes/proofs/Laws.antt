@@ -1,4 +1,4 @@
--- Laws about agreement: of a list of expressions with words, one by one; which attributes an expression reads; and of the expression of
+-- Laws about what evaluating asks, and about agreement: of a list of expressions with words, one by one; which attributes an expression reads; and of the expression of
 -- a node, by what the node gives.
 -- Assumes nothing.
 use mathlib.Core.Path.{_≡_, refl, sym, ap, ap₂, _∙_}
@@ -17,8 +17,16 @@ use Rattle.definitions.specs.Fields.{signed}
 use Rattle.definitions.specs.Rule.{nodeCount, Expression, anything, constant, access, apply, formAny, formConstant, formAccess, nodeForm, expressionOf, nodeFits, accessesBelow}
 use Rattle.definitions.specs.Attributes.{combine, result, gives, agrees}
 use Rattle.laws.proofs.Lists.{decided, and-left, and-right, allBelow-step, allBelow-fails}
+use Rattle.match_values.specs.Evaluable.{NodeEvaluation}
 use Rattle.match_values.proofs.Laws.{any-node, constant-node, access-node, operation-node}
 use Rattle.attributes.specs.Agreement.{agreeFirst}
+use Rattle.attributes.specs.Evaluation.{Evaluation}
+
+-- ---- what evaluating asks
+
+-- what the attributes of a vertex ask is enough for each node that they name
+pub of-nodes : {graph rule images : List ℕ} → Evaluation graph rule images → NodeEvaluation graph rule images
+of-nodes e = record { table = e .table; whole = e .patterns .whole; evaluable = e .evaluable; imageSize = e .imageSize }
 
 -- ---- what a list of expressions agrees with
 

@@ -14,18 +14,15 @@ use rule_fields::target_attribute;
 use rule_nodes::node_form;
 ghost use mathlib.Core.Path.{_≡_};
 ghost use mathlib.Core.Bool.{true};
-ghost use Prim.Native.Nat.{_<_, _≤_};
-ghost use lib.ListN.{length, getD};
+ghost use lib.ListN.{getD};
 ghost use Rattle.definitions.specs.Fields.{signed};
-ghost use Rattle.definitions.specs.Graph.{slotCount, graphOf, slotOf};
-ghost use Rattle.definitions.specs.Rule.{sideCapacity, sourceCount, targetCount, anything, ruleOf, sourceOf, targetOf};
+ghost use Rattle.definitions.specs.Graph.{graphOf, slotOf};
+ghost use Rattle.definitions.specs.Rule.{anything, ruleOf, sourceOf, targetOf};
 ghost use Rattle.definitions.specs.Attributes.{result, agrees};
 ghost use Rattle.definitions.specs.Match.{readAttribute};
 ghost use Rattle.numbers.specs.Value.{valueOf, bounded};
-ghost use Rattle.graph_fields.specs.Layout.{ReadableGraph};
-ghost use Rattle.rule_fields.specs.Layout.{ReadableRule};
-ghost use Rattle.match_values.specs.Evaluable.{Evaluable};
 ghost use Rattle.attributes.specs.Agreement.{agreeFirst};
+ghost use Rattle.attributes.specs.Evaluation.{Evaluation, SourceAttribute, SourceAttributes, TargetAttribute};
 
 // Whether attribute i of source vertex j agrees with attribute i of slot v. Only an operation needs a memo.
 fn attribute_agrees(
@@ -36,14 +33,8 @@ fn attribute_agrees(
     i: usize,
     v: usize,
 ) -> bool
-    requires { ⌜ ReadableGraph (now graph) ⌝ }
-    requires { ⌜ ReadableRule (now rule) ⌝ }
-    requires { ⌜ Evaluable (now rule) ⌝ }
-    requires { ⌜ length (now images) ≡ sideCapacity ⌝ }
-    requires { ⌜ j < sourceCount (now rule) ⌝ }
-    requires { ⌜ i < length (sourceOf (ruleOf (now rule)) j .attributes) ⌝ }
-    requires { ⌜ v < slotCount (now graph) ⌝ }
-    requires { ⌜ i < length (slotOf (graphOf (now graph)) v .attributes) ⌝ }
+    requires { ⌜ Evaluation (now graph) (now rule) (now images) ⌝ }
+    requires { ⌜ SourceAttribute (now graph) (now rule) j i v ⌝ }
     ensures { λ r. ⌜ r ≡ agrees (readAttribute (graphOf (now (graph .entry))) (now (images .entry)))
         (getD (sourceOf (ruleOf (now (rule .entry))) j .attributes) i anything)
         (signed (getD (slotOf (graphOf (now (graph .entry))) v .attributes) i 0)) ⌝ }
@@ -68,13 +59,8 @@ pub fn attributes_agree(
     j: usize,
     v: usize,
 ) -> bool
-    requires { ⌜ ReadableGraph (now graph) ⌝ }
-    requires { ⌜ ReadableRule (now rule) ⌝ }
-    requires { ⌜ Evaluable (now rule) ⌝ }
-    requires { ⌜ length (now images) ≡ sideCapacity ⌝ }
-    requires { ⌜ j < sourceCount (now rule) ⌝ }
-    requires { ⌜ v < slotCount (now graph) ⌝ }
-    requires { ⌜ length (sourceOf (ruleOf (now rule)) j .attributes) ≤ length (slotOf (graphOf (now graph)) v .attributes) ⌝ }
+    requires { ⌜ Evaluation (now graph) (now rule) (now images) ⌝ }
+    requires { ⌜ SourceAttributes (now graph) (now rule) j v ⌝ }
     ensures { λ r. ⌜ r ≡ agreeFirst (readAttribute (graphOf (now (graph .entry))) (now (images .entry)))
         (sourceOf (ruleOf (now (rule .entry))) j .attributes) (slotOf (graphOf (now (graph .entry))) v .attributes) ⌝ }
 {
@@ -97,12 +83,8 @@ pub fn target_value(
     t: usize,
     i: usize,
 ) -> Value
-    requires { ⌜ ReadableGraph (now graph) ⌝ }
-    requires { ⌜ ReadableRule (now rule) ⌝ }
-    requires { ⌜ Evaluable (now rule) ⌝ }
-    requires { ⌜ length (now images) ≡ sideCapacity ⌝ }
-    requires { ⌜ t < targetCount (now rule) ⌝ }
-    requires { ⌜ i < length (targetOf (ruleOf (now rule)) t .attributes) ⌝ }
+    requires { ⌜ Evaluation (now graph) (now rule) (now images) ⌝ }
+    requires { ⌜ TargetAttribute (now rule) t i ⌝ }
     ensures { λ r. ⌜ valueOf r ≡ result (readAttribute (graphOf (now (graph .entry))) (now (images .entry)))
         (getD (targetOf (ruleOf (now (rule .entry))) t .attributes) i anything) ⌝ }
     ensures { λ r. ⌜ bounded (valueOf r) ≡ true ⌝ }

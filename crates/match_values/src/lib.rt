@@ -19,12 +19,11 @@ ghost use mathlib.Core.Path.{_≡_};
 ghost use Prim.Native.Nat.{_<_};
 ghost use lib.ListN.{length};
 ghost use Rattle.definitions.specs.Graph.{graphOf};
-ghost use Rattle.definitions.specs.Rule.{sideCapacity, nodeCount, formAdd, nodeForm};
+ghost use Rattle.definitions.specs.Rule.{sideCapacity, nodeCount};
 ghost use Rattle.definitions.specs.Match.{readAttribute};
 ghost use Rattle.numbers.specs.Value.{valueOf};
 ghost use Rattle.graph_fields.specs.Layout.{ReadableGraph};
-ghost use Rattle.rule_fields.specs.Layout.{WholeRule};
-ghost use Rattle.match_values.specs.Evaluable.{Evaluable};
+ghost use Rattle.match_values.specs.Evaluable.{NodeEvaluation, Leaf};
 ghost use Rattle.match_values.specs.Memo.{nodeResult, stateOf, magnitudeOf, remembered, Memo};
 
 // ---- results
@@ -51,12 +50,8 @@ fn read_attribute(graph: &[u8], images: &[u16; SIDE_CAPACITY], v: usize, b: usiz
 
 // What node k gives where it is no operation.
 pub fn leaf_value(graph: &[u8], rule: &[u8], images: &[u16; SIDE_CAPACITY], k: usize) -> Value
-    requires { ⌜ ReadableGraph (now graph) ⌝ }
-    requires { ⌜ WholeRule (now rule) ⌝ }
-    requires { ⌜ Evaluable (now rule) ⌝ }
-    requires { ⌜ length (now images) ≡ sideCapacity ⌝ }
-    requires { ⌜ k < nodeCount (now rule) ⌝ }
-    requires { ⌜ nodeForm (now rule) k < formAdd ⌝ }
+    requires { ⌜ NodeEvaluation (now graph) (now rule) (now images) ⌝ }
+    requires { ⌜ Leaf (now rule) k ⌝ }
     ensures { λ r. ⌜ valueOf r ≡ nodeResult (now (graph .entry)) (now (rule .entry)) (now (images .entry)) k ⌝ }
 {
     let form = node_form(rule, k);
@@ -118,10 +113,7 @@ fn node_value(
     states: &mut [u8; NODE_LIMIT],
     magnitudes: &mut [u64; NODE_LIMIT],
 ) -> Value
-    requires { ⌜ ReadableGraph (now graph) ⌝ }
-    requires { ⌜ WholeRule (now rule) ⌝ }
-    requires { ⌜ Evaluable (now rule) ⌝ }
-    requires { ⌜ length (now images) ≡ sideCapacity ⌝ }
+    requires { ⌜ NodeEvaluation (now graph) (now rule) (now images) ⌝ }
     requires { ⌜ k < nodeCount (now rule) ⌝ }
     requires { ⌜ Memo (now graph) (now rule) (now images) (now states) (now magnitudes) ⌝ }
     ensures { λ r. ⌜ valueOf r ≡ nodeResult (now (graph .entry)) (now (rule .entry)) (now (images .entry)) k ⌝ }
@@ -149,10 +141,7 @@ fn node_value(
 
 // What node k gives where it is an operation: nothing is known before.
 pub fn operation_value(graph: &[u8], rule: &[u8], images: &[u16; SIDE_CAPACITY], k: usize) -> Value
-    requires { ⌜ ReadableGraph (now graph) ⌝ }
-    requires { ⌜ WholeRule (now rule) ⌝ }
-    requires { ⌜ Evaluable (now rule) ⌝ }
-    requires { ⌜ length (now images) ≡ sideCapacity ⌝ }
+    requires { ⌜ NodeEvaluation (now graph) (now rule) (now images) ⌝ }
     requires { ⌜ k < nodeCount (now rule) ⌝ }
     ensures { λ r. ⌜ valueOf r ≡ nodeResult (now (graph .entry)) (now (rule .entry)) (now (images .entry)) k ⌝ }
 {

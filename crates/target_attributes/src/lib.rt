@@ -11,15 +11,12 @@ ghost use mathlib.Core.Path.{_≡_};
 ghost use mathlib.Core.Option.{some};
 ghost use mathlib.Core.Bool.{true};
 ghost use Prim.Native.Nat.{_<_};
-ghost use lib.ListN.{length};
 ghost use Rattle.definitions.specs.Graph.{graphOf};
-ghost use Rattle.definitions.specs.Rule.{sideCapacity, targetCount, ruleOf, targetOf};
+ghost use Rattle.definitions.specs.Rule.{targetCount, ruleOf, targetOf};
 ghost use Rattle.definitions.specs.Match.{readAttribute};
 ghost use Rattle.definitions.specs.Rewriting.{vertexResults, targetResults};
 ghost use Rattle.numbers.specs.Value.{valueOf, bounded};
-ghost use Rattle.graph_fields.specs.Layout.{ReadableGraph};
-ghost use Rattle.rule_fields.specs.Layout.{ReadableRule};
-ghost use Rattle.match_values.specs.Evaluable.{Evaluable};
+ghost use Rattle.attributes.specs.Evaluation.{Evaluation};
 ghost use Rattle.target_attributes.specs.Words.{wordOfValue, indexLike, Given, isGiven};
 
 // The words of a vertex's attributes, where `ok`; zero stands in the unused places.
@@ -58,10 +55,7 @@ fn is_fit(kind: usize, value: Value) -> bool
 
 // The attributes of target vertex t.
 pub fn vertex_words(graph: &[u8], rule: &[u8], images: &[u16; SIDE_CAPACITY], t: usize) -> Words
-    requires { ⌜ ReadableGraph (now graph) ⌝ }
-    requires { ⌜ ReadableRule (now rule) ⌝ }
-    requires { ⌜ Evaluable (now rule) ⌝ }
-    requires { ⌜ length (now images) ≡ sideCapacity ⌝ }
+    requires { ⌜ Evaluation (now graph) (now rule) (now images) ⌝ }
     requires { ⌜ t < targetCount (now rule) ⌝ }
     ensures { λ r. ⌜ Given (vertexResults (readAttribute (graphOf (now (graph .entry))) (now (images .entry)))
         (targetOf (ruleOf (now (rule .entry))) t)) (r .ok) (r .words) ⌝ }
@@ -83,10 +77,7 @@ pub fn vertex_words(graph: &[u8], rule: &[u8], images: &[u16; SIDE_CAPACITY], t:
 
 // Whether every attribute of every target vertex has a fit result.
 pub fn all_fit(graph: &[u8], rule: &[u8], images: &[u16; SIDE_CAPACITY]) -> bool
-    requires { ⌜ ReadableGraph (now graph) ⌝ }
-    requires { ⌜ ReadableRule (now rule) ⌝ }
-    requires { ⌜ Evaluable (now rule) ⌝ }
-    requires { ⌜ length (now images) ≡ sideCapacity ⌝ }
+    requires { ⌜ Evaluation (now graph) (now rule) (now images) ⌝ }
     ensures { λ r. ⌜ r ≡ isGiven (targetResults (readAttribute (graphOf (now (graph .entry))) (now (images .entry)))
         (ruleOf (now (rule .entry)) .target)) ⌝ }
 {

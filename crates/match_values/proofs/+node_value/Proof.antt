@@ -9,7 +9,8 @@ use Rattle.definitions.specs.Graph.{graphOf}
 use Rattle.definitions.specs.Rule.{nodeCount, nodeForm, nodeFits}
 use Rattle.definitions.specs.Match.{readAttribute}
 use Rattle.numbers.specs.Value.{valueOf, bounded}
-use Rattle.match_values.specs.Memo.{nodeResult}
+use Rattle.match_values.specs.Evaluable.{NodeEvaluation}
+use Rattle.match_values.specs.Memo.{nodeResult, Memo}
 use Rattle.rule_expressions.proofs.Laws.{left-earlier, right-earlier}
 use Rattle.match_values.proofs.Laws.{combined-gives, node-bounded, remembered-value, memo-more}
 use borrow.Fn.Kinds.{In}
@@ -62,9 +63,20 @@ calls t = (
 abbrev Start : ℕ → Type 0
 Start t = node-value-lts.Start (calls t) (node-value-at t) node-value.Post
 
+-- what it requires
+module _ (t : ℕ) (s : Start t) where
+  abbrev evaluation : NodeEvaluation (s .args .graph .now) (s .args .rule .now) (s .args .images .now)
+  evaluation = s .pre .1 .0
+
+  abbrev inside : s .args .k < nodeCount (s .args .rule .now)
+  inside = s .pre .1 .1 .0
+
+  abbrev memo : Memo (s .args .graph .now) (s .args .rule .now) (s .args .images .now) (s .args .states .now) (s .args .magnitudes .now)
+  memo = s .pre .1 .1 .1
+
 -- every node has its place in the memo
 placed : (t : ℕ) (s : Start t) → s .args .k < 64
-placed t s = omega (arith, s .pre .1 .1 .1 .1 .1 .0, s .pre .1 .1 .0 .nodes)
+placed t s = omega (arith, inside t s, evaluation t s .whole .nodes)
 
 -- ---- where the node is an operation
 
@@ -73,7 +85,7 @@ module _ (t : ℕ) (c : node-value-lts.Else2 (calls t) (node-value-at t) node-va
   start = c .before .before .before .before .before .before
 
   abbrev fits : nodeFits (start .args .rule .now) (start .args .k) ≡ true
-  fits = start .pre .1 .1 .1 .0 .nodes (start .args .k) (start .pre .1 .1 .1 .1 .1 .0)
+  fits = evaluation t start .evaluable .nodes (start .args .k) (inside t start)
 
   operation : 2 < nodeForm (start .args .rule .now) (start .args .k)
   operation = omega (arith, c .before .node-form .ensures .0, c .if2 .left)
@@ -98,7 +110,7 @@ module _ (t : ℕ) (c : node-value-lts.After-node-value2 (calls t) (node-value-a
       omega (
         arith,
         left .node-byte .ensures .0,
-        begun .pre .1 .1 .1 .1 .1 .0,
+        inside t begun,
         left-earlier (begun .args .rule .now) (begun .args .k) (fits t (left .before)) (operation t (left .before)),
       )
 
@@ -107,7 +119,7 @@ module _ (t : ℕ) (c : node-value-lts.After-node-value2 (calls t) (node-value-a
       omega (
         arith,
         right .node-byte2 .ensures .0,
-        begun .pre .1 .1 .1 .1 .1 .0,
+        inside t begun,
         right-earlier (begun .args .rule .now) (begun .args .k) (fits t (left .before)) (operation t (left .before)),
       )
 
@@ -115,13 +127,13 @@ module _ (t : ℕ) (c : node-value-lts.After-node-value2 (calls t) (node-value-a
   first-bounded =
       rw (first .node-value .ensures .0)
       (node-bounded (begun .args .graph .now) (begun .args .rule .now) (begun .args .images .now) (left .node-byte .result) left-inside
-      (begun .pre .1 .1 .1 .0 .nodes (left .node-byte .result) left-inside))
+      (evaluation t begun .evaluable .nodes (left .node-byte .result) left-inside))
 
   second-bounded : bounded (valueOf (c .node-value2 .result)) ≡ true
   second-bounded =
       rw (c .node-value2 .ensures .0)
       (node-bounded (begun .args .graph .now) (begun .args .rule .now) (begun .args .images .now) (right .node-byte2 .result) right-inside
-      (begun .pre .1 .1 .1 .0 .nodes (right .node-byte2 .result) right-inside))
+      (evaluation t begun .evaluable .nodes (right .node-byte2 .result) right-inside))
 
 combined : (t : ℕ) (c : node-value-lts.After-combine (calls t) (node-value-at t) node-value.Post)
     → let s = begun t (c .before) in
@@ -130,7 +142,7 @@ combined t c =
     let b = c .before in
     let e2 = left t b .before in
     let s = begun t b in
-    combined-gives (s .args .rule .now) (s .args .k) (s .pre .1 .1 .1 .1 .1 .0)
+    combined-gives (s .args .rule .now) (s .args .k) (inside t s)
     (readAttribute (graphOf (s .args .graph .now)) (s .args .images .now))
     (e2 .before .node-form .result) (left t b .node-byte .result) (right t b .node-byte2 .result)
     (valueOf (first t b .node-value .result)) (valueOf (b .node-value2 .result)) (valueOf (c .combine .result))
@@ -158,48 +170,34 @@ node-value-returns : (t : ℕ) → node-value-lts.Need-returns (calls t) (node-v
 node-value-returns t c =
     let t1 = c .before .before .before in
     let s = t1 .before .before .before .before in
-    let memo = s .pre .1 .1 .1 .1 .1 .1 in
-    (c .recalled .ensures ∙ memo .known (s .args .k) (t1 .if1 .taken), memo)
+    let known = memo t s in
+    (c .recalled .ensures ∙ known .known (s .args .k) (t1 .if1 .taken), known)
 
 node-value-node-form-requires : (t : ℕ) → node-value-lts.Need-node-form-requires (calls t) (node-value-at t) node-value.Post
 node-value-node-form-requires t c κs =
     let s = c .before .before .before .before in
-    (s .pre .1 .1 .0, s .pre .1 .1 .1 .1 .1 .0)
+    (evaluation t s .whole, inside t s)
 
 node-value-leaf-value-requires : (t : ℕ) → node-value-lts.Need-leaf-value-requires (calls t) (node-value-at t) node-value.Post
 node-value-leaf-value-requires t c κs =
     let f = c .before in
-    let s = f .before .before .before .before .before in (
-      s .pre .1 .0,
-      (
-        s .pre .1 .1 .0,
-        (
-          s .pre .1 .1 .1 .0,
-          (
-            s .pre .1 .1 .1 .1 .0,
-            (
-              s .pre .1 .1 .1 .1 .1 .0,
-              omega (arith, f .node-form .ensures .0, c .if2 .taken),
-            ),
-          ),
-        ),
-      ),
-    )
+    let s = f .before .before .before .before .before in
+    (evaluation t s, record { inside = inside t s; form = omega (arith, f .node-form .ensures .0, c .if2 .taken) })
 
 node-value-returns-2 : (t : ℕ) → node-value-lts.Need-returns-2 (calls t) (node-value-at t) node-value.Post
 node-value-returns-2 t c =
     let s = c .before .before .before .before .before .before .before in
-    (c .leaf-value .ensures, s .pre .1 .1 .1 .1 .1 .1)
+    (c .leaf-value .ensures, memo t s)
 
 node-value-node-byte-requires : (t : ℕ) → node-value-lts.Need-node-byte-requires (calls t) (node-value-at t) node-value.Post
 node-value-node-byte-requires t c κs =
     let s = start t c in
-    (s .pre .1 .1 .0, (s .pre .1 .1 .1 .1 .1 .0, lit< tt))
+    (evaluation t s .whole, (inside t s, lit< tt))
 
 node-value-node-byte-requires-2 : (t : ℕ) → node-value-lts.Need-node-byte-requires-2 (calls t) (node-value-at t) node-value.Post
 node-value-node-byte-requires-2 t c κs =
     let s = start t (c .before) in
-    (s .pre .1 .1 .0, (s .pre .1 .1 .1 .1 .1 .0, lit< tt))
+    (evaluation t s .whole, (inside t s, lit< tt))
 
 node-value-node-value-requires : (t : ℕ) → node-value-lts.Need-node-value-requires (calls t) (node-value-at t) node-value.Post
 node-value-node-value-requires t c κs =
@@ -208,19 +206,7 @@ node-value-node-value-requires t c κs =
     let s = start t e2 in
     let down = left-earlier (s .args .rule .now) (s .args .k) (fits t e2) (operation t e2) in (
       omega (arith, down, left .node-byte .ensures .0, s .pre .0),
-      (
-        s .pre .1 .0,
-        (
-          s .pre .1 .1 .0,
-          (
-            s .pre .1 .1 .1 .0,
-            (
-              s .pre .1 .1 .1 .1 .0,
-              (omega (arith, down, left .node-byte .ensures .0, s .pre .1 .1 .1 .1 .1 .0), s .pre .1 .1 .1 .1 .1 .1),
-            ),
-          ),
-        ),
-      ),
+      (evaluation t s, (omega (arith, down, left .node-byte .ensures .0, inside t s), memo t s)),
     )
 
 node-value-node-value-requires-2 : (t : ℕ) → node-value-lts.Need-node-value-requires-2 (calls t) (node-value-at t) node-value.Post
@@ -231,19 +217,7 @@ node-value-node-value-requires-2 t c κs =
     let s = start t e2 in
     let down = right-earlier (s .args .rule .now) (s .args .k) (fits t e2) (operation t e2) in (
       omega (arith, down, right .node-byte2 .ensures .0, s .pre .0),
-      (
-        s .pre .1 .0,
-        (
-          s .pre .1 .1 .0,
-          (
-            s .pre .1 .1 .1 .0,
-            (
-              s .pre .1 .1 .1 .1 .0,
-              (omega (arith, down, right .node-byte2 .ensures .0, s .pre .1 .1 .1 .1 .1 .0), first .node-value .ensures .1),
-            ),
-          ),
-        ),
-      ),
+      (evaluation t s, (omega (arith, down, right .node-byte2 .ensures .0, inside t s), first .node-value .ensures .1)),
     )
 
 node-value-combine-requires : (t : ℕ) → node-value-lts.Need-combine-requires (calls t) (node-value-at t) node-value.Post

@@ -16,7 +16,7 @@ abbrev start : tie.Else2 → tie.Start
 start c = c .before .before .before .before .before
 
 is-access : (c : tie.Else2) → nodeForm (start c .args .rule .now) (start c .args .k) ≡ 2
-is-access c = omega (arith, c .before .before .node-form .ensures .0, c .before .if1 .left, c .if2 .left, start c .pre .1 .1 .1 .1 .1)
+is-access c = omega (arith, c .before .before .node-form .ensures .0, c .before .if1 .left, c .if2 .left, start c .pre .1 .form)
 
 node-form-requires : tie.Need-node-form-requires
 node-form-requires c κs = search needs
@@ -25,7 +25,7 @@ returns : tie.Need-returns
 unfolding valueOf
 returns c =
     let s = c .before .before .before .before in
-    any-gives (s .args .rule .now) (s .args .k) (s .pre .1 .1 .1 .1 .0) (readAttribute (graphOf (s .args .graph .now)) (s .args .images .now))
+    any-gives (s .args .rule .now) (s .args .k) (s .pre .1 .inside) (readAttribute (graphOf (s .args .graph .now)) (s .args .images .now))
     (sym (c .before .node-form .ensures .0) ∙ c .if1 .taken)
 
 node-number-requires : tie.Need-node-number-requires
@@ -39,7 +39,7 @@ returns-2 c =
     let t2 = c .before .before in
     let s = t2 .before .before .before .before .before in
     c .number .ensures ∙ ap some (c .before .node-number .ensures)
-    ∙ constant-gives (s .args .rule .now) (s .args .k) (s .pre .1 .1 .1 .1 .0)
+    ∙ constant-gives (s .args .rule .now) (s .args .k) (s .pre .1 .inside)
     (readAttribute (graphOf (s .args .graph .now)) (s .args .images .now))
     (sym (t2 .before .before .node-form .ensures .0) ∙ t2 .if2 .taken)
 
@@ -53,15 +53,15 @@ read-attribute-requires : tie.Need-read-attribute-requires
 read-attribute-requires c κs =
     let s = start (c .before .before) in
     let vertex = c .before in (
-      s .pre .0,
+      s .pre .0 .table,
       (
-        s .pre .1 .1 .1 .0,
+        s .pre .0 .imageSize,
         omega (
           arith,
           vertex .node-byte .ensures .0,
-          s .pre .1 .0 .source,
-          access-vertex (s .args .rule .now) (s .args .k) (s .pre .1 .1 .1 .1 .0)
-              (s .pre .1 .1 .0 .nodes (s .args .k) (s .pre .1 .1 .1 .1 .0)) (is-access (vertex .before)),
+          s .pre .0 .whole .source,
+          access-vertex (s .args .rule .now) (s .args .k) (s .pre .1 .inside)
+              (s .pre .0 .evaluable .nodes (s .args .k) (s .pre .1 .inside)) (is-access (vertex .before)),
         ),
       ),
     )
@@ -73,7 +73,7 @@ returns-3 c =
     let s = start (left .before) in
     let rule = s .args .rule .now in
     let read = readAttribute (graphOf (s .args .graph .now)) (s .args .images .now) in
-    read-gives rule (s .args .k) (s .pre .1 .1 .1 .1 .0) read (left .node-byte .result) (right .node-byte2 .result)
+    read-gives rule (s .args .k) (s .pre .1 .inside) read (left .node-byte .result) (right .node-byte2 .result)
     (valueOf (c .read-attribute .result)) (left .node-byte .ensures .0) (right .node-byte2 .ensures .0) (c .read-attribute .ensures)
     (is-access (left .before))
 

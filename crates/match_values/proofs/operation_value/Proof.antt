@@ -7,22 +7,8 @@ use Rattle.match_values.proofs.operation_value.Tie as tie
 
 node-value-requires : tie.Need-node-value-requires
 node-value-requires c κs =
-    let s = c .before .before .before .before in (
-      s .pre .0,
-      (
-        s .pre .1 .0,
-        (
-          s .pre .1 .1 .0,
-          (
-            s .pre .1 .1 .1 .0,
-            (
-              s .pre .1 .1 .1 .1,
-              memo-none (s .args .graph .now) (s .args .rule .now) (s .args .images .now),
-            ),
-          ),
-        ),
-      ),
-    )
+    let s = c .before .before .before .before in
+    (s .pre .0, (s .pre .1, memo-none (s .args .graph .now) (s .args .rule .now) (s .args .images .now)))
 
 returns : tie.Need-returns
 returns c = search needs

@@ -35,8 +35,10 @@ attributes-agree-requires c κs =
     let s = c .before .before .before .before .before .before in
     let m = s .pre .1 .0 in
     let fit = candidate-attributes (graphOf (s .args .graph .now)) (ruleOf (s .args .rule .now)) (well s) (s .args .j) (s .args .v)
-    (inside s) (s .pre .1 .1 .1 .1 .0) in
-    (s .pre .0, (m .readable, (m .evaluable, (s .pre .1 .1 .1 .1 .1 .0 .size, (s .pre .1 .1 .0, (s .pre .1 .1 .1 .0, fit))))))
+    (inside s) (s .pre .1 .1 .1 .1 .0) in (
+      record { table = s .pre .0; patterns = m .readable; evaluable = m .evaluable; imageSize = s .pre .1 .1 .1 .1 .1 .0 .size },
+      record { vertex = s .pre .1 .1 .0; slot = s .pre .1 .1 .1 .0; enough = fit },
+    )
 
 returns-2 : tie.Need-returns-2
 returns-2 c =

@@ -32,8 +32,10 @@ target-inputs-requires c κs =
 vertex-words-requires : tie.Need-vertex-words-requires
 vertex-words-requires c κs =
     let s = c .before .before .before .before .before .before .before in
-    let p = s .pre .0 in
-    (p .oldTable, (p .patterns, (p .evaluable, (search (needs, p .imageSize, p .placeSize), omega (arith, s .pre .1)))))
+    let p = s .pre .0 in (
+      record { table = p .oldTable; patterns = p .patterns; evaluable = p .evaluable; imageSize = search (needs, p .imageSize, p .placeSize) },
+      omega (arith, s .pre .1),
+    )
 
 cast-t13 : tie.Need-cast-t13
 cast-t13 c = search needs

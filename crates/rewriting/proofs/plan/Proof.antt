@@ -40,13 +40,13 @@ module _ (s : tie.Start) where
 
 all-fit-requires : tie.Need-all-fit-requires
 all-fit-requires c κs =
-    let s = c .before .before .before in (
-      graph-readable (graph s) (s .pre .0),
-      (
-        rule-readable (rule s) (s .pre .1 .0),
-        (rule-matchable (rule s) (s .pre .1 .0) .evaluable, s .pre .1 .1 .0 .size),
-      ),
-    )
+    let s = c .before .before .before in
+    record {
+      table = graph-readable (graph s) (s .pre .0);
+      patterns = rule-readable (rule s) (s .pre .1 .0);
+      evaluable = rule-matchable (rule s) (s .pre .1 .0) .evaluable;
+      imageSize = s .pre .1 .1 .0 .size;
+    }
 
 refuse-requires : tie.Need-refuse-requires
 refuse-requires c κs = search needs

@@ -56,7 +56,7 @@ tested c =
     (c .vertex-words .result .words) (c .vertex-words .ensures)
 
 target-count-requires : tie.Need-target-count-requires Inv-loop μ-loop
-target-count-requires c κs = let s = c .before .before in omega (arith, s .pre .1 .0 .whole .size)
+target-count-requires c κs = let s = c .before .before in omega (arith, s .pre .patterns .whole .size)
 
 loop-holds : tie.Need-loop-holds Inv-loop μ-loop
 unfolding allBelow
@@ -64,19 +64,7 @@ loop-holds c = (omega arith, refl)
 
 vertex-words-requires : tie.Need-vertex-words-requires Inv-loop μ-loop
 vertex-words-requires c κs =
-    let s = start (c .before) in (
-      s .pre .0,
-      (
-        s .pre .1 .0,
-        (
-          s .pre .1 .1 .0,
-          (
-            s .pre .1 .1 .1,
-            omega (arith, c .loop-test .taken, c .before .before .target-count .ensures .0),
-          ),
-        ),
-      ),
-    )
+    (start (c .before) .pre, omega (arith, c .loop-test .taken, c .before .before .target-count .ensures .0))
 
 returns : tie.Need-returns Inv-loop μ-loop
 returns c =

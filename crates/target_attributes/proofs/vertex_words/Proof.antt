@@ -55,10 +55,10 @@ tested c =
     (a .before .before .target-kind .ensures .0) (c .before .target-value .ensures .0) (c .is-fit .ensures)
 
 target-kind-requires : tie.Need-target-kind-requires Inv-loop μ-loop
-target-kind-requires c κs = let s = c .before .before in (s .pre .1 .0 .whole, s .pre .1 .1 .1 .1)
+target-kind-requires c κs = let s = c .before .before in (s .pre .0 .patterns .whole, s .pre .1)
 
 target-attribute-count-requires : tie.Need-target-attribute-count-requires Inv-loop μ-loop
-target-attribute-count-requires c κs = let s = c .before .before .before in (s .pre .1 .0, s .pre .1 .1 .1 .1)
+target-attribute-count-requires c κs = let s = c .before .before .before in (s .pre .0 .patterns, s .pre .1)
 
 loop-holds : tie.Need-loop-holds Inv-loop μ-loop
 unfolding allBelow padded
@@ -67,7 +67,7 @@ loop-holds c = (omega arith, refl, refl)
 target-value-requires : tie.Need-target-value-requires Inv-loop μ-loop
 target-value-requires c κs =
     let s = start (c .before) in
-    (s .pre .0, (s .pre .1 .0, (s .pre .1 .1 .0, (s .pre .1 .1 .1 .0, (s .pre .1 .1 .1 .1, left c)))))
+    (s .pre .0, record { vertex = s .pre .1; place = omega (arith, left c) })
 
 is-fit-requires : tie.Need-is-fit-requires Inv-loop μ-loop
 is-fit-requires c κs = search needs
