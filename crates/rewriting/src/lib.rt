@@ -18,6 +18,7 @@ use reply::NO_ROOM;
 use reply::refuse;
 use rule_fields::target_count;
 use search::least_match;
+use target_attributes::Fitness;
 use target_attributes::all_fit;
 use vacancies::find_free;
 use vacancies::lowest_free;
@@ -41,7 +42,7 @@ fn plan(graph: &[u8], rule: &[u8], images: &[u16; SIDE_CAPACITY], table: &mut [u
     ensures { λ r. ⌜ Planned (operation.rewritten (graphOf (now (graph .entry))) (ruleOf (now (rule .entry)))
         (take (sourceCount (now (rule .entry))) (now (images .entry)))) r (now (table .exit)) ⌝ }
 {
-    if !all_fit(graph, rule, images) {
+    if let Fitness::Unfit(_) = all_fit(graph, rule, images) {
         return refuse(NO_RESULT);
     }
     let free = find_free(graph, rule, images);

@@ -71,8 +71,7 @@ returns c =
           ∙ sym (length-map (targetOf (ruleOf rule) t .inputs) (resolve (graphOf graph) (ruleOf rule) images));
       attributeCount = d .target-attribute-count .ensures .0 ∙ word-count graph rule images t (p .known) (s .pre .1);
       inputs = target-places graph rule images (s .args .places .now) t p (s .pre .1) (e .target-inputs .ensures);
-      attributes = words-same graph rule images t (p .known) (s .pre .1) (f .vertex-words .result .ok) (f .vertex-words .result .words)
-          (f .vertex-words .ensures);
+      attributes = words-same graph rule images t (p .known) (s .pre .1) _ _ (f .vertex-words .ensures .given);
     }
 
 pub target-record-spec : {M : Type 1} → statement M

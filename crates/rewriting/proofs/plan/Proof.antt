@@ -6,7 +6,6 @@ use mathlib.Core.Bool.{true}
 use mathlib.Core.List.{List}
 use Prim.Native.Nat.{ℕ, _≤_}
 use native.Mathlib.Omega.{arith}
-use borrow.Author.Tests.{not-true, not-false}
 use Rattle.definitions.specs.declared.Reply.the-variants.{Done}
 use Rattle.definitions.specs.Reply.{noResult, noRoom, newCycle, refusal}
 use Rattle.definitions.specs.Graph.{Graph, graphOf, hasCycle}
@@ -19,6 +18,7 @@ use Rattle.encoding.specs.Tables.{Table}
 use Rattle.encoding.proofs.Blocks.{block-readable, block-closed, block-cycle}
 use Rattle.graph_fields.specs.Layout.{ReadableGraph, Closed}
 use Rattle.target_attributes.specs.Words.{isGiven}
+use Rattle.target_attributes.proofs.Laws.{unfit-lacks, fit-found}
 use Rattle.vacancies.specs.Vacant.{marked, Lowest}
 use Rattle.vacancies.proofs.Laws.{marked-free}
 use Rattle.new_table.specs.Slots.{fitResults, newTable}
@@ -48,6 +48,9 @@ all-fit-requires c κs =
       imageSize = s .pre .1 .1 .0 .size;
     }
 
+enum-told : tie.Need-enum-told
+enum-told c = search needs
+
 refuse-requires : tie.Need-refuse-requires
 refuse-requires c κs = search needs
 
@@ -55,15 +58,18 @@ returns : tie.Need-returns
 unfolding fitResults
 returns c =
     let t = c .before in
-    let a = t .before in
+    let a = t .before .before in
     let s = a .before .before .before .before in
     planned-refused _ _ _ (refusal noResult) (c .refuse .ensures)
     (unfit (graph s) (rule s) (images s) (s .pre .0) (s .pre .1 .0) (s .pre .1 .1 .0)
-    (sym (a .all-fit .ensures) ∙ not-true _ (t .if1 .taken)))
+    (unfit-lacks _ _ (a .all-fit .ensures) (t .enum-told .given .1)))
+
+enum-told-2 : tie.Need-enum-told-2
+enum-told-2 c = search needs
 
 find-free-requires : tie.Need-find-free-requires
 find-free-requires c κs =
-    let s = c .before .before .before .before .before in (
+    let s = c .before .before .before .before .before .before in (
       graph-readable (graph s) (s .pre .0) .whole,
       (
         rule-readable (rule s) (s .pre .1 .0) .whole,
@@ -76,31 +82,31 @@ find-free-requires c κs =
 
 slot-count-requires : tie.Need-slot-count-requires
 slot-count-requires c κs =
-    let s = c .before .before .before .before .before .before .before in
+    let s = c .before .before .before .before .before .before .before .before in
     omega (arith, graph-readable (graph s) (s .pre .0) .whole .size)
 
 lowest-free-requires : tie.Need-lowest-free-requires
 lowest-free-requires c κs =
-    let s = c .before .before .before .before .before .before .before .before in (
+    let s = c .before .before .before .before .before .before .before .before .before in (
       c .before .before .find-free .ensures .size,
       omega (arith, c .slot-count .ensures .0, graph-readable (graph s) (s .pre .0) .whole .slots),
     )
 
 target-count-requires : tie.Need-target-count-requires
 target-count-requires c κs =
-    let s = c .before .before .before .before .before .before .before .before .before in
+    let s = c .before .before .before .before .before .before .before .before .before .before in
     omega (arith, rule-readable (rule s) (s .pre .1 .0) .whole .size)
 
 -- past reply 5, with the free slots listed
 module _ (c : tie.After-lowest-free) where
   abbrev begun : tie.Start
-  begun = c .before .before .before .before .before .before .before .before .before
+  begun = c .before .before .before .before .before .before .before .before .before .before
 
   fit : isGiven (fitResults (graph begun) (rule begun) (images begun)) ≡ true
   unfolding fitResults
   fit =
       let passed = c .before .before .before .before in
-      sym (passed .before .all-fit .ensures) ∙ not-false _ (passed .if1 .left)
+      fit-found _ _ (passed .before .before .all-fit .ensures) (passed .enum-told2 .given .1)
 
   places : Lowest (freeSlots (graphOf (graph begun)) (ruleOf (rule begun)) (images begun)) (c .lowest-free .result .count)
       (c .lowest-free .result .slots)
@@ -124,7 +130,7 @@ returns-2 c =
     planned-refused _ _ _ (refusal noRoom) (c .refuse2 .ensures)
     (full (graph s) (rule s) (images s) (s .pre .0) (s .pre .1 .0) (s .pre .1 .1 .0) (fit l)
     (l .lowest-free .result .count) (l .lowest-free .result .slots) (places l)
-    (omega (arith, t .target-count .ensures .0, c .before .if2 .taken)))
+    (omega (arith, t .target-count .ensures .0, c .before .if1 .taken)))
 
 write-table-requires : tie.Need-write-table-requires
 write-table-requires c κs =
@@ -150,7 +156,7 @@ module _ (c : tie.After-write-table) where
   new = newTable (graph started) (rule started) (images started)
 
   enough : targetCount (rule started) ≤ listed .lowest-free .result .count
-  enough = let e = c .before .before .before .before .before in omega (arith, e .before .before .target-count .ensures .0, e .if2 .left)
+  enough = let e = c .before .before .before .before .before in omega (arith, e .before .before .target-count .ensures .0, e .if1 .left)
 
   table : Table new
   table = new-table-of (graph started) (rule started) (images started) (started .pre .0) (started .pre .1 .0) (started .pre .1 .1 .0)
@@ -183,7 +189,7 @@ returns-3 c =
     let s = begun l in
     planned-refused _ _ _ (refusal newCycle) (c .refuse3 .ensures)
     (cyclic (graph s) (rule s) (images s) (s .pre .0) (s .pre .1 .0) (s .pre .1 .1 .0) (fit l)
-    (l .lowest-free .result .count) (l .lowest-free .result .slots) (places l) (enough w) (sym (judged h) ∙ t .if3 .taken))
+    (l .lowest-free .result .count) (l .lowest-free .result .slots) (places l) (enough w) (sym (judged h) ∙ t .if2 .taken))
 
 same-length-2 : tie.Need-same-length-2
 same-length-2 c = search needs
@@ -196,7 +202,7 @@ returns-4 c =
     let s = begun l in
     planned-done _ Done _ (new w) (table w) refl
     (done (graph s) (rule s) (images s) (s .pre .0) (s .pre .1 .0) (s .pre .1 .1 .0) (fit l)
-    (l .lowest-free .result .count) (l .lowest-free .result .slots) (places l) (enough w) (sym (judged h) ∙ c .if3 .left))
+    (l .lowest-free .result .count) (l .lowest-free .result .slots) (places l) (enough w) (sym (judged h) ∙ c .if2 .left))
     (w .write-table .ensures)
 
 pub plan-spec : {M : Type 1} → statement M
@@ -204,8 +210,10 @@ plan-spec =
     tie.close
     (tie.spec
     all-fit-requires
+    enum-told
     refuse-requires
     returns
+    enum-told-2
     find-free-requires
     slot-count-requires
     lowest-free-requires
