@@ -1,5 +1,6 @@
 // What a node of an attribute expression gives for a map: a number of the old table or of the rule, or what an operation makes of its
 // operands' results.
+use arithmetic::combine;
 use definitions::FORM_ADD;
 use definitions::FORM_ANY;
 use definitions::FORM_CONSTANT;
@@ -10,7 +11,6 @@ use graph_fields::attribute_at;
 use graph_fields::attribute_count;
 use graph_fields::slot_count;
 use numbers::Value;
-use numbers::combine;
 use numbers::number;
 use rule_nodes::node_byte;
 use rule_nodes::node_form;

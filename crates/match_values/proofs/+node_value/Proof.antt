@@ -22,7 +22,7 @@ use Rattle.match_values.proofs.leaf_value.Reads as leaf-value-reads
 use Rattle.match_values.proofs.magnitude_of.Reads as magnitude-of-reads
 use Rattle.match_values.proofs.recalled.Reads as recalled-reads
 use Rattle.match_values.proofs.state_of.Reads as state-of-reads
-use Rattle.numbers.proofs.combine.Reads as combine-reads
+use Rattle.arithmetic.proofs.combine.Reads as combine-reads
 use Rattle.rule_nodes.proofs.node_byte.Reads as node-byte-reads
 use Rattle.rule_nodes.proofs.node_form.Reads as node-form-reads
 use Rattle.match_values.proofs.+node_value.{statement}

@@ -4,10 +4,11 @@ use native.Mathlib.Omega.{arith}
 use native.Mathlib.Numerals.{add-one}
 use Rattle.definitions.specs.Attributes.{operate}
 use Rattle.fields.specs.Integer.{integerOf}
-use Rattle.numbers.proofs.Laws.{minus-limit, cut-plus, cut-negated}
+use Rattle.numbers.proofs.Laws.{minus-limit}
+use Rattle.arithmetic.proofs.Laws.{cut-plus, cut-negated}
 use borrow.Author.Needs.{needs}
-use Rattle.numbers.proofs.multiply.Statement.{statement}
-use Rattle.numbers.proofs.multiply.Tie as tie
+use Rattle.arithmetic.proofs.multiply.Statement.{statement}
+use Rattle.arithmetic.proofs.multiply.Tie as tie
 
 enum-known-x : tie.Need-enum-known-x
 enum-known-x c = search needs

@@ -4,10 +4,10 @@ use native.Mathlib.Omega.{arith}
 use native.Mathlib.Numerals.{add-one}
 use Rattle.definitions.specs.Attributes.{operate}
 use Rattle.fields.specs.Integer.{integerOf}
 use Rattle.numbers.proofs.Laws.{plus-limit, minus-limit}
 use borrow.Author.Needs.{needs}
-use Rattle.numbers.proofs.add.Statement.{statement}
-use Rattle.numbers.proofs.add.Tie as tie
+use Rattle.arithmetic.proofs.add.Statement.{statement}
+use Rattle.arithmetic.proofs.add.Tie as tie
 
 enum-known-x : tie.Need-enum-known-x
 enum-known-x c = search needs

@@ -2,10 +2,10 @@
 -- Assumes nothing.
 use native.Mathlib.Omega.{arith}
 use Rattle.definitions.specs.Rule.{operations}
-use Rattle.numbers.proofs.Laws.{remains}
+use Rattle.arithmetic.proofs.Laws.{remains}
 use borrow.Author.Needs.{needs}
-use Rattle.numbers.proofs.operate.Statement.{statement}
-use Rattle.numbers.proofs.operate.Tie as tie
+use Rattle.arithmetic.proofs.operate.Statement.{statement}
+use Rattle.arithmetic.proofs.operate.Tie as tie
 
 add-requires : tie.Need-add-requires
 add-requires c κs = search needs

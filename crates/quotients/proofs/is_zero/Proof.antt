@@ -3,8 +3,8 @@
 use Rattle.definitions.specs.Attributes.{isZero}
 use Rattle.fields.specs.Integer.{integerOf}
 use borrow.Author.Needs.{needs}
-use Rattle.numbers.proofs.is_zero.Statement.{statement}
-use Rattle.numbers.proofs.is_zero.Tie as tie
+use Rattle.quotients.proofs.is_zero.Statement.{statement}
+use Rattle.quotients.proofs.is_zero.Tie as tie
 
 enum-known-y : tie.Need-enum-known-y
 enum-known-y c = search needs

@@ -3,11 +3,11 @@
 use mathlib.Core.Path.{sym}
 use native.Mathlib.Nat.{mul-zero, zero-min, min-eq-left}
 use native.Mathlib.Omega.{arith}
 use Rattle.numbers.specs.Value.{limit}
-use Rattle.numbers.proofs.Laws.{product-above, product-within}
+use Rattle.arithmetic.proofs.Laws.{product-above, product-within}
 use borrow.Author.Needs.{needs}
-use Rattle.numbers.proofs.bounded_product.Statement.{statement}
-use Rattle.numbers.proofs.bounded_product.Tie as tie
+use Rattle.arithmetic.proofs.bounded_product.Statement.{statement}
+use Rattle.arithmetic.proofs.bounded_product.Tie as tie
 
 returns : tie.Need-returns
 returns c = rw (c .if1 .taken, mul-zero, zero-min)

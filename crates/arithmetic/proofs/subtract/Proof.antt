@@ -5,10 +5,11 @@ use native.Mathlib.Omega.{arith}
 use native.Mathlib.Numerals.{add-one}
 use Rattle.definitions.specs.Attributes.{operate}
 use Rattle.fields.specs.Integer.{integerOf}
-use Rattle.numbers.proofs.Laws.{plus-limit, minus-limit, plus-minus-plus, minus-minus-plus}
+use Rattle.numbers.proofs.Laws.{plus-limit, minus-limit}
+use Rattle.arithmetic.proofs.Laws.{plus-minus-plus, minus-minus-plus}
 use borrow.Author.Needs.{needs}
-use Rattle.numbers.proofs.subtract.Statement.{statement}
-use Rattle.numbers.proofs.subtract.Tie as tie
+use Rattle.arithmetic.proofs.subtract.Statement.{statement}
+use Rattle.arithmetic.proofs.subtract.Tie as tie
 
 enum-known-x : tie.Need-enum-known-x
 enum-known-x c = search needs
