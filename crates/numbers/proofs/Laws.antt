@@ -31,9 +31,9 @@ minus-limit {n = n} t e = ltb-true n limit (rw e at t)
 
 -- ---- negation and differences
 
-pub negated : (n : ℕ) → (n ≡ 0 → ⊥) → negℤ (pos n) ≡ negsuc (n - 1)
-negated zero h = absurd (h refl)
-negated (suc n) h = ap negsuc (omega arith)
+pub negated-suc : (n : ℕ) → (n ≡ 0 → ⊥) → negℤ (pos n) ≡ negsuc (n - 1)
+negated-suc zero h = absurd (h refl)
+negated-suc (suc n) h = ap negsuc (omega arith)
 
 pub less : (a b : ℕ) → a < b → subℕ a b ≡ negsuc (b - a - 1)
 less a b h =

@@ -50,14 +50,32 @@ pub fn fit_minus(n: u64) -> Value
     Value::Minus(n)
 }
 
+// The number as a result, if it is in range.
+pub fn fit_number(x: Integer) -> Value
+    ensures { λ r. ⌜ valueOf r ≡ fit (integerOf x) ⌝ }
+{
+    match x {
+        Integer::Plus(n) => fit_plus(n),
+        Integer::Minus(n) => fit_minus(n),
+    }
+}
+
+// The number -n.
+pub fn negated(n: u64) -> Integer
+    ensures { λ r. ⌜ integerOf r ≡ negℤ (pos n) ⌝ }
+{
+    if n == 0 {
+        return Integer::Plus(0);
+    }
+    let less = n - 1;
+    Integer::Minus(less)
+}
+
 // The result -n.
 pub fn fit_negated(n: u64) -> Value
     ensures { λ r. ⌜ valueOf r ≡ fit (negℤ (pos n)) ⌝ }
 {
-    if n == 0 {
-        return fit_plus(0);
-    }
-    fit_minus(n - 1)
+    fit_number(negated(n))
 }
 
 // The result a - b.

@@ -1,31 +1,11 @@
--- By the signs; what is left has the sign of the divisor.
+-- Nothing by zero; else what the quotient leaves, if it is in range.
 -- Assumes nothing.
-use mathlib.Core.Path.{_≡_, sym, _∙_}
-use mathlib.Core.Bool.{false}
-use Prim.Native.Nat.{_+_}
-use native.Mathlib.Nat.{mod-lt}
-use borrow.Author.Tests.{ne-eqb}
-use native.Mathlib.Omega.{arith}
-use native.Mathlib.Numerals.{add-one}
-use Rattle.definitions.specs.Attributes.{operate, isZero}
-use Rattle.fields.specs.Integer.{integerOf}
-use Rattle.numbers.specs.Value.{valueOf}
-use Rattle.numbers.proofs.Laws.{plus-limit, minus-limit}
-use Rattle.quotients.proofs.Laws.{divisor, rest-plus-plus, rest-minus-plus, rest-plus-minus, rest-minus-minus}
+use mathlib.Core.Path.{sym, ap, _∙_}
 use borrow.Author.Needs.{needs}
+use Rattle.definitions.specs.Attributes.{fit, operate}
+use Rattle.numbers.specs.Value.{valueOf}
 use Rattle.quotients.proofs.remainder.Statement.{statement}
 use Rattle.quotients.proofs.remainder.Tie as tie
-
--- once the test has passed
-passed : (c : tie.Else1) → isZero (integerOf (c .before .before .args .y)) ≡ false
-passed c = sym (c .before .is-zero .ensures) ∙ c .if1 .left
-
--- a positive divisor is then not zero
-by-y : (c : tie.After-y) → c .y .given .0 .0 ≡ 0 → ⊥
-by-y c = divisor (passed (c .before .before .before .before .before)) (c .y .given .1)
-
-by-y3 : (c : tie.After-y3) → c .y3 .given .0 .0 ≡ 0 → ⊥
-by-y3 c = divisor (passed (c .before .before .before .before .before)) (c .y3 .given .1)
 
 is-zero-requires : tie.Need-is-zero-requires
 is-zero-requires c κs = search needs
@@ -34,149 +14,17 @@ returns : tie.Need-returns
 unfolding operate valueOf
 returns c = rw (sym (c .before .is-zero .ensures) ∙ c .if1 .taken)
 
-enum-known-x : tie.Need-enum-known-x
-enum-known-x c = search needs
+divided-requires : tie.Need-divided-requires
+divided-requires c κs = search (needs, sym (c .before .is-zero .ensures) ∙ c .if1 .left)
 
-enum-known-y : tie.Need-enum-known-y
-enum-known-y c = search needs
-
-rem-fit-plus : tie.Need-rem-fit-plus
-rem-fit-plus c = omega (arith, by-y (c .before))
-
-fit-plus-requires : tie.Need-fit-plus-requires
-fit-plus-requires c κs = search needs
-
-enum-known-y-2 : tie.Need-enum-known-y-2
-enum-known-y-2 c = search needs
-
-add-fit-negated : tie.Need-add-fit-negated
-add-fit-negated c =
-    let y = c .before in
-    let x = y .before .before .before in
-    let start = x .before .before .before .before in
-    omega (arith, plus-limit (start .pre .0) (x .x .given .1), minus-limit (start .pre .1) (y .y2 .given .1))
-
-add-fit-negated-2 : tie.Need-add-fit-negated-2
-add-fit-negated-2 c =
-    let y = c .before in
-    let x = y .before .before .before in
-    let start = x .before .before .before .before in
-    omega (arith, minus-limit (start .pre .1) (y .y2 .given .1))
-
-rem-fit-negated : tie.Need-rem-fit-negated
-rem-fit-negated c = search needs
-
-sub-fit-negated : tie.Need-sub-fit-negated
-sub-fit-negated c =
-    let y = c .before in
-    let x = y .before .before .before in
-    let b = y .y2 .given .0 .0 in
-    omega (arith, mod-lt (x .x .given .0 .0 + b) {m = b + 1} (omega arith))
-
-fit-negated-requires : tie.Need-fit-negated-requires
-fit-negated-requires c κs = search needs
-
-enum-known-x-2 : tie.Need-enum-known-x-2
-enum-known-x-2 c = search needs
-
-enum-known-y-3 : tie.Need-enum-known-y-3
-enum-known-y-3 c = search needs
-
-sub-fit-difference : tie.Need-sub-fit-difference
-sub-fit-difference c = omega (arith, by-y3 (c .before))
-
-add-fit-difference : tie.Need-add-fit-difference
-add-fit-difference c =
-    let y = c .before in
-    let x = y .before .before .before in
-    let start = x .before .before .before .before in
-    omega (arith, minus-limit (start .pre .0) (x .x2 .given .1), plus-limit (start .pre .1) (y .y3 .given .1))
-
-rem-fit-difference : tie.Need-rem-fit-difference
-rem-fit-difference c = omega (arith, by-y3 (c .before))
-
-fit-difference-requires : tie.Need-fit-difference-requires
-fit-difference-requires c κs = search needs
-
-enum-known-y-4 : tie.Need-enum-known-y-4
-enum-known-y-4 c = search needs
-
-add-fit-negated-3 : tie.Need-add-fit-negated-3
-add-fit-negated-3 c =
-    let y = c .before in
-    let x = y .before .before .before in
-    let start = x .before .before .before .before in
-    omega (arith, minus-limit (start .pre .0) (x .x2 .given .1))
-
-add-fit-negated-4 : tie.Need-add-fit-negated-4
-add-fit-negated-4 c =
-    let y = c .before in
-    let x = y .before .before .before in
-    let start = x .before .before .before .before in
-    omega (arith, minus-limit (start .pre .1) (y .y4 .given .1))
-
-rem-fit-negated-2 : tie.Need-rem-fit-negated-2
-rem-fit-negated-2 c = search needs
-
-fit-negated-requires-2 : tie.Need-fit-negated-requires-2
-fit-negated-requires-2 c κs = search needs
+fit-number-requires : tie.Need-fit-number-requires
+fit-number-requires c κs = search needs
 
 returns-2 : tie.Need-returns-2
-unfolding operate isZero integerOf
+unfolding operate
 returns-2 c =
-    let y = c .before .before in
-    let x = y .before .before .before in
-    rw (x .x .given .1, y .y .given .1, ne-eqb _ 0 (by-y y), rest-plus-plus _ _ (by-y y)) (c .fit-plus .ensures)
-
-returns-3 : tie.Need-returns-3
-unfolding operate isZero integerOf
-returns-3 c =
-    let y = c .before .before in
-    let x = y .before .before .before in
-    rw (x .x .given .1, y .y2 .given .1, rest-plus-minus) (rw add-one at (c .fit-negated .ensures))
-
-returns-4 : tie.Need-returns-4
-unfolding operate isZero integerOf
-returns-4 c =
-    let y = c .before .before in
-    let x = y .before .before .before in
-    rw (x .x2 .given .1, y .y3 .given .1, ne-eqb _ 0 (by-y3 y), rest-minus-plus _ _ (by-y3 y)) (c .fit-difference .ensures)
-
-returns-5 : tie.Need-returns-5
-unfolding operate isZero integerOf
-returns-5 c =
-    let y = c .before .before in
-    let x = y .before .before .before in
-    rw (x .x2 .given .1, y .y4 .given .1, rest-minus-minus) (simp add-one at (c .fit-negated2 .ensures))
+    let passed = c .before .before in
+    rw (sym (passed .before .is-zero .ensures) ∙ passed .if1 .left) (c .fit-number .ensures ∙ ap fit (c .before .divided .ensures .left))
 
 pub remainder-spec : {M : Type 1} → statement M
-remainder-spec =
-    tie.close
-    (tie.spec
-    is-zero-requires
-    returns
-    enum-known-x
-    enum-known-y
-    rem-fit-plus
-    fit-plus-requires
-    enum-known-y-2
-    add-fit-negated
-    add-fit-negated-2
-    rem-fit-negated
-    sub-fit-negated
-    fit-negated-requires
-    enum-known-x-2
-    enum-known-y-3
-    sub-fit-difference
-    add-fit-difference
-    rem-fit-difference
-    fit-difference-requires
-    enum-known-y-4
-    add-fit-negated-3
-    add-fit-negated-4
-    rem-fit-negated-2
-    fit-negated-requires-2
-    returns-2
-    returns-3
-    returns-4
-    returns-5)
+remainder-spec = tie.close (tie.spec is-zero-requires returns divided-requires fit-number-requires returns-2)
