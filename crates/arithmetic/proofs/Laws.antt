@@ -1,4 +1,4 @@
--- What sums, differences and products give, case by case of the signs, and the operation of a form.
+-- How large the numbers of a sum and a product are, and the operation of a form.
 -- Assumes nothing.
 use mathlib.Core.Path.{_≡_, refl, sym, ap, _∙_}
 use mathlib.Core.Bool.{true, false}
@@ -7,25 +7,40 @@ use mathlib.Core.Option.{Option, none}
 use Prim.Native.Nat.{ℕ, zero, suc, _+_, _-_, _*_, _/_, _<_, _≤_, min}
 use native.Mathlib.Nat.{min-eq-left, min-eq-right, div-lt-iff-lt-mul, le-div-iff-mul-le}
 use native.Mathlib.Omega.{arith}
-use borrow.Author.Tests.{le-ltb, leb-true, leb-false}
+use borrow.Author.Tests.{ltb-true, le-ltb, leb-true, leb-false}
 use lib.Dec.{leb}
-use lib.IntN.{ℤ, pos, negsuc, negℤ, subℕ, _-ℤ_}
+use lib.IntN.{ℤ, pos, negsuc, negℤ}
 use lib.ListN.{getD}
 use Rattle.definitions.specs.Rule.{operations, remainder}
 use Rattle.definitions.specs.Attributes.{inRange, fit}
 use Rattle.laws.proofs.Lists.{decided}
 use Rattle.numbers.specs.Value.{limit, operationOf}
-use Rattle.numbers.proofs.Laws.{less, not-less}
+use Rattle.fields.specs.declared.Integer.{Integer}
+use Rattle.fields.specs.declared.Integer.the-variants.{Plus, Minus}
+use Rattle.fields.specs.Integer.{integerOf}
+use Rattle.arithmetic.specs.Size.{size}
 
--- ---- differences
+-- ---- sizes
 
-pub plus-minus-plus : (a b : ℕ) → pos a -ℤ pos b ≡ subℕ a b
-plus-minus-plus a zero = ap pos (omega arith) ∙ sym (not-less a 0 (omega arith))
-plus-minus-plus a (suc b) = refl
+pub small : (z : ℤ) → inRange z ≡ true → size z ≤ limit
+unfolding inRange size
+small (pos n) t = omega (arith, ltb-true n limit t)
+small (negsuc n) t = omega (arith, ltb-true n limit t)
 
-pub minus-minus-plus : (a b : ℕ) → negsuc a -ℤ pos b ≡ negsuc (a + b)
-minus-minus-plus a zero = less 0 (suc a) (omega arith) ∙ ap negsuc (omega arith)
-minus-minus-plus a (suc b) = ap negsuc (omega arith)
+-- the opposite of a number in range is at most one past it
+pub opposed : (z : ℤ) → inRange z ≡ true → size (negℤ z) ≤ limit
+unfolding inRange size
+opposed (pos zero) t = omega arith
+opposed (pos (suc n)) t = omega (arith, ltb-true (suc n) limit t)
+opposed (negsuc n) t = omega (arith, ltb-true n limit t)
+
+pub plus-size : {x : Integer} {n : ℕ} → size (integerOf x) ≤ limit → x ≡ Plus n → n ≤ limit
+unfolding size integerOf
+plus-size h e = rw e at h
+
+pub minus-size : {x : Integer} {n : ℕ} → size (integerOf x) ≤ limit → x ≡ Minus n → n ≤ limit
+unfolding size integerOf
+minus-size h e = rw e at h
 
 -- ---- products that are no larger than they need to be
 

@@ -11,24 +11,42 @@ use numbers::fit_difference;
 use numbers::fit_minus;
 use numbers::fit_negated;
 use numbers::fit_plus;
+use numbers::negated;
 use quotients::divide;
 use quotients::remainder;
 ghost use mathlib.Core.Path.{_≡_};
 ghost use mathlib.Core.Bool.{true};
 ghost use mathlib.Core.Option.{some};
 ghost use Prim.Native.Nat.{_+_, _*_, _≤_, min};
+ghost use lib.IntN.{negℤ, _+ℤ_};
 ghost use Rattle.definitions.specs.Rule as rules;
 ghost use Rattle.definitions.specs.Attributes as results;
-ghost use Rattle.definitions.specs.Attributes.{inRange};
+ghost use Rattle.definitions.specs.Attributes.{inRange, fit};
 ghost use Rattle.fields.specs.Integer.{integerOf};
 ghost use Rattle.numbers.specs.Value.{valueOf, limit, bounded, operationOf};
+ghost use Rattle.arithmetic.specs.Size.{size};
 
 // ---- sums, differences and products
 
-fn add(x: Integer, y: Integer) -> Value
-    requires { ⌜ inRange (integerOf x) ≡ true ⌝ }
+// The number -y.
+fn opposite(y: Integer) -> Integer
     requires { ⌜ inRange (integerOf y) ≡ true ⌝ }
-    ensures { λ r. ⌜ valueOf r ≡ results.operate rules.add (integerOf x) (integerOf y) ⌝ }
+    ensures { λ r. ⌜ integerOf r ≡ negℤ (integerOf y) ⌝ }
+{
+    match y {
+        Integer::Plus(n) => negated(n),
+        Integer::Minus(n) => {
+            let size = n + 1;
+            Integer::Plus(size)
+        }
+    }
+}
+
+// The sum, also where a number is the opposite of one in range, and so one past it.
+fn sum(x: Integer, y: Integer) -> Value
+    requires { ⌜ size (integerOf x) ≤ limit ⌝ }
+    requires { ⌜ size (integerOf y) ≤ limit ⌝ }
+    ensures { λ r. ⌜ valueOf r ≡ fit (integerOf x +ℤ integerOf y) ⌝ }
 {
     match x {
         Integer::Plus(a) => match y {
@@ -42,21 +60,20 @@ fn add(x: Integer, y: Integer) -> Value
     }
 }
 
+fn add(x: Integer, y: Integer) -> Value
+    requires { ⌜ inRange (integerOf x) ≡ true ⌝ }
+    requires { ⌜ inRange (integerOf y) ≡ true ⌝ }
+    ensures { λ r. ⌜ valueOf r ≡ results.operate rules.add (integerOf x) (integerOf y) ⌝ }
+{
+    sum(x, y)
+}
+
 fn subtract(x: Integer, y: Integer) -> Value
     requires { ⌜ inRange (integerOf x) ≡ true ⌝ }
     requires { ⌜ inRange (integerOf y) ≡ true ⌝ }
     ensures { λ r. ⌜ valueOf r ≡ results.operate rules.subtract (integerOf x) (integerOf y) ⌝ }
 {
-    match x {
-        Integer::Plus(a) => match y {
-            Integer::Plus(b) => fit_difference(a, b),
-            Integer::Minus(b) => fit_plus(a + b + 1),
-        },
-        Integer::Minus(a) => match y {
-            Integer::Plus(b) => fit_minus(a + b),
-            Integer::Minus(b) => fit_difference(b + 1, a + 1),
-        },
-    }
+    sum(x, opposite(y))
 }
 
 // The product of two magnitudes, or LIMIT + 1 where it is above LIMIT: then no sign brings it into range. The division shows

@@ -1,129 +1,24 @@
--- By the signs: a sum of magnitudes or their difference.
+-- A difference is the sum with the opposite.
 -- Assumes nothing.
-use native.Mathlib.Nat.{add-suc}
-use native.Mathlib.Omega.{arith}
-use native.Mathlib.Numerals.{add-one}
-use Rattle.definitions.specs.Attributes.{operate}
+use mathlib.Core.Path.{ap, _∙_}
+use lib.IntN.{ℤ, _+ℤ_}
+use Rattle.definitions.specs.Attributes.{fit, operate}
 use Rattle.fields.specs.Integer.{integerOf}
-use Rattle.numbers.proofs.Laws.{plus-limit, minus-limit}
-use Rattle.arithmetic.proofs.Laws.{plus-minus-plus, minus-minus-plus}
-use borrow.Author.Needs.{needs}
+use Rattle.arithmetic.proofs.Laws.{small, opposed}
 use Rattle.arithmetic.proofs.subtract.Statement.{statement}
 use Rattle.arithmetic.proofs.subtract.Tie as tie
 
-enum-known-x : tie.Need-enum-known-x
-enum-known-x c = search needs
+opposite-requires : tie.Need-opposite-requires
+opposite-requires c κs = c .pre .1
 
-enum-known-y : tie.Need-enum-known-y
-enum-known-y c = search needs
-
-fit-difference-requires : tie.Need-fit-difference-requires
-fit-difference-requires c κs = search needs
-
-enum-known-y-2 : tie.Need-enum-known-y-2
-enum-known-y-2 c = search needs
-
-add-fit-plus : tie.Need-add-fit-plus
-add-fit-plus c =
-    let y = c .before in
-    let x = y .before .before .before in
-    let start = x .before .before in
-    omega (arith, plus-limit (start .pre .0) (x .x .given .1), minus-limit (start .pre .1) (y .y2 .given .1))
-
-add-fit-plus-2 : tie.Need-add-fit-plus-2
-add-fit-plus-2 c =
-    let y = c .before in
-    let x = y .before .before .before in
-    let start = x .before .before in
-    omega (arith, plus-limit (start .pre .0) (x .x .given .1), minus-limit (start .pre .1) (y .y2 .given .1))
-
-fit-plus-requires : tie.Need-fit-plus-requires
-fit-plus-requires c κs = search needs
-
-enum-known-x-2 : tie.Need-enum-known-x-2
-enum-known-x-2 c = search needs
-
-enum-known-y-3 : tie.Need-enum-known-y-3
-enum-known-y-3 c = search needs
-
-add-fit-minus : tie.Need-add-fit-minus
-add-fit-minus c =
-    let y = c .before in
-    let x = y .before .before .before in
-    let start = x .before .before in
-    omega (arith, minus-limit (start .pre .0) (x .x2 .given .1), plus-limit (start .pre .1) (y .y3 .given .1))
-
-fit-minus-requires : tie.Need-fit-minus-requires
-fit-minus-requires c κs = search needs
-
-enum-known-y-4 : tie.Need-enum-known-y-4
-enum-known-y-4 c = search needs
-
-add-fit-difference : tie.Need-add-fit-difference
-add-fit-difference c =
-    let y = c .before in
-    let x = y .before .before .before in
-    let start = x .before .before in
-    omega (arith, minus-limit (start .pre .1) (y .y4 .given .1))
-
-add-fit-difference-2 : tie.Need-add-fit-difference-2
-add-fit-difference-2 c =
-    let y = c .before in
-    let x = y .before .before .before in
-    let start = x .before .before in
-    omega (arith, minus-limit (start .pre .0) (x .x2 .given .1))
-
-fit-difference-requires-2 : tie.Need-fit-difference-requires-2
-fit-difference-requires-2 c κs = search needs
+sum-requires : tie.Need-sum-requires
+sum-requires c κs = (small _ (c .before .pre .0), rw (c .opposite .ensures) (opposed _ (c .before .pre .1)))
 
 returns : tie.Need-returns
-unfolding operate integerOf
+unfolding operate
 returns c =
-    let y = c .before .before in
-    let x = y .before .before .before in
-    rw (x .x .given .1, y .y .given .1, plus-minus-plus (x .x .given .0 .0) (y .y .given .0 .0)) (c .fit-difference .ensures)
-
-returns-2 : tie.Need-returns-2
-unfolding operate integerOf
-returns-2 c =
-    let y = c .before .before in
-    let x = y .before .before .before in
-    rw (x .x .given .1, y .y2 .given .1, add-suc) (rw add-one at (c .fit-plus .ensures))
-
-returns-3 : tie.Need-returns-3
-unfolding operate integerOf
-returns-3 c =
-    let y = c .before .before in
-    let x = y .before .before .before in
-    rw (x .x2 .given .1, y .y3 .given .1, minus-minus-plus (x .x2 .given .0 .0) (y .y3 .given .0 .0)) (c .fit-minus .ensures)
-
-returns-4 : tie.Need-returns-4
-unfolding operate integerOf
-returns-4 c =
-    let y = c .before .before in
-    let x = y .before .before .before in
-    rw (x .x2 .given .1, y .y4 .given .1) (simp add-one at (c .fit-difference2 .ensures))
+    c .sum .ensures
+    ∙ ap (λ (z : ℤ). fit (integerOf (c .before .before .args .x) +ℤ z)) (c .before .opposite .ensures)
 
 pub subtract-spec : {M : Type 1} → statement M
-subtract-spec =
-    tie.close
-    (tie.spec
-    enum-known-x
-    enum-known-y
-    fit-difference-requires
-    enum-known-y-2
-    add-fit-plus
-    add-fit-plus-2
-    fit-plus-requires
-    enum-known-x-2
-    enum-known-y-3
-    add-fit-minus
-    fit-minus-requires
-    enum-known-y-4
-    add-fit-difference
-    add-fit-difference-2
-    fit-difference-requires-2
-    returns
-    returns-2
-    returns-3
-    returns-4)
+subtract-spec = tie.close (tie.spec opposite-requires sum-requires returns)
