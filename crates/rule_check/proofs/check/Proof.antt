@@ -102,7 +102,7 @@ returns-2 c =
     (omega (arith, call .bad-vertex .ensures, counts .target-count .ensures .0, counts .before .source-count .ensures .0))
 
 in-visiting-order-requires : tie.Need-in-visiting-order-requires
-in-visiting-order-requires c κs = (read c, layers c .layered)
+in-visiting-order-requires c κs = layers c
 
 bad-rule-requires-3 : tie.Need-bad-rule-requires-3
 bad-rule-requires-3 c κs = search needs
