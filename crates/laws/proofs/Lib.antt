@@ -1,4 +1,5 @@
 pub mod Lists
+pub mod Tests
 pub mod Graph
 pub mod Rule
 pub mod Operators
