@@ -8,10 +8,13 @@ use definitions::OUTPUT_LIMIT;
 use definitions::SLOT_BYTES;
 use definitions::SLOT_LIMIT;
 use fields::Integer;
+use fields::WORD_BYTES;
 use fields::byte_at;
+use fields::four_words_filled;
 use fields::has_mark;
 use fields::i32_at;
 use fields::is_filled;
+use fields::two_words_filled;
 use fields::u16_at;
 use graph_fields::input_at;
 use graph_fields::input_count;
@@ -22,13 +25,13 @@ use graph_fields::slot_count;
 use operators::shape_fits;
 ghost use mathlib.Core.Path.{_≡_};
 ghost use mathlib.Core.Bool.{not, _||_};
-ghost use Prim.Native.Nat.{_+_, _<_, _≤_};
+ghost use Prim.Native.Nat.{_+_, _*_, _<_, _≤_};
 ghost use lib.Dec.{eqb};
 ghost use lib.ListN.{length};
 ghost use Rattle.definitions.specs.Lists.{lowest, all};
-ghost use Rattle.definitions.specs.Fields.{u32At, signed};
+ghost use Rattle.definitions.specs.Fields.{u32At, filled, signed};
 ghost use Rattle.definitions.specs.Operators.{kindProj};
-ghost use Rattle.definitions.specs.Graph.{headerBytes, slotBytes, slotCount, outputCount, graphOf, inputsOf, isVertex, outputPlacesFit, headerFits, atLeastOne, recordFits, badRecord, badInputs, badOutput};
+ghost use Rattle.definitions.specs.Graph.{headerBytes, slotBytes, inputLimit, slotCount, outputCount, graphOf, inputsOf, isVertex, outputPlacesFit, headerFits, atLeastOne, recordFits, badRecord, badInputs, badOutput};
 ghost use Rattle.graph_fields.specs.Layout.{WholeGraph, ReadableGraph};
 
 // Whether 1 to 4 outputs are counted, and the unused output places hold 65535.
@@ -89,7 +92,21 @@ fn index_fits(graph: &[u8], at: usize, kind: usize) -> bool
     }
 }
 
-// Whether the record at `at` follows its kind.
+// Whether the unused input places of the record at `at` hold 65535.
+fn unused_inputs_fit(graph: &[u8], at: usize, inputs: usize) -> bool
+    requires { ⌜ at + slotBytes ≤ length (now graph) ⌝ }
+    requires { ⌜ inputs ≤ inputLimit ⌝ }
+    ensures { λ r. ⌜ r ≡ filled (now (graph .entry)) (at + 4 + 2 * inputs) (at + 16) 255 ⌝ }
+{
+    let from = at + 4 + 2 * inputs;
+    let to = at + 16;
+    if to < from + WORD_BYTES {
+        return is_filled(graph, from, to, 255);
+    }
+    two_words_filled(graph, from, to, 255)
+}
+
+// Whether the record at `at` follows its kind. Its unused attribute places and the zero bytes at its end are one run.
 pub fn record_fits(graph: &[u8], at: usize) -> bool
     requires { ⌜ at + slotBytes ≤ length (now graph) ⌝ }
     ensures { λ r. ⌜ r ≡ recordFits (now (graph .entry)) at ⌝ }
@@ -101,16 +118,13 @@ pub fn record_fits(graph: &[u8], at: usize) -> bool
     if !shape_fits(kind, operator, inputs, attributes) {
         return false;
     }
-    if !is_filled(graph, at + 4 + 2 * inputs, at + 16, 255) {
+    if !unused_inputs_fit(graph, at, inputs) {
         return false;
     }
-    if !is_filled(graph, at + 16 + 4 * attributes, at + 40, 0) {
+    if !four_words_filled(graph, at + 16 + 4 * attributes, at + SLOT_BYTES, 0) {
         return false;
     }
-    if !index_fits(graph, at, kind) {
-        return false;
-    }
-    is_filled(graph, at + 40, at + 48, 0)
+    index_fits(graph, at, kind)
 }
 
 // The lowest slot with a bad record, or the number of slots.
