@@ -18,7 +18,7 @@ use Rattle.definitions.specs.Rewriting.{vertexResults, targetResults, stays, fr
 use Rattle.laws.proofs.Lists.{map-same}
 use Rattle.laws.proofs.Graph.{length-slots}
 use Rattle.laws.proofs.Rule.{length-target, target-attributes-at}
-use Rattle.shapes.proofs.Values.{target-values, value-count}
+use Rattle.replacement.proofs.Values.{target-values, value-count}
 use Rattle.writing.specs.declared.Record.{Record}
 use Rattle.writing.specs.Records.{Stands}
 use Rattle.target_attributes.specs.Words.{isGiven, Given}

@@ -22,7 +22,7 @@ use Rattle.laws.proofs.Graph.{length-slots}
 use Rattle.laws.proofs.Rule.{length-source, length-target}
 use Rattle.search.proofs.Sound.{graph-readable, rule-readable, rule-layered, rule-matchable}
 use Rattle.encoding.specs.Tables.{Table}
-use Rattle.shapes.proofs.Sound.{new-table}
+use Rattle.replacement.proofs.Sound.{new-table}
 use Rattle.vacancies.specs.Vacant.{Lowest}
 use Rattle.vacancies.proofs.Laws.{lowest-places}
 use Rattle.redirection.proofs.Laws.{sound-resolvable}

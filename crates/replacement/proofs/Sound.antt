@@ -1,5 +1,5 @@
 -- The new table follows every condition of a sound graph but the one about cycles: its slots one by one (Slots), and what its places
--- name (replacement).
+-- name (Table).
 -- Assumes nothing.
 use mathlib.Core.Path.{_≡_, ap, _∙_}
 use mathlib.Core.Bool.{true}
@@ -16,9 +16,9 @@ use Rattle.definitions.specs.Rewriting.{targetResults, hasRoom, redirect, newSl
 use Rattle.laws.proofs.Graph.{length-slots, length-outputs, slots-within, outputs-within}
 use Rattle.laws.proofs.Rewriting.{new-length, new-slot-at}
 use Rattle.encoding.specs.Tables.{slotFits, Table, Words}
 use Rattle.replacement.proofs.Site.{site}
 use Rattle.replacement.proofs.Table.{new-inputs, new-outputs}
-use Rattle.shapes.proofs.Slots.{new-shapes, new-words}
+use Rattle.replacement.proofs.Slots.{new-shapes, new-words}
 
 module _ (graph rule images : List ℕ) (values : List (List ℤ)) (sound : SoundGraph graph) (soundRule : SoundRule rule)
     (isMatch : Match (graphOf graph) (ruleOf rule) images)

@@ -26,7 +26,7 @@ use Rattle.laws.proofs.Rule.{length-target, target-kind-at, target-operator-at,
 use Rattle.laws.proofs.Results.{vertex-index}
 use Rattle.encoding.specs.Tables.{slotFits}
 use Rattle.encoding.proofs.Graphs.{follows, table-of, words-of}
-use Rattle.shapes.proofs.Values.{word-small, signed-word, target-values, value-count, values-small}
+use Rattle.replacement.proofs.Values.{word-small, signed-word, target-values, value-count, values-small}
 
 empty-shape : slotFits emptySlot ≡ true
 unfolding slotFits emptySlot shapeFits rowOf kinds
