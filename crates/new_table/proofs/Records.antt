@@ -26,7 +26,7 @@ use Rattle.target_attributes.proofs.Laws.{told-given}
 use Rattle.vacancies.proofs.Laws.{free-position}
 use Rattle.redirection.specs.declared.Redirection.{Redirection}
 use Rattle.redirection.specs.Moves.{resolveIn, moved}
-use Rattle.redirection.proofs.Laws.{inputs-same}
+use Rattle.new_places.proofs.Laws.{inputs-same}
 use Rattle.new_table.specs.Slots.{movedSlot, valuesOf, fitResults, Prepared, Redirects}
 use Rattle.new_table.proofs.Values.{known-values}
 

@@ -3,9 +3,9 @@
 use mathlib.Core.Path.{ap, _∙_}
 use native.Mathlib.Omega.{arith}
 use borrow.Author.Needs.{needs}
 use Rattle.redirection.specs.Moves.{moved}
-use Rattle.redirection.proofs.input_after.Statement.{statement}
-use Rattle.redirection.proofs.input_after.Tie as tie
+use Rattle.new_places.proofs.input_after.Statement.{statement}
+use Rattle.new_places.proofs.input_after.Tie as tie
 
 input-at-requires : tie.Need-input-at-requires
 input-at-requires c κs = search needs

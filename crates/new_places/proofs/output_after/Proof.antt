@@ -1,8 +1,8 @@
 -- What an output place named is redirected.
 -- Assumes nothing.
 use borrow.Author.Needs.{needs}
-use Rattle.redirection.proofs.output_after.Statement.{statement}
-use Rattle.redirection.proofs.output_after.Tie as tie
+use Rattle.new_places.proofs.output_after.Statement.{statement}
+use Rattle.new_places.proofs.output_after.Tie as tie
 
 output-at-requires : tie.Need-output-at-requires
 output-at-requires c κs = search needs

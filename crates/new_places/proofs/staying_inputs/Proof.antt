@@ -8,10 +8,10 @@ use borrow.Author.Needs.{needs}
 use lib.ListN.{length, take}
 use Rattle.definitions.specs.Lists.{padded}
 use Rattle.definitions.specs.Graph.{inputLimit, unusedPlace, graphOf, inputsOf}
 use Rattle.redirection.specs.Moves.{moved}
 use Rattle.laws.proofs.Filling.{filled-more, filled-all}
-use Rattle.redirection.proofs.staying_inputs.Statement.{statement}
-use Rattle.redirection.proofs.staying_inputs.Tie as tie
+use Rattle.new_places.proofs.staying_inputs.Statement.{statement}
+use Rattle.new_places.proofs.staying_inputs.Tie as tie
 
 abbrev Inv-loop : tie.InvT-loop
 Inv-loop graph k way count inputs₀ i₀ inputs i =

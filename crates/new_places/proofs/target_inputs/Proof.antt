@@ -9,11 +9,11 @@ use lib.ListN.{length, take}
 use Rattle.definitions.specs.Lists.{padded}
 use Rattle.definitions.specs.Graph.{inputLimit, unusedPlace}
 use Rattle.definitions.specs.Rule.{Origin, made, ruleOf, targetOf}
 use Rattle.redirection.specs.Moves.{originInside, resolveIn}
 use Rattle.laws.proofs.Filling.{filled-more, filled-all}
 use Rattle.redirection.proofs.Laws.{inside-place}
-use Rattle.redirection.proofs.target_inputs.Statement.{statement}
-use Rattle.redirection.proofs.target_inputs.Tie as tie
+use Rattle.new_places.proofs.target_inputs.Statement.{statement}
+use Rattle.new_places.proofs.target_inputs.Tie as tie
 
 abbrev Inv-loop : tie.InvT-loop
 Inv-loop rule t images places count inputs₀ i₀ inputs i =

@@ -9,10 +9,10 @@ use lib.ListN.{length, take}
 use Rattle.definitions.specs.Lists.{padded}
 use Rattle.definitions.specs.Graph.{outputLimit, unusedPlace, graphOf}
 use Rattle.laws.proofs.Graph.{length-outputs}
 use Rattle.redirection.specs.Moves.{moved}
 use Rattle.laws.proofs.Filling.{filled-more, filled-all}
-use Rattle.redirection.proofs.new_outputs.Statement.{statement}
-use Rattle.redirection.proofs.new_outputs.Tie as tie
+use Rattle.new_places.proofs.new_outputs.Statement.{statement}
+use Rattle.new_places.proofs.new_outputs.Tie as tie
 
 abbrev Inv-loop : tie.InvT-loop
 Inv-loop graph way count outputs₀ i₀ outputs i =
