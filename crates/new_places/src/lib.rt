@@ -18,16 +18,15 @@ ghost use mathlib.Core.List.{map};
 ghost use Prim.Native.Nat.{_<_};
 ghost use lib.ListN.{length, getD};
 ghost use Rattle.definitions.specs.Lists.{padded};
-ghost use Rattle.definitions.specs.Graph.{inputLimit, outputLimit, unusedPlace, slotCount, outputCount, graphOf, inputsOf};
-ghost use Rattle.definitions.specs.Rule.{sideCapacity, targetCount, ruleOf, targetOf};
-ghost use Rattle.graph_fields.specs.Layout.{WholeGraph, ReadableGraph};
-ghost use Rattle.rule_fields.specs.Layout.{ReadableRule};
-ghost use Rattle.redirection.specs.Moves.{Resolvable, resolveIn, moved};
+ghost use Rattle.definitions.specs.Graph.{inputLimit, outputLimit, unusedPlace, outputCount, graphOf, inputsOf};
+ghost use Rattle.definitions.specs.Rule.{ruleOf, targetOf};
+ghost use Rattle.graph_fields.specs.Layout.{WholeGraph};
+ghost use Rattle.redirection.specs.Moves.{resolveIn, moved};
+ghost use Rattle.new_places.specs.Places.{ReadableSlot, ReadableTarget};
 
 // What input place i of slot k names after the rewriting, where the slot stays.
 fn input_after(graph: &[u8], k: usize, i: usize, way: Redirection) -> u16
-    requires { ⌜ ReadableGraph (now graph) ⌝ }
-    requires { ⌜ k < slotCount (now graph) ⌝ }
+    requires { ⌜ ReadableSlot (now graph) k ⌝ }
     requires { ⌜ i < length (inputsOf (graphOf (now graph)) k) ⌝ }
     ensures { λ r. ⌜ r ≡ moved way (getD (inputsOf (graphOf (now (graph .entry))) k) i unusedPlace) ⌝ }
 {
@@ -47,8 +46,7 @@ fn output_after(graph: &[u8], i: usize, way: Redirection) -> u16
 
 // Every input place of slot k, redirected; 65535 stands in the unused ones.
 pub fn staying_inputs(graph: &[u8], k: usize, way: Redirection) -> [u16; INPUT_LIMIT]
-    requires { ⌜ ReadableGraph (now graph) ⌝ }
-    requires { ⌜ k < slotCount (now graph) ⌝ }
+    requires { ⌜ ReadableSlot (now graph) k ⌝ }
     ensures { λ r. ⌜ r ≡ padded inputLimit unusedPlace (map (moved way) (inputsOf (graphOf (now (graph .entry))) k)) ⌝ }
 {
     let count = input_count(graph, k);
@@ -83,11 +81,7 @@ pub fn target_inputs(
     images: &[u16; SIDE_CAPACITY],
     places: &[u16; SIDE_CAPACITY],
 ) -> [u16; INPUT_LIMIT]
-    requires { ⌜ ReadableRule (now rule) ⌝ }
-    requires { ⌜ Resolvable (now rule) ⌝ }
-    requires { ⌜ length (now images) ≡ sideCapacity ⌝ }
-    requires { ⌜ length (now places) ≡ sideCapacity ⌝ }
-    requires { ⌜ t < targetCount (now rule) ⌝ }
+    requires { ⌜ ReadableTarget (now rule) (now images) (now places) t ⌝ }
     ensures { λ r. ⌜ r ≡ padded inputLimit unusedPlace
         (map (resolveIn (now (images .entry)) (now (places .entry))) (targetOf (ruleOf (now (rule .entry))) t .inputs)) ⌝ }
 {

@@ -71,7 +71,7 @@ pub target-places : (graph rule images places : List ℕ) (t : ℕ) {xs : List �
     → xs ≡ padded inputLimit unusedPlace (map (resolveIn images places) (targetOf (ruleOf rule) t .inputs))
     → xs ≡ padded inputLimit unusedPlace (map (resolve (graphOf graph) (ruleOf rule) images) (targetOf (ruleOf rule) t .inputs))
 target-places graph rule images places t p l h =
-    h ∙ ap (padded inputLimit unusedPlace) (inputs-same (graphOf graph) rule images places (p .resolvable) (p .placed) t l)
+    h ∙ ap (padded inputLimit unusedPlace) (inputs-same (graphOf graph) rule images places (p .moves .resolvable) (p .placed) t l)
 
 -- ---- the three sorts of slot
 

@@ -6,16 +6,16 @@ use mathlib.Core.List.{List, [], map}
 use mathlib.Core.Option.{Option, none, some}
 use Prim.Native.Nat.{ℕ, _<_}
 use lib.IntN.{ℤ}
-use lib.ListN.{length, getD}
+use lib.ListN.{getD}
 use Rattle.definitions.specs.Graph.{unusedPlace, Slot, Graph, graphOf}
 use Rattle.definitions.specs.Rule.{sideCapacity, ruleOf}
 use Rattle.definitions.specs.Match.{readAttribute}
 use Rattle.definitions.specs.Rewriting.{targetResults, placeOf, redirect, newGraph}
 use Rattle.graph_fields.specs.Layout.{ReadableGraph}
-use Rattle.rule_fields.specs.Layout.{ReadableRule, Layered}
+use Rattle.rule_fields.specs.Layout.{ReadableRule}
 use Rattle.attributes.specs.Evaluable.{Evaluable}
 use Rattle.target_attributes.specs.Words.{isGiven}
-use Rattle.redirection.specs.Moves.{Resolvable, moved}
+use Rattle.redirection.specs.Moves.{Movable, moved}
 use Rattle.redirection.specs.declared.Redirection.{Redirection}
 
 -- a slot whose input places are passed through `move`
@@ -40,15 +40,12 @@ fitResults graph rule images = targetResults (readAttribute (graphOf graph) imag
 unfoldable pub newTable : List ℕ → List ℕ → List ℕ → Graph
 newTable graph rule images = newGraph (graphOf graph) (ruleOf rule) images (valuesOf (fitResults graph rule images))
 
--- layouts that can be read, results for every target attribute, and the target vertices' places
+-- layouts that can be read, what the moves are made from, the target vertices' places, and results for every target attribute
 pub record Prepared (graph rule images places : List ℕ) : Type 0 where
   pub oldTable : ReadableGraph graph
   pub patterns : ReadableRule rule
-  pub layered : Layered rule
   pub evaluable : Evaluable rule
-  pub resolvable : Resolvable rule
-  pub imageSize : length images ≡ sideCapacity
-  pub placeSize : length places ≡ sideCapacity
+  pub moves : Movable rule images places
   pub placed : (t : ℕ) → t < sideCapacity → getD places t unusedPlace ≡ placeOf (graphOf graph) (ruleOf rule) images t
   pub known : isGiven (fitResults graph rule images) ≡ true
 

@@ -38,10 +38,10 @@ ghost use Rattle.definitions.specs.Lists.{padded, concatMap, filter, range};
 ghost use Rattle.definitions.specs.Graph.{headerBytes, slotBytes, slotLimit, attributeLimit, slotCount, emptySlot, graphOf, slotOf, slotBlock, graphBlock};
 ghost use Rattle.definitions.specs.Rule.{targetCount, ruleOutputCount, ruleOf, targetOf};
 ghost use Rattle.definitions.specs.Rewriting.{stays, targetSlot, newSlot};
-ghost use Rattle.graph_fields.specs.Layout.{ReadableGraph};
 ghost use Rattle.writing.specs.Records.{Stands};
 ghost use Rattle.vacancies.specs.Vacant.{Marks};
 ghost use Rattle.redirection.specs.Moves.{moved};
+ghost use Rattle.new_places.specs.Places.{ReadableSlot};
 ghost use Rattle.new_table.specs.Slots.{movedSlot, valuesOf, fitResults, newTable, Prepared, Redirects};
 
 // ---- records
@@ -62,8 +62,7 @@ fn empty_record() -> Record
 
 // Every attribute place of slot k; zero stands in the unused ones.
 fn attribute_words(graph: &[u8], k: usize) -> [u32; ATTRIBUTE_LIMIT]
-    requires { ⌜ ReadableGraph (now graph) ⌝ }
-    requires { ⌜ k < slotCount (now graph) ⌝ }
+    requires { ⌜ ReadableSlot (now graph) k ⌝ }
     ensures { λ r. ⌜ r ≡ padded attributeLimit 0 (slotOf (graphOf (now (graph .entry))) k .attributes) ⌝ }
 {
     let count = attribute_count(graph, k);
@@ -78,8 +77,7 @@ fn attribute_words(graph: &[u8], k: usize) -> [u32; ATTRIBUTE_LIMIT]
 
 // The record of a vertex that stays: its input places redirected, and nothing else changed.
 fn staying_record(graph: &[u8], k: usize, way: Redirection) -> Record
-    requires { ⌜ ReadableGraph (now graph) ⌝ }
-    requires { ⌜ k < slotCount (now graph) ⌝ }
+    requires { ⌜ ReadableSlot (now graph) k ⌝ }
     ensures { λ r. ⌜ Stands r (movedSlot (moved way) (slotOf (graphOf (now (graph .entry))) k)) ⌝ }
 {
     let kind = kind_of(graph, k);

@@ -8,10 +8,8 @@ ghost use mathlib.Core.Path.{_≡_};
 ghost use mathlib.Core.Bool.{cond};
 ghost use Prim.Native.Nat.{ℕ, _+_, _<_};
 ghost use lib.Dec.{eqb};
-ghost use lib.ListN.{length};
 ghost use Rattle.definitions.specs.Rule.{targetBase, sideCapacity, ruleOutputCount, originOf, ruleOf};
-ghost use Rattle.rule_fields.specs.Layout.{WholeRule, Layered};
-ghost use Rattle.redirection.specs.Moves.{Resolvable, resolveIn, redirectBy, moveOf, moved};
+ghost use Rattle.redirection.specs.Moves.{Arrays, Movable, resolveIn, redirectBy, moveOf, moved};
 
 // What names `from` is to name `to`.
 pub struct Move {
@@ -28,8 +26,7 @@ pub struct Redirection {
 // The slot that place number p of the target names: below TARGET_BASE the image of that rule input, from there on the
 // slot of a target vertex.
 pub fn place_of(images: &[u16; SIDE_CAPACITY], places: &[u16; SIDE_CAPACITY], p: usize) -> u16
-    requires { ⌜ length (now images) ≡ sideCapacity ⌝ }
-    requires { ⌜ length (now places) ≡ sideCapacity ⌝ }
+    requires { ⌜ Arrays (now images) (now places) ⌝ }
     requires { ⌜ p < targetBase + sideCapacity ⌝ }
     ensures { λ r. ⌜ r ≡ resolveIn (now (images .entry)) (now (places .entry)) (originOf p) ⌝ }
 {
@@ -46,11 +43,7 @@ fn move_of(
     places: &[u16; SIDE_CAPACITY],
     i: usize,
 ) -> Move
-    requires { ⌜ WholeRule (now rule) ⌝ }
-    requires { ⌜ Layered (now rule) ⌝ }
-    requires { ⌜ Resolvable (now rule) ⌝ }
-    requires { ⌜ length (now images) ≡ sideCapacity ⌝ }
-    requires { ⌜ length (now places) ≡ sideCapacity ⌝ }
+    requires { ⌜ Movable (now rule) (now images) (now places) ⌝ }
     requires { ⌜ i < ruleOutputCount (now rule) ⌝ }
     ensures { λ r. ⌜ r ≡ moveOf (now (rule .entry)) (now (images .entry)) (now (places .entry)) i ⌝ }
 {
@@ -67,12 +60,8 @@ pub fn redirection_of(
     images: &[u16; SIDE_CAPACITY],
     places: &[u16; SIDE_CAPACITY],
 ) -> Redirection
-    requires { ⌜ WholeRule (now rule) ⌝ }
-    requires { ⌜ Layered (now rule) ⌝ }
-    requires { ⌜ Resolvable (now rule) ⌝ }
+    requires { ⌜ Movable (now rule) (now images) (now places) ⌝ }
     requires { ⌜ 0 < ruleOutputCount (now rule) ⌝ }
-    requires { ⌜ length (now images) ≡ sideCapacity ⌝ }
-    requires { ⌜ length (now places) ≡ sideCapacity ⌝ }
     ensures { λ r. ⌜ ((v : ℕ) → moved r v
         ≡ redirectBy (resolveIn (now (images .entry)) (now (places .entry))) (ruleOf (now (rule .entry))) (now (images .entry)) v) ⌝ }
 {

@@ -23,7 +23,7 @@ use Rattle.laws.proofs.Rule.{length-source, length-target}
 use Rattle.search.proofs.Sound.{graph-readable, rule-readable, rule-layered, rule-matchable}
 use Rattle.encoding.specs.Tables.{Table}
 use Rattle.replacement.proofs.Sound.{new-table}
-use Rattle.vacancies.specs.Vacant.{Lowest}
+use Rattle.vacancies.specs.Vacant.{Removable, Lowest}
 use Rattle.vacancies.proofs.Laws.{lowest-places}
 use Rattle.redirection.proofs.Laws.{sound-resolvable}
 use Rattle.target_attributes.specs.Words.{isGiven}
@@ -52,11 +52,19 @@ module _ (graph rule images : List ℕ) (sound : SoundGraph graph) (soundRule : 
   same j = sym (taken-at unusedPlace (sourceCount rule) images (omega (arith, few, isMatched .size)) (isMatched .rest) j)
 
   -- every image is a slot
-  pub images-inside : (j : ℕ) → j < sourceCount rule → imageOf images j < slotCount graph
+  images-inside : (j : ℕ) → j < sourceCount rule → imageOf images j < slotCount graph
   images-inside j l =
       rw (same j, ← length-slots graph) (image-inside g r found j (isMatched .isMatch) (rw (length-source rule) l))
 
   -- ---- the stages
+
+  pub removable : Removable graph rule images
+  removable = record {
+    table = graph-readable graph sound .whole;
+    patterns = rule-readable rule soundRule .whole;
+    imageSize = isMatched .size;
+    slots = images-inside;
+  }
 
   pub unfit : isGiven (fitResults graph rule images) ≡ false → rewritten g r found ≡ turnedDown (refusal noResult)
   unfolding fitResults
@@ -83,11 +91,13 @@ module _ (graph rule images : List ℕ) (sound : SoundGraph graph) (soundRule : 
       prepared = record {
         oldTable = graph-readable graph sound;
         patterns = rule-readable rule soundRule;
-        layered = rule-layered rule soundRule;
         evaluable = rule-matchable rule soundRule .evaluable;
-        resolvable = sound-resolvable rule soundRule;
-        imageSize = isMatched .size;
-        placeSize = places .size;
+        moves = record {
+          whole = rule-readable rule soundRule .whole;
+          layered = rule-layered rule soundRule;
+          resolvable = sound-resolvable rule soundRule;
+          arrays = record { imageSize = isMatched .size; placeSize = places .size };
+        };
         placed = lowest-places g r images count slots places;
         known = fit;
       }

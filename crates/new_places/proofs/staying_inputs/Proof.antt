@@ -37,7 +37,7 @@ unfolding padded
 loop-holds c = (omega arith, refl)
 
 input-after-requires : tie.Need-input-after-requires Inv-loop μ-loop
-input-after-requires c κs = let s = start (c .before) in (s .pre .0, (s .pre .1, left c))
+input-after-requires c κs = (start (c .before) .pre, left c)
 
 mul-inputs : tie.Need-mul-inputs Inv-loop μ-loop
 mul-inputs c = search needs

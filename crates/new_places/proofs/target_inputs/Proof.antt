@@ -39,16 +39,14 @@ unfolding padded
 loop-holds c = (omega arith, refl)
 
 target-input-requires : tie.Need-target-input-requires Inv-loop μ-loop
-target-input-requires c κs = let s = start (c .before) in (s .pre .0, (s .pre .1 .1 .1 .1, left c))
+target-input-requires c κs = let s = start (c .before) in (s .pre .patterns, (s .pre .inside, left c))
 
 place-of-requires : tie.Need-place-of-requires Inv-loop μ-loop
 place-of-requires c κs =
     let a = c .before .before in
     let s = start a in
-    let inside = s .pre .1 .0 .inputs (s .args .t) (a .loop .i) (s .pre .1 .1 .1 .1) (left (c .before)) in (
-      s .pre .1 .1 .0,
-      (s .pre .1 .1 .1 .0, inside-place (c .target-input .result) (ap originInside (c .target-input .ensures .0) ∙ inside)),
-    )
+    let inside = s .pre .resolvable .inputs (s .args .t) (a .loop .i) (s .pre .inside) (left (c .before)) in
+    (s .pre .arrays, inside-place (c .target-input .result) (ap originInside (c .target-input .ensures .0) ∙ inside))
 
 mul-inputs : tie.Need-mul-inputs Inv-loop μ-loop
 mul-inputs c = search needs

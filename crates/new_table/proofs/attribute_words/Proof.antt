@@ -36,7 +36,7 @@ unfolding padded
 loop-holds c = (omega arith, refl)
 
 attribute-word-requires : tie.Need-attribute-word-requires Inv-loop μ-loop
-attribute-word-requires c κs = let s = start (c .before) in (s .pre .0, (s .pre .1, left c))
+attribute-word-requires c κs = let s = start (c .before) in (s .pre .table, (s .pre .inside, left c))
 
 cast-words : tie.Need-cast-words Inv-loop μ-loop
 cast-words c = search needs

@@ -34,7 +34,7 @@ goes c =
     not-true (staysAt s) (sym (s .pre .1 .1 .1 .0) ∙ not-false (s .args .free) (c .if1 .left))
 
 staying-record-requires : tie.Need-staying-record-requires
-staying-record-requires c κs = search needs
+staying-record-requires c κs = let s = c .before .before .before in record { table = s .pre .0 .oldTable; inside = s .pre .1 .1 .0 }
 
 returns : tie.Need-returns
 returns c =

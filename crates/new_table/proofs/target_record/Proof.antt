@@ -27,13 +27,13 @@ target-inputs-requires : tie.Need-target-inputs-requires
 target-inputs-requires c κs =
     let s = c .before .before .before .before .before .before in
     let p = s .pre .0 in
-    (p .patterns, (p .resolvable, (p .imageSize, (p .placeSize, omega (arith, s .pre .1)))))
+    record { patterns = p .patterns; resolvable = p .moves .resolvable; arrays = p .moves .arrays; inside = omega (arith, s .pre .1) }
 
 vertex-words-requires : tie.Need-vertex-words-requires
 vertex-words-requires c κs =
     let s = c .before .before .before .before .before .before .before in
     let p = s .pre .0 in
-    (p .oldTable, (p .patterns, (p .evaluable, (search (needs, p .imageSize, p .placeSize), omega (arith, s .pre .1)))))
+    (p .oldTable, (p .patterns, (p .evaluable, (search (needs, p .moves .arrays .imageSize, p .moves .arrays .placeSize), omega (arith, s .pre .1)))))
 
 cast-t13 : tie.Need-cast-t13
 cast-t13 c = search needs

@@ -50,13 +50,12 @@ module _ (c : tie.After-redirection-of) where
   ways v =
       c .redirection-of .ensures v
       ∙ redirect-same (graphOf (start .args .graph .now)) (start .args .rule .now) (start .args .images .now) (start .args .places .now)
-      (start .pre .0 .resolvable) (start .pre .0 .placed) v
+      (start .pre .0 .moves .resolvable) (start .pre .0 .placed) v
 
 redirection-of-requires : tie.Need-redirection-of-requires
 redirection-of-requires c κs =
     let s = c .before .before .before in
-    let ready = s .pre .0 in
-    (ready .patterns .whole, (ready .layered, (ready .resolvable, (s .pre .1 .0, (ready .imageSize, ready .placeSize)))))
+    (s .pre .0 .moves, s .pre .1 .0)
 
 slot-count-requires : tie.Need-slot-count-requires
 slot-count-requires c κs = search needs

@@ -23,7 +23,7 @@ use Rattle.vacancies.specs.Vacant.{marked, Lowest}
 use Rattle.vacancies.proofs.Laws.{marked-free}
 use Rattle.new_table.specs.Slots.{fitResults, newTable}
 use Rattle.rewriting.proofs.Replies.{planned-refused, planned-done}
-use Rattle.rewriting.proofs.Stages.{images-inside, unfit, full, prepared, new-table-of, cyclic, done}
+use Rattle.rewriting.proofs.Stages.{removable, unfit, full, prepared, new-table-of, cyclic, done}
 use borrow.Author.Needs.{needs}
 use Rattle.rewriting.proofs.plan.Statement.{statement}
 use Rattle.rewriting.proofs.plan.Tie as tie
@@ -63,16 +63,8 @@ returns c =
 
 find-free-requires : tie.Need-find-free-requires
 find-free-requires c κs =
-    let s = c .before .before .before .before .before in (
-      graph-readable (graph s) (s .pre .0) .whole,
-      (
-        rule-readable (rule s) (s .pre .1 .0) .whole,
-        (
-          s .pre .1 .1 .0 .size,
-          images-inside (graph s) (rule s) (images s) (s .pre .0) (s .pre .1 .0) (s .pre .1 .1 .0),
-        ),
-      ),
-    )
+    let s = c .before .before .before .before .before in
+    removable (graph s) (rule s) (images s) (s .pre .0) (s .pre .1 .0) (s .pre .1 .1 .0)
 
 slot-count-requires : tie.Need-slot-count-requires
 slot-count-requires c κs =
