@@ -28,8 +28,9 @@ use Rattle.vacancies.proofs.Laws.{lowest-places}
 use Rattle.redirection.proofs.Laws.{sound-resolvable}
 use Rattle.target_attributes.specs.Words.{isGiven}
 use Rattle.target_attributes.proofs.Laws.{none-given}
-use Rattle.new_table.specs.Slots.{valuesOf, fitResults, newTable, Prepared}
-use Rattle.new_table.proofs.Values.{known-values}
+use Rattle.new_records.specs.Slots.{valuesOf, fitResults, Prepared}
+use Rattle.new_records.proofs.Values.{known-values}
+use Rattle.new_table.specs.Table.{newTable}
 use Rattle.rewriting.specs.Planned.{Matched}
 use Rattle.rewriting.proofs.Same.{read-same, room-same, new-same, rewritten-same}
 

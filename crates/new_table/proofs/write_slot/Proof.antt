@@ -10,7 +10,7 @@ use Rattle.definitions.specs.Rule.{ruleOf}
 use Rattle.definitions.specs.Rewriting.{newSlot}
 use Rattle.laws.proofs.Parts.{putPart, part-more}
 use Rattle.writing.proofs.Laws.{stands-bytes}
-use Rattle.new_table.specs.Slots.{valuesOf, fitResults}
+use Rattle.new_records.specs.Slots.{valuesOf, fitResults}
 use borrow.Author.Needs.{needs}
 use Rattle.new_table.proofs.write_slot.Statement.{statement}
 use Rattle.new_table.proofs.write_slot.Tie as tie

@@ -16,7 +16,8 @@ use Rattle.laws.proofs.Lists.{bit}
 use Rattle.laws.proofs.Filtered.{filtered-count}
 use Rattle.laws.proofs.Pieces.{pieces-more}
 use Rattle.laws.proofs.Graph.{length-slots}
-use Rattle.new_table.specs.Slots.{valuesOf, fitResults, newTable}
+use Rattle.new_records.specs.Slots.{valuesOf, fitResults}
+use Rattle.new_table.specs.Table.{newTable}
 use borrow.Author.Needs.{needs}
 use Rattle.new_table.proofs.write_slots.Statement.{statement}
 use Rattle.new_table.proofs.write_slots.Tie as tie

@@ -21,7 +21,8 @@ use Rattle.graph_fields.specs.Layout.{ReadableGraph, Closed}
 use Rattle.target_attributes.specs.Words.{isGiven}
 use Rattle.vacancies.specs.Vacant.{marked, Lowest}
 use Rattle.vacancies.proofs.Laws.{marked-free}
-use Rattle.new_table.specs.Slots.{fitResults, newTable}
+use Rattle.new_records.specs.Slots.{fitResults}
+use Rattle.new_table.specs.Table.{newTable}
 use Rattle.rewriting.proofs.Replies.{planned-refused, planned-done}
 use Rattle.rewriting.proofs.Stages.{removable, unfit, full, prepared, new-table-of, cyclic, done}
 use borrow.Author.Needs.{needs}

@@ -7,10 +7,10 @@ use mathlib.Core.Option.{Option, none, some}
 use Prim.Native.Nat.{ℕ, _<_}
 use lib.IntN.{ℤ}
 use lib.ListN.{getD}
-use Rattle.definitions.specs.Graph.{unusedPlace, Slot, Graph, graphOf}
+use Rattle.definitions.specs.Graph.{unusedPlace, Slot, graphOf}
 use Rattle.definitions.specs.Rule.{sideCapacity, ruleOf}
 use Rattle.definitions.specs.Match.{readAttribute}
-use Rattle.definitions.specs.Rewriting.{targetResults, placeOf, redirect, newGraph}
+use Rattle.definitions.specs.Rewriting.{targetResults, placeOf, redirect}
 use Rattle.graph_fields.specs.Layout.{ReadableGraph}
 use Rattle.rule_fields.specs.Layout.{ReadableRule}
 use Rattle.attributes.specs.Evaluable.{Evaluable}
@@ -35,10 +35,6 @@ valuesOf (some values) = values
 -- the results of the target vertices' attributes
 unfoldable pub fitResults : List ℕ → List ℕ → List ℕ → Option (List (List ℤ))
 fitResults graph rule images = targetResults (readAttribute (graphOf graph) images) (ruleOf rule .target)
-
--- the table that a rewriting of the block would leave
-unfoldable pub newTable : List ℕ → List ℕ → List ℕ → Graph
-newTable graph rule images = newGraph (graphOf graph) (ruleOf rule) images (valuesOf (fitResults graph rule images))
 
 -- layouts that can be read, what the moves are made from, the target vertices' places, and results for every target attribute
 pub record Prepared (graph rule images places : List ℕ) : Type 0 where

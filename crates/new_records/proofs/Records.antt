@@ -27,8 +27,8 @@ use Rattle.vacancies.proofs.Laws.{free-position}
 use Rattle.redirection.specs.declared.Redirection.{Redirection}
 use Rattle.redirection.specs.Moves.{resolveIn, moved}
 use Rattle.new_places.proofs.Laws.{inputs-same}
-use Rattle.new_table.specs.Slots.{movedSlot, valuesOf, fitResults, Prepared, Redirects}
-use Rattle.new_table.proofs.Values.{known-values}
+use Rattle.new_records.specs.Slots.{movedSlot, valuesOf, fitResults, Prepared, Redirects}
+use Rattle.new_records.proofs.Values.{known-values}
 
 -- ---- the results of target vertex t
 

@@ -10,10 +10,10 @@ use lib.IntN.{ℤ}
 use Rattle.definitions.specs.Graph.{graphOf}
 use Rattle.definitions.specs.Rule.{ruleOf}
 use Rattle.definitions.specs.Rewriting.{stays}
-use Rattle.new_table.specs.Slots.{valuesOf, fitResults}
-use Rattle.new_table.proofs.Records.{stands-staying, stands-target, stands-empty}
-use Rattle.new_table.proofs.new_record.Statement.{statement}
-use Rattle.new_table.proofs.new_record.Tie as tie
+use Rattle.new_records.specs.Slots.{valuesOf, fitResults}
+use Rattle.new_records.proofs.Records.{stands-staying, stands-target, stands-empty}
+use Rattle.new_records.proofs.new_record.Statement.{statement}
+use Rattle.new_records.proofs.new_record.Tie as tie
 
 abbrev values : tie.Start → List (List ℤ)
 values s = valuesOf (fitResults (s .args .graph .now) (s .args .rule .now) (s .args .images .now))

@@ -9,8 +9,8 @@ use lib.ListN.{length, take}
 use Rattle.definitions.specs.Lists.{padded}
 use Rattle.definitions.specs.Graph.{attributeLimit, graphOf, slotOf}
 use Rattle.laws.proofs.Filling.{filled-more, filled-all}
-use Rattle.new_table.proofs.attribute_words.Statement.{statement}
-use Rattle.new_table.proofs.attribute_words.Tie as tie
+use Rattle.new_records.proofs.attribute_words.Statement.{statement}
+use Rattle.new_records.proofs.attribute_words.Tie as tie
 
 abbrev Inv-loop : tie.InvT-loop
 Inv-loop graph k count words₀ i₀ words i =
