@@ -16,7 +16,7 @@ use Rattle.definitions.specs.Operations.{outcome, mapBlock, blocksReply, accept
 use Rattle.theory.proofs.Fixing.{sound-fixing}
 use Rattle.theory.proofs.Least.{least-match}
 use Rattle.search.specs.Finds.{Finds}
-use Rattle.rewriting.specs.Planned.{Matched}
+use Rattle.new_plan.specs.Planned.{Matched}
 
 module _ (graph rule : List ℕ) (start : ℕ) (images : List ℕ) where
   pub blocks-refused : (refusal : Refusal) → blocksReply graph rule images ≡ Refused refusal

@@ -13,7 +13,7 @@ use Rattle.search.proofs.Sound.{graph-readable}
 use Rattle.encoding.proofs.Blocks.{block-readable}
 use Rattle.commit.specs.Tables.{ClearTails}
 use Rattle.commit.proofs.Blocks.{clear-tails}
-use Rattle.rewriting.proofs.Replies.{not-both}
+use Rattle.new_plan.proofs.Replies.{not-both}
 use borrow.Author.Needs.{needs}
 use Rattle.rewriting.proofs.replace.Statement.{statement}
 use Rattle.rewriting.proofs.replace.Tie as tie

@@ -23,8 +23,3 @@ pub record Matched (graph rule images : List ℕ) : Type 0 where
 pub record Planned (best : Rewritten) (reply : Reply) (table : List ℕ) : Type 0 where
   pub done : reply ≡ Done → (new : Graph) × Table new × (best ≡ accepted new) × (table ≡ graphBlock new)
   pub refused : (why : Refusal) → reply ≡ Refused why → best ≡ turnedDown why
-
--- the graph block holds the new table, or is as it was
-pub record Replaced (best : Rewritten) (reply : Reply) (before after : List ℕ) : Type 0 where
-  pub done : reply ≡ Done → (new : Graph) × (best ≡ accepted new) × (after ≡ graphBlock new)
-  pub refused : (why : Refusal) → reply ≡ Refused why → (best ≡ turnedDown why) × (after ≡ before)

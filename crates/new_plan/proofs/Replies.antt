@@ -10,7 +10,7 @@ use Rattle.definitions.specs.declared.Reply.the-variants.{Done, Refused}
 use Rattle.definitions.specs.Graph.{Graph, graphBlock}
 use Rattle.definitions.specs.Operations.{Rewritten, accepted, turnedDown}
 use Rattle.encoding.specs.Tables.{Table}
-use Rattle.rewriting.specs.Planned.{Planned}
+use Rattle.new_plan.specs.Planned.{Planned}
 
 -- one case only
 pub not-both : (reply : Reply) (why : Refusal) → reply ≡ Done → reply ≡ Refused why → ⊥

@@ -23,11 +23,11 @@ use Rattle.vacancies.specs.Vacant.{marked, Lowest}
 use Rattle.vacancies.proofs.Laws.{marked-free}
 use Rattle.new_records.specs.Slots.{fitResults}
 use Rattle.new_table.specs.Table.{newTable}
-use Rattle.rewriting.proofs.Replies.{planned-refused, planned-done}
-use Rattle.rewriting.proofs.Stages.{removable, unfit, full, prepared, new-table-of, cyclic, done}
+use Rattle.new_plan.proofs.Replies.{planned-refused, planned-done}
+use Rattle.new_plan.proofs.Stages.{removable, unfit, full, prepared, new-table-of, cyclic, done}
 use borrow.Author.Needs.{needs}
-use Rattle.rewriting.proofs.plan.Statement.{statement}
-use Rattle.rewriting.proofs.plan.Tie as tie
+use Rattle.new_plan.proofs.plan.Statement.{statement}
+use Rattle.new_plan.proofs.plan.Tie as tie
 
 module _ (s : tie.Start) where
   abbrev graph : List ℕ

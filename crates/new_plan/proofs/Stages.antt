@@ -31,8 +31,8 @@ use Rattle.target_attributes.proofs.Laws.{none-given}
 use Rattle.new_records.specs.Slots.{valuesOf, fitResults, Prepared}
 use Rattle.new_records.proofs.Values.{known-values}
 use Rattle.new_table.specs.Table.{newTable}
-use Rattle.rewriting.specs.Planned.{Matched}
-use Rattle.rewriting.proofs.Same.{read-same, room-same, new-same, rewritten-same}
+use Rattle.new_plan.specs.Planned.{Matched}
+use Rattle.new_plan.proofs.Same.{read-same, room-same, new-same, rewritten-same}
 
 module _ (graph rule images : List ℕ) (sound : SoundGraph graph) (soundRule : SoundRule rule) (isMatched : Matched graph rule images) where
   abbrev g : Graph
