@@ -10,8 +10,8 @@ use borrow.Author.Tests.{le-leb, lt-leb}
 use lib.IntN.{ℤ}
 use lib.ListN.{length, take}
 use Rattle.definitions.specs.Reply.{noResult, noRoom, newCycle, refusal}
-use Rattle.definitions.specs.Graph.{unusedPlace, slotCount, Graph, graphOf, hasCycle, SoundGraph}
-use Rattle.definitions.specs.Rule.{sideCapacity, sourceCount, targetCount, Rule, ruleOf, SoundRule}
+use Rattle.definitions.specs.Graph.{unusedPlace, slotCount, Graph, graphOf, hasCycle}
+use Rattle.definitions.specs.Rule.{sideCapacity, sourceCount, targetCount, Rule, ruleOf}
 use Rattle.definitions.specs.Match.{imageOf, readAttribute}
 use Rattle.definitions.specs.Rewriting.{targetResults, freeSlots, hasRoom}
 use Rattle.definitions.specs.Operations.{accepted, turnedDown, rewritten}
@@ -34,7 +34,7 @@ use Rattle.new_table.specs.Table.{newTable}
 use Rattle.new_plan.specs.Planned.{Matched}
 use Rattle.new_plan.proofs.Same.{read-same, room-same, new-same, rewritten-same}
 
-module _ (graph rule images : List ℕ) (sound : SoundGraph graph) (soundRule : SoundRule rule) (isMatched : Matched graph rule images) where
+module _ (graph rule images : List ℕ) (isMatched : Matched graph rule images) where
   abbrev g : Graph
   g = graphOf graph
 
@@ -46,7 +46,7 @@ module _ (graph rule images : List ℕ) (sound : SoundGraph graph) (soundRule : 
   found = take (sourceCount rule) images
 
   few : sourceCount rule ≤ sideCapacity
-  few = rule-readable rule soundRule .whole .source
+  few = rule-readable rule (isMatched .soundRule) .whole .source
 
   same : (j : ℕ) → imageOf images j ≡ imageOf found j
   unfolding imageOf
@@ -61,8 +61,8 @@ module _ (graph rule images : List ℕ) (sound : SoundGraph graph) (soundRule : 
 
   pub removable : Removable graph rule images
   removable = record {
-    table = graph-readable graph sound .whole;
-    patterns = rule-readable rule soundRule .whole;
+    table = graph-readable graph (isMatched .soundGraph) .whole;
+    patterns = rule-readable rule (isMatched .soundRule) .whole;
     imageSize = isMatched .size;
     slots = images-inside;
   }
@@ -90,13 +90,13 @@ module _ (graph rule images : List ℕ) (sound : SoundGraph graph) (soundRule : 
 
       pub prepared : Prepared graph rule images slots
       prepared = record {
-        oldTable = graph-readable graph sound;
-        patterns = rule-readable rule soundRule;
-        evaluable = rule-matchable rule soundRule .evaluable;
+        oldTable = graph-readable graph (isMatched .soundGraph);
+        patterns = rule-readable rule (isMatched .soundRule);
+        evaluable = rule-matchable rule (isMatched .soundRule) .evaluable;
         moves = record {
-          whole = rule-readable rule soundRule .whole;
-          layered = rule-layered rule soundRule;
-          resolvable = sound-resolvable rule soundRule;
+          whole = rule-readable rule (isMatched .soundRule) .whole;
+          layered = rule-layered rule (isMatched .soundRule);
+          resolvable = sound-resolvable rule (isMatched .soundRule);
           arrays = record { imageSize = isMatched .size; placeSize = places .size };
         };
         placed = lowest-places g r images count slots places;
@@ -112,7 +112,7 @@ module _ (graph rule images : List ℕ) (sound : SoundGraph graph) (soundRule : 
         unfolding newTable
         new-table-of =
             subst (λ (f : List (List ℤ) → Graph). Table (f values)) (sym (new-same g r images found same))
-            (new-table graph rule found values sound soundRule (isMatched .isMatch)
+            (new-table graph rule found values (isMatched .soundGraph) (isMatched .soundRule) (isMatched .isMatch)
             (rw (← read-same g r images found same) known) (rw (← room-same g r images found same) room))
 
         pub cyclic : hasCycle (newTable graph rule images) ≡ true → rewritten g r found ≡ turnedDown (refusal newCycle)

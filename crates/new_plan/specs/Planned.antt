@@ -7,14 +7,16 @@ use lib.ListN.{length, take}
 use Rattle.definitions.specs.declared.Refusal.{Refusal}
 use Rattle.definitions.specs.declared.Reply.{Reply}
 use Rattle.definitions.specs.declared.Reply.the-variants.{Done, Refused}
-use Rattle.definitions.specs.Graph.{unusedPlace, Graph, graphOf, graphBlock}
-use Rattle.definitions.specs.Rule.{sideCapacity, sourceCount, ruleOf}
+use Rattle.definitions.specs.Graph.{unusedPlace, Graph, graphOf, graphBlock, SoundGraph}
+use Rattle.definitions.specs.Rule.{sideCapacity, sourceCount, ruleOf, SoundRule}
 use Rattle.definitions.specs.Match.{imageOf, Match}
 use Rattle.definitions.specs.Operations.{Rewritten, accepted, turnedDown}
 use Rattle.encoding.specs.Tables.{Table}
 
--- an array that begins with the images of a match, and holds 65535 after them
+-- sound blocks, and an array that begins with the images of a match of theirs and holds 65535 after them
 pub record Matched (graph rule images : List ℕ) : Type 0 where
+  pub soundGraph : SoundGraph graph
+  pub soundRule : SoundRule rule
   pub size : length images ≡ sideCapacity
   pub isMatch : Match (graphOf graph) (ruleOf rule) (take (sourceCount rule) images)
   pub rest : (i : ℕ) → sourceCount rule ≤ i → imageOf images i ≡ unusedPlace

@@ -14,16 +14,14 @@ use vacancies::find_free;
 use vacancies::lowest_free;
 ghost use mathlib.Core.Path.{_≡_};
 ghost use lib.ListN.{length, take};
-ghost use Rattle.definitions.specs.Graph.{graphOf, SoundGraph};
-ghost use Rattle.definitions.specs.Rule.{sourceCount, ruleOf, SoundRule};
+ghost use Rattle.definitions.specs.Graph.{graphOf};
+ghost use Rattle.definitions.specs.Rule.{sourceCount, ruleOf};
 ghost use Rattle.definitions.specs.Operations as operation;
 ghost use Rattle.new_plan.specs.Planned.{Matched, Planned};
 
 // What a rewriting at this match comes to: refusal 5, 6 or 7, in that order, or done with the new table in `table`. The cycle is
 // looked for in the new table, and the room counted after the removal.
 pub fn plan(graph: &[u8], rule: &[u8], images: &[u16; SIDE_CAPACITY], table: &mut [u8]) -> Reply
-    requires { ⌜ SoundGraph (now graph) ⌝ }
-    requires { ⌜ SoundRule (now rule) ⌝ }
     requires { ⌜ Matched (now graph) (now rule) (now images) ⌝ }
     requires { ⌜ length (now table) ≡ length (now graph) ⌝ }
     ensures { λ r. ⌜ Planned (operation.rewritten (graphOf (now (graph .entry))) (ruleOf (now (rule .entry)))

@@ -14,8 +14,8 @@ use reply::refuse;
 use search::least_match;
 ghost use mathlib.Core.Path.{_≡_};
 ghost use lib.ListN.{length, take};
-ghost use Rattle.definitions.specs.Graph.{slotLimit, recordAt, graphOf, SoundGraph};
-ghost use Rattle.definitions.specs.Rule.{sourceCount, ruleOf, SoundRule};
+ghost use Rattle.definitions.specs.Graph.{slotLimit, recordAt, graphOf};
+ghost use Rattle.definitions.specs.Rule.{sourceCount, ruleOf};
 ghost use Rattle.definitions.specs.Operations as operation;
 ghost use Rattle.new_plan.specs.Planned.{Matched};
 ghost use Rattle.rewriting.specs.Replaced.{Replaced};
@@ -32,8 +32,6 @@ fn blank() -> [u8; BLOCK_LIMIT]
 
 // Rewrites the graph at this match, or says how that is refused, and then leaves the graph as it is.
 fn replace(graph: &mut [u8], rule: &[u8], images: &[u16; SIDE_CAPACITY]) -> Reply
-    requires { ⌜ SoundGraph (now graph) ⌝ }
-    requires { ⌜ SoundRule (now rule) ⌝ }
     requires { ⌜ Matched (now graph) (now rule) (now images) ⌝ }
     ensures { λ r. ⌜ Replaced (operation.rewritten (graphOf (now (graph .entry))) (ruleOf (now (rule .entry)))
         (take (sourceCount (now (rule .entry))) (now (images .entry)))) r (now (graph .entry)) (now (graph .exit)) ⌝ }

@@ -42,10 +42,10 @@ module _ (s : tie.Start) where
 all-fit-requires : tie.Need-all-fit-requires
 all-fit-requires c κs =
     let s = c .before .before .before in (
-      graph-readable (graph s) (s .pre .0),
+      graph-readable (graph s) (s .pre .0 .soundGraph),
       (
-        rule-readable (rule s) (s .pre .1 .0),
-        (rule-matchable (rule s) (s .pre .1 .0) .evaluable, s .pre .1 .1 .0 .size),
+        rule-readable (rule s) (s .pre .0 .soundRule),
+        (rule-matchable (rule s) (s .pre .0 .soundRule) .evaluable, s .pre .0 .size),
       ),
     )
 
@@ -59,30 +59,30 @@ returns c =
     let a = t .before in
     let s = a .before .before .before .before in
     planned-refused _ _ _ (refusal noResult) (c .refuse .ensures)
-    (unfit (graph s) (rule s) (images s) (s .pre .0) (s .pre .1 .0) (s .pre .1 .1 .0)
+    (unfit (graph s) (rule s) (images s) (s .pre .0)
     (sym (a .all-fit .ensures) ∙ not-true _ (t .if1 .taken)))
 
 find-free-requires : tie.Need-find-free-requires
 find-free-requires c κs =
     let s = c .before .before .before .before .before in
-    removable (graph s) (rule s) (images s) (s .pre .0) (s .pre .1 .0) (s .pre .1 .1 .0)
+    removable (graph s) (rule s) (images s) (s .pre .0)
 
 slot-count-requires : tie.Need-slot-count-requires
 slot-count-requires c κs =
     let s = c .before .before .before .before .before .before .before in
-    omega (arith, graph-readable (graph s) (s .pre .0) .whole .size)
+    omega (arith, graph-readable (graph s) (s .pre .0 .soundGraph) .whole .size)
 
 lowest-free-requires : tie.Need-lowest-free-requires
 lowest-free-requires c κs =
     let s = c .before .before .before .before .before .before .before .before in (
       c .before .before .find-free .ensures .size,
-      omega (arith, c .slot-count .ensures .0, graph-readable (graph s) (s .pre .0) .whole .slots),
+      omega (arith, c .slot-count .ensures .0, graph-readable (graph s) (s .pre .0 .soundGraph) .whole .slots),
     )
 
 target-count-requires : tie.Need-target-count-requires
 target-count-requires c κs =
     let s = c .before .before .before .before .before .before .before .before .before in
-    omega (arith, rule-readable (rule s) (s .pre .1 .0) .whole .size)
+    omega (arith, rule-readable (rule s) (s .pre .0 .soundRule) .whole .size)
 
 -- past reply 5, with the free slots listed
 module _ (c : tie.After-lowest-free) where
@@ -115,7 +115,7 @@ returns-2 c =
     let l = t .before in
     let s = begun l in
     planned-refused _ _ _ (refusal noRoom) (c .refuse2 .ensures)
-    (full (graph s) (rule s) (images s) (s .pre .0) (s .pre .1 .0) (s .pre .1 .1 .0) (fit l)
+    (full (graph s) (rule s) (images s) (s .pre .0) (fit l)
     (l .lowest-free .result .count) (l .lowest-free .result .slots) (places l)
     (omega (arith, t .target-count .ensures .0, c .before .if2 .taken)))
 
@@ -123,11 +123,11 @@ write-table-requires : tie.Need-write-table-requires
 write-table-requires c κs =
     let l = c .before .before .before .before .before .before .before in
     let s = begun l in (
-      prepared (graph s) (rule s) (images s) (s .pre .0) (s .pre .1 .0) (s .pre .1 .1 .0) (fit l) (l .lowest-free .result .count)
+      prepared (graph s) (rule s) (images s) (s .pre .0) (fit l) (l .lowest-free .result .count)
           (l .lowest-free .result .slots) (places l),
       (
-        some-rule-outputs (rule s) sideLimit (s .pre .1 .0 .header),
-        (l .before .before .before .find-free .ensures, s .pre .1 .1 .1),
+        some-rule-outputs (rule s) sideLimit (s .pre .0 .soundRule .header),
+        (l .before .before .before .find-free .ensures, s .pre .1),
       ),
     )
 
@@ -146,7 +146,7 @@ module _ (c : tie.After-write-table) where
   enough = let e = c .before .before .before .before .before in omega (arith, e .before .before .target-count .ensures .0, e .if2 .left)
 
   table : Table new
-  table = new-table-of (graph started) (rule started) (images started) (started .pre .0) (started .pre .1 .0) (started .pre .1 .1 .0)
+  table = new-table-of (graph started) (rule started) (images started) (started .pre .0)
       (fit listed) (listed .lowest-free .result .count) (listed .lowest-free .result .slots) (places listed) enough
 
 -- the block's cycle is the new table's
@@ -175,7 +175,7 @@ returns-3 c =
     let l = listed w in
     let s = begun l in
     planned-refused _ _ _ (refusal newCycle) (c .refuse3 .ensures)
-    (cyclic (graph s) (rule s) (images s) (s .pre .0) (s .pre .1 .0) (s .pre .1 .1 .0) (fit l)
+    (cyclic (graph s) (rule s) (images s) (s .pre .0) (fit l)
     (l .lowest-free .result .count) (l .lowest-free .result .slots) (places l) (enough w) (sym (judged h) ∙ t .if3 .taken))
 
 same-length-2 : tie.Need-same-length-2
@@ -188,7 +188,7 @@ returns-4 c =
     let l = listed w in
     let s = begun l in
     planned-done _ Done _ (new w) (table w) refl
-    (done (graph s) (rule s) (images s) (s .pre .0) (s .pre .1 .0) (s .pre .1 .1 .0) (fit l)
+    (done (graph s) (rule s) (images s) (s .pre .0) (fit l)
     (l .lowest-free .result .count) (l .lowest-free .result .slots) (places l) (enough w) (sym (judged h) ∙ c .if3 .left))
     (w .write-table .ensures)
 

@@ -46,12 +46,12 @@ part-table-start : tie.Need-part-table-start
 part-table-start c = search needs
 
 part-table-end : tie.Need-part-table-end
-part-table-end c = let s = c .before .before .before .before in omega (arith, short (s .args .graph .now) (s .pre .0), c .before .blank .ensures)
+part-table-end c = let s = c .before .before .before .before in omega (arith, short (s .args .graph .now) (s .pre .soundGraph), c .before .blank .ensures)
 
 plan-requires : tie.Need-plan-requires
 plan-requires c κs =
     let s = c .before .before .before .before .before in
-    (s .pre .0, (s .pre .1 .0, (s .pre .1 .1, c .table .given .2 ∙ omega arith)))
+    (s .pre, c .table .given .2 ∙ omega arith)
 
 enum-known-why : tie.Need-enum-known-why
 enum-known-why c = search needs
