@@ -1,78 +1,63 @@
 // The lines that the program prints.
-ghost use Prim.Native.Nat.{_<_, _≤_};
+use definitions::HEADER_BYTES;
+use definitions::INPUT_LIMIT;
+use definitions::OUTPUT_LIMIT;
+use definitions::SLOT_BYTES;
+ghost use Prim.Native.Nat.{_+_, _<_, _≤_};
+ghost use lib.ListN.{length};
 
-// One line: the example's name, and the reply.
-pub fn line(name: &[u8], reply: u64) {
-    io::write_all(1, name);
-    io::write_all(1, b": ");
-    io::print_decimal(1, reply);
-    io::write_all(1, b"\n");
-}
+// Where a header has its outputs, and a slot its inputs and its attributes.
+const OUTPUTS_AT: usize = 10;
 
-// Prints a space and a number.
-fn print_next(value: u64) {
-    io::write_all(1, b" ");
-    io::print_decimal(1, value);
-}
+const INPUTS_AT: usize = 4;
 
-// The byte at `at`, or 0 where the block has none there.
-fn byte_at(block: &[u8], at: usize) -> u8 {
-    if at < block.len() {
-        return block[at];
+const ATTRIBUTES_AT: usize = INPUTS_AT + 2 * INPUT_LIMIT;
+
+// The number in so many bytes from `at` on, the lowest one first. Of more than eight, the first eight count.
+pub fn number(block: &[u8], at: usize, width: usize) -> u64
+    requires { ⌜ at + width ≤ length (now block) ⌝ }
+{
+    let mut value = 0;
+    let mut k = at + width;
+    while at < k {
+        k -= 1;
+        value = value % 72057594037927936 * 256 + block[k] as u64;
     }
-    0
+    value
 }
 
-// The number in four bytes, the lowest one first.
-fn number(first: u8, second: u8, third: u8, fourth: u8) -> u64 {
-    first as u64 + 256 * (second as u64) + 65536 * (third as u64) + 16777216 * (fourth as u64)
-}
-
-// Prints the number in the two bytes from `at` on.
-fn print_u16(block: &[u8], at: usize)
-    requires { ⌜ at < 4000000 ⌝ }
+// Prints the numbers of so many bytes each that stand between two places, with a space before each.
+pub fn print_numbers(block: &[u8], from: usize, to: usize, width: usize)
+    requires { ⌜ from ≤ to ⌝ }
+    requires { ⌜ to ≤ length (now block) ⌝ }
+    requires { ⌜ 0 < width ⌝ }
 {
-    print_next(number(byte_at(block, at), byte_at(block, at + 1), 0, 0));
-}
-
-// Prints the number in the four bytes from `at` on.
-fn print_word(block: &[u8], at: usize)
-    requires { ⌜ at < 4000000 ⌝ }
-{
-    print_next(number(
-        byte_at(block, at),
-        byte_at(block, at + 1),
-        byte_at(block, at + 2),
-        byte_at(block, at + 3),
-    ));
-}
-
-// One line: the name, and so many numbers of two bytes each, the first of which starts at `at`.
-pub fn numbers_line(name: &[u8], block: &[u8], at: usize, count: usize)
-    requires { ⌜ at < 1000 ⌝ }
-    requires { ⌜ count ≤ 16 ⌝ }
-{
-    io::write_all(1, name);
-    let mut j = 0;
-    while j < count {
-        print_u16(block, at + 2 * j);
-        j += 1;
+    let mut at = from;
+    while width <= to - at {
+        io::write_all(1, b" ");
+        io::print_decimal(1, number(block, at, width));
+        at += width;
     }
-    io::write_all(1, b"\n");
 }
 
-// One line: slot k's kind, operator, first two input places and first attribute.
-pub fn slot_line(graph: &[u8], k: usize)
-    requires { ⌜ k < 65536 ⌝ }
-{
-    let at = 24 + 48 * k;
-    io::write_all(1, b"slot ");
-    io::print_decimal(1, k as u64);
-    io::write_all(1, b":");
-    print_next(number(byte_at(graph, at), 0, 0, 0));
-    print_next(number(byte_at(graph, at + 1), 0, 0, 0));
-    print_u16(graph, at + 4);
-    print_u16(graph, at + 6);
-    print_word(graph, at + 16);
-    io::write_all(1, b"\n");
+// A line for a graph's outputs, and one for each slot: its number, kind, operator, first two input places and first attribute. Each
+// follows a line's end.
+pub fn graph_lines(graph: &[u8]) {
+    if graph.len() < HEADER_BYTES {
+        return;
+    }
+    io::write_all(1, b"\noutputs:");
+    print_numbers(graph, OUTPUTS_AT, OUTPUTS_AT + 2 * OUTPUT_LIMIT, 2);
+    let mut k: u64 = 0;
+    let mut at = HEADER_BYTES;
+    while SLOT_BYTES <= graph.len() - at {
+        io::write_all(1, b"\nslot ");
+        io::print_decimal(1, k);
+        io::write_all(1, b":");
+        print_numbers(graph, at, at + 2, 1);
+        print_numbers(graph, at + INPUTS_AT, at + INPUTS_AT + 4, 2);
+        print_numbers(graph, at + ATTRIBUTES_AT, at + ATTRIBUTES_AT + 4, 4);
+        k += 1;
+        at += SLOT_BYTES;
+    }
 }
