@@ -1,5 +1,5 @@
 #!/usr/bin/env python3
-"""Writes crates/examples/stdin: the calls that the program of that crate makes.
+"""Writes crates/worked_examples/stdin: the calls that the program of that crate makes.
 
     worked_examples.py            write the file
     worked_examples.py --check    exit 1 if the file is not what this would write
@@ -35,7 +35,7 @@ sys.dont_write_bytecode = True  # before the import, so that no cache is left he
 import assemble
 
 EXAMPLES = Path(__file__).resolve().parent
-CALLS_FILE = EXAMPLES.parent / "crates" / "examples" / "stdin"
+CALLS_FILE = EXAMPLES.parent / "crates" / "worked_examples" / "stdin"
 HEAD = "# Written by examples/worked_examples.py, which says what the lines are.\n"
 
 HEADER_BYTES, SLOT_BYTES, PATTERN_BYTES = 24, 48, 16

@@ -8,7 +8,7 @@ BUILD_EXAMPLE = $(CXX) -std=c++17 $(CXX_WARNINGS) $(CXXFLAGS) -Iinclude -I. -o $
 
 .PHONY: blocks demo examples-tests
 
-# The blocks, and the calls of the program crates/examples, anew from the sources. They
+# The blocks, and the calls of the program crates/worked_examples, anew from the sources. They
 # are committed, so that nobody needs to.
 blocks:
 	$(PYTHON) -B examples/assemble.py examples/blocks examples/source/*.txt

@@ -33,7 +33,7 @@ ROLES = [
      "vacancies redirection target_attributes writing new_table commit rewriting"),
     ("exported operations and answers", "#f9d3c5", "#b83b00", 0.50,
      "reply leafgraph answers"),
-    ("programs", "#f0d8e8", "#8c3a70", 0.50, "examples"),
+    ("programs", "#f0d8e8", "#8c3a70", 0.50, "worked_examples"),
 ]
 COMMON = ("definitions", "laws")
 

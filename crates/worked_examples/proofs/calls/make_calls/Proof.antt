@@ -4,8 +4,8 @@ use mathlib.Core.Path.{_≡_}
 use Prim.Native.Nat.{_-_}
 use borrow.Author.Needs.{needs}
 use lib.ListN.{length}
-use Rattle.examples.proofs.calls.make_calls.Statement.{statement}
-use Rattle.examples.proofs.calls.make_calls.Tie as tie
+use Rattle.worked_examples.proofs.calls.make_calls.Statement.{statement}
+use Rattle.worked_examples.proofs.calls.make_calls.Tie as tie
 
 abbrev Inv-loop : tie.InvT-loop
 Inv-loop text graph₀ rule₀ start₀ call₀ at₀ t8 t9 graph rule start call at = (length graph ≡ length graph₀) × (length rule ≡ length rule₀) × (length start ≡ length start₀)

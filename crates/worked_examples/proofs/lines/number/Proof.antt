@@ -4,8 +4,8 @@ use Prim.Native.Nat.{_-_, _≤_}
 use borrow.Author.Needs.{needs}
 use native.Mathlib.Omega.{arith}
 use lib.ListN.{length}
-use Rattle.examples.proofs.lines.number.Statement.{statement}
-use Rattle.examples.proofs.lines.number.Tie as tie
+use Rattle.worked_examples.proofs.lines.number.Statement.{statement}
+use Rattle.worked_examples.proofs.lines.number.Tie as tie
 
 abbrev Inv-loop : tie.InvT-loop
 Inv-loop block at width value₀ k₀ value k = k ≤ length block

@@ -2,8 +2,8 @@
 -- Assumes nothing.
 use Prim.Native.Nat.{_-_, _≤_}
 use borrow.Author.Needs.{needs}
-use Rattle.examples.proofs.lines.print_numbers.Statement.{statement}
-use Rattle.examples.proofs.lines.print_numbers.Tie as tie
+use Rattle.worked_examples.proofs.lines.print_numbers.Statement.{statement}
+use Rattle.worked_examples.proofs.lines.print_numbers.Tie as tie
 
 abbrev Inv-loop : tie.InvT-loop
 Inv-loop block from to width at₀ t6 at = at ≤ to

@@ -3,8 +3,8 @@
 use mathlib.Core.Path.{sym}
 use Prim.Native.Nat.{ℕ}
 use lib.ListN.{length-replicate}
-use Rattle.examples.proofs.text_room.Statement.{statement}
-use Rattle.examples.proofs.text_room.Tie as tie
+use Rattle.worked_examples.proofs.text_room.Statement.{statement}
+use Rattle.worked_examples.proofs.text_room.Tie as tie
 
 returns : tie.Need-returns
 returns c = sym (length-replicate {0} {A = ℕ} 262144 0)

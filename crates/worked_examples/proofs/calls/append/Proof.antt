@@ -4,8 +4,8 @@ use mathlib.Core.Path.{_≡_}
 use Prim.Native.Nat.{_-_}
 use borrow.Author.Needs.{needs}
 use lib.ListN.{length}
-use Rattle.examples.proofs.calls.append.Statement.{statement}
-use Rattle.examples.proofs.calls.append.Tie as tie
+use Rattle.worked_examples.proofs.calls.append.Statement.{statement}
+use Rattle.worked_examples.proofs.calls.append.Tie as tie
 
 abbrev Inv-loop : tie.InvT-loop
 Inv-loop text block₀ from at₀ filled₀ block at filled = length block ≡ length block₀

@@ -3,8 +3,8 @@
 use Prim.Native.Nat.{_-_, _≤_}
 use borrow.Author.Needs.{needs}
 use lib.ListN.{length}
-use Rattle.examples.proofs.lines.graph_lines.Statement.{statement}
-use Rattle.examples.proofs.lines.graph_lines.Tie as tie
+use Rattle.worked_examples.proofs.lines.graph_lines.Statement.{statement}
+use Rattle.worked_examples.proofs.lines.graph_lines.Tie as tie
 
 abbrev Inv-loop : tie.InvT-loop
 Inv-loop graph k₀ at₀ t5 t6 k at = (at ≤ length graph) × (k ≤ at)
