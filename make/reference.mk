@@ -20,7 +20,7 @@ reference-tests:
 run-only-test: | build
 	$(IN_REFERENCE) build $(LOCKED) --release -p leafgraph_reference
 	$(REFERENCE_BIN)/run_examples > build/run_only
-	diff crates/examples/stdout build/run_only
+	diff crates/worked_examples/stdout build/run_only
 
 comparison: run-only-test $(ARCHIVE)
 	$(IN_REFERENCE) build $(LOCKED) --release -p compare

@@ -6,10 +6,12 @@
 
 A crate stands above all that it cites. An arrow that follows from others is
 left out (transitive reduction), and so are all arrows to the crates of COMMON,
-which nearly every crate cites. Lines that merge lead to the same crate. A new
-crate of crates.txt needs a role in ROLES.
+which nearly every crate cites. Lines that merge lead to the same crate. A crate's
+group is the heading of crates.txt under which it stands; GROUPS has its colour.
 """
 
+import functools
+import re
 import sys
 from pathlib import Path
 
@@ -17,27 +19,22 @@ HERE = Path(__file__).resolve().parent
 PICTURE = HERE / "crates.svg"
 CRATES = HERE.parent.parent / "crates.txt"
 
-# Each role: its title, fill, line colour, where its crates are pulled to
-# (0 is the left edge, 1 the right one), and its crates.
-ROLES = [
-    ("definitions and theory", "#dcecf9", "#1f6fb2", 0.95,
-     "definitions laws theory encoding replacement shapes"),
-    ("fields and numbers", "#e8e8e8", "#4d4d4d", 0.60,
-     "fields graph_fields rule_fields rule_nodes operators numbers"),
-    ("checks", "#fbf3b5", "#8a7500", 0.15,
-     "acyclic graph_faults graph_check rule_records rule_order rule_outputs"
-     " rule_expressions rule_check blocks"),
-    ("matching", "#cfeee2", "#00795c", 0.40,
-     "attributes uses matching search find_match"),
-    ("rewriting", "#fde2bd", "#b06200", 0.75,
-     "vacancies redirection target_attributes writing new_table commit rewriting"),
-    ("exported operations and answers", "#f9d3c5", "#b83b00", 0.50,
-     "reply leafgraph answers"),
-    ("programs", "#f0d8e8", "#8c3a70", 0.50, "examples"),
-]
+# Each group of crates.txt: its fill, its line colour, and where its crates are
+# pulled to (0 is the left edge, 1 the right one).
+GROUPS = {
+    "surface": ("#f0d8e8", "#8c3a70", 0.50),
+    "operations": ("#f9d3c5", "#b83b00", 0.50),
+    "matching": ("#cfeee2", "#00795c", 0.40),
+    "rewriting": ("#fde2bd", "#b06200", 0.75),
+    "graph": ("#fbf3b5", "#8a7500", 0.25),
+    "rule": ("#e0dcf5", "#5b4bab", 0.10),
+    "ground": ("#e8e8e8", "#4d4d4d", 0.60),
+    "meaning": ("#dcecf9", "#1f6fb2", 0.95),
+}
+HEADING = re.compile(r"# ---- (\w+)")
 COMMON = ("definitions", "laws")
 
-WIDTH, MARGIN = 1250, 30
+LEAST_WIDTH, MARGIN = 1250, 30  # the picture is as wide as its widest row wants
 BOX_HEIGHT, ROW_HEIGHT, TOP = 34, 92, 132
 LANE, GAP = 10, 20  # a passing line's width, the gap between two things of a row
 FONT = "font-family=\"DejaVu Sans, Verdana, Arial, sans-serif\""
@@ -49,21 +46,39 @@ class Fault(Exception):
 
 # ---- the crates
 
-def read_crates():
-    """Each crate with the crates of the repository that it cites."""
-    cites = {}
+def crate_lines():
+    """The group, the name and the citations of each crate."""
+    group = None
     for line in CRATES.read_text(encoding="utf-8").splitlines():
+        heading = HEADING.match(line)
+        if heading:
+            group = heading[1]
         name, colon, rest = line.split("#")[0].partition(":")
         if colon:
-            cites[name.strip()] = rest.split()
+            yield group, name.strip(), rest.split()
+
+
+def read_crates():
+    """Each crate with the crates of the repository that it cites."""
+    cites = {name: rest for _, name, rest in crate_lines()}
     return {name: {other for other in rest if other in cites} for name, rest in cites.items()}
 
 
-def role_of(name):
-    for role in ROLES:
-        if name in role[4].split():
-            return role
-    raise Fault(f"crates.py: crate {name} has no role: name it in ROLES")
+@functools.cache
+def groups():
+    """The group of each crate."""
+    found = {name: group for group, name, _ in crate_lines()}
+    for name, group in found.items():
+        if group is None:
+            raise Fault(f"crates.txt: crate {name} has no group: it stands above the first heading")
+        if group not in GROUPS:
+            raise Fault(f"crates.txt: crate {name} is in the group {group}, which crates.py does not know: name it in GROUPS")
+    return found
+
+
+def look_of(name):
+    """The look of a crate's group."""
+    return GROUPS[groups()[name]]
 
 
 def below(cites, name):
@@ -130,13 +145,19 @@ def box_width(name):
     return 22 + 8.6 * len(name)
 
 
-def pull(thing):
-    """Where a thing's role wants it."""
+def width_of(things):
+    """A width in which each row has its things and gaps."""
+    rows = (sum(2 * half(t) for t in level) + GAP * (len(level) - 1) for level in things)
+    return max(LEAST_WIDTH, int(max(rows)) + 1 + 2 * MARGIN)
+
+
+def pull(thing, width):
+    """Where a thing's group wants it."""
     name = thing[0] if isinstance(thing, tuple) else thing
-    return MARGIN + role_of(name)[3] * (WIDTH - 2 * MARGIN)
+    return MARGIN + look_of(name)[2] * (width - 2 * MARGIN)
 
 
-def spread(order, wish):
+def spread(order, wish, width):
     """The places nearest to the wished ones that keep the order and the gaps."""
     offsets, at = [], 0.0
     for k, thing in enumerate(order):
@@ -151,7 +172,7 @@ def spread(order, wish):
             groups[-1] = [total / (groups[-1][1] + count), groups[-1][1] + count]
     base = [value for value, count in groups for _ in range(count)]
     low = MARGIN + half(order[0])
-    high = WIDTH - MARGIN - half(order[-1]) - offsets[-1]
+    high = width - MARGIN - half(order[-1]) - offsets[-1]
     return {t: min(max(b, low), high) + o for t, b, o in zip(order, base, offsets)}
 
 
@@ -187,22 +208,22 @@ def untangle(order, near, place, other):
     return order
 
 
-def places(things, lines, rounds=60):
+def places(things, lines, width, rounds=60):
     """The middle of each thing, from left to right."""
     near = neighbours(lines)
-    place = {thing: pull(thing) for level in things for thing in level}
+    place = {thing: pull(thing, width) for level in things for thing in level}
     for turn in range(rounds):
         weight = 0.35 * (1 - turn / rounds)
         levels = range(len(things)) if turn % 2 else range(len(things) - 1, -1, -1)
         for k in levels:
-            around = {t: [place[n] for n in near.get(t, [])] or [pull(t)] for t in things[k]}
-            wish = {t: weight * pull(t) + (1 - weight) * sum(a) / len(a) for t, a in around.items()}
+            around = {t: [place[n] for n in near.get(t, [])] or [pull(t, width)] for t in things[k]}
+            wish = {t: weight * pull(t, width) + (1 - weight) * sum(a) / len(a) for t, a in around.items()}
             order = sorted(things[k], key=lambda t: (wish[t], str(t)))
             if turn >= rounds // 2:
                 order = sorted(things[k], key=lambda t: (place[t], str(t)))
                 beside = [set(things[n]) for n in (k - 1, k + 1) if 0 <= n < len(things)]
                 order = untangle(order, near, place, beside)
-            place.update(spread(order, wish))
+            place.update(spread(order, wish, width))
     return place
 
 
@@ -214,7 +235,7 @@ def top_of(level, count):
 
 def box(name, middle, top, width=None):
     width = width or box_width(name)
-    _, fill, line, _, _ = role_of(name)
+    fill, line, _ = look_of(name)
     return (
         f'<rect x="{middle - width / 2:.1f}" y="{top}" width="{width:.1f}" height="{BOX_HEIGHT}" rx="5"'
         f' fill="{fill}" stroke="{line}" stroke-width="1.6"/>\n'
@@ -241,7 +262,7 @@ def line_path(line, place, port, row, count):
     level = lower[1] if isinstance(lower, tuple) else row[lower]
     y2 = top_of(level, count)
     y1 = y2 - ROW_HEIGHT + BOX_HEIGHT
-    color = role_of(target)[2]
+    color = look_of(target)[1]
     path = f"M{start:.1f} {y1} C{start:.1f} {y1 + 30} {end:.1f} {y2 - 34} {end:.1f} {y2 - 8}"
     if isinstance(lower, tuple):
         path += f" V{y2 + BOX_HEIGHT}"
@@ -253,12 +274,12 @@ def line_path(line, place, port, row, count):
     )
 
 
-def legend():
+def legend(width):
     text = f'<text x="{MARGIN}" y="38" font-size="20" font-weight="bold">The crates of leafgraph</text>\n'
     x, y = MARGIN, 56
-    for title, fill, line, _, _ in ROLES:
+    for title, (fill, line, _) in GROUPS.items():
         wide = 54 + 6.7 * len(title)
-        if x + wide > WIDTH - MARGIN:
+        if x + wide > width - MARGIN:
             x, y = MARGIN, y + 24
         text += (
             f'<rect x="{x:.1f}" y="{y}" width="20" height="14" rx="3" fill="{fill}" stroke="{line}"'
@@ -269,14 +290,14 @@ def legend():
     return text + f'<text x="{MARGIN}" y="{y + 38}" font-size="13">{said}</text>\n'
 
 
-def foundation(cites, top):
+def foundation(cites, top, width):
     """The crates that nearly all cite, and a line that says which do not."""
-    width = (WIDTH - 2 * MARGIN - GAP) / 2
+    part = (width - 2 * MARGIN - GAP) / 2
     text, said = "", []
     for k, name in enumerate(COMMON):
-        text += box(name, MARGIN + width / 2 + k * (width + GAP), top, width)
+        text += box(name, MARGIN + part / 2 + k * (part + GAP), top, part)
         others = sorted(c for c in cites if c != name and c not in COMMON and name not in cites[c])
-        said.append(f"{name} is cited by all crates above but " + ", ".join(others))
+        said.append(f"{name} is cited by all crates above" + (" but " + ", ".join(others) if others else ""))
     notes = ["; ".join(said) + ": these arrows are left out.",
              "Left out, too: an arrow where others lead from the same crate to the same crate by way of a third."]
     for k, note in enumerate(notes):
@@ -289,20 +310,21 @@ def drawing():
     shown = reduced(cites)
     row = rows_of(shown)
     things, lines = points_of(shown, row)
-    place = places(things, lines)
+    width = width_of(things)
+    place = places(things, lines, width)
     port, count = ports(lines, place), len(things)
     height = top_of(0, count) + ROW_HEIGHT + 96
     text = (
-        f'<svg xmlns="http://www.w3.org/2000/svg" width="{WIDTH}" height="{height}"'
-        f' viewBox="0 0 {WIDTH} {height}" {FONT} fill="#111111">\n'
+        f'<svg xmlns="http://www.w3.org/2000/svg" width="{width}" height="{height}"'
+        f' viewBox="0 0 {width} {height}" {FONT} fill="#111111">\n'
         f'<!-- written by docs/pictures/crates.py from crates.txt -->\n'
-        f'<rect width="{WIDTH}" height="{height}" fill="#ffffff"/>\n'
+        f'<rect width="{width}" height="{height}" fill="#ffffff"/>\n'
     )
-    text += legend()
+    text += legend(width)
     text += "".join(line_path(line, place, port, row, count) for line in lines)
     for name in sorted(shown):
         text += box(name, place[name], top_of(row[name], count))
-    return text + foundation(cites, top_of(0, count) + ROW_HEIGHT - 8) + "</svg>\n"
+    return text + foundation(cites, top_of(0, count) + ROW_HEIGHT - 8, width) + "</svg>\n"
 
 
 def main(arguments):

@@ -13,12 +13,13 @@ use lib.ListN.{length, getD, set, replicate, length-set}
 use lib.Seq.{getD-set-same, getD-set-other}
 use Rattle.definitions.specs.Graph.{unusedPlace, emptySlot, slotCount, graphOf, inputsOf, hasCycle}
 use Rattle.definitions.specs.Paths.{Reads, Reaches, here, onward, acyclicBelow}
-use Rattle.laws.proofs.Lists.{decided}
+use Rattle.laws.proofs.Lists.{decided, allBelow-at, all-member}
 use Rattle.laws.proofs.Graph.{length-slots, inputs-past, reader-inside}
 use Rattle.laws.proofs.Members.{mem-place}
 use Rattle.theory.proofs.Paths.{Table, Grounded, grounded, reaches-trans, cyclic, grounded-acyclic}
 use Rattle.graph_fields.specs.Layout.{Closed}
 use Rattle.acyclic.specs.Search.{Sized, Quiet, Kept, Searched}
+use Rattle.acyclic.specs.Sorted.{readsLower, sorted}
 
 -- ---- lists
 
@@ -315,3 +316,18 @@ module _ {block : List ℕ} (closed : Closed block) where
         (λ (z : (getD progress v 0 ≡ 8) × Grounded (inputsOf (graphOf block)) v). z .1)
         (quiet v)),
   )
+
+  -- in a sorted table the slots below any bound lead to no cycle, by induction on the bound
+  sorted-grounded : sorted (inputsOf (graphOf block)) (slotCount block) ≡ true → (n v : ℕ) → v < n → v < slotCount block
+      → Grounded (inputsOf (graphOf block)) v
+  unfolding sorted readsLower
+  sorted-grounded h zero v l k = absurd (not-suc-le-zero l)
+  sorted-grounded h (suc n) v l k = grounded {v = v} (λ u m.
+      let lower = allBelow-at (readsLower (inputsOf (graphOf block))) (slotCount block) v h k in
+      let low : u < v = ltb-true u v (all-member (λ w. ltb w v) lower m) in
+      sorted-grounded h n u (omega arith) (omega arith))
+
+  -- and so it has no cycle
+  pub sorted-acyclic : sorted (inputsOf (graphOf block)) (slotCount block) ≡ true → false ≡ hasCycle (graphOf block)
+  unfolding hasCycle
+  sorted-acyclic h = rw (length-slots, grounded-acyclic table (λ v l. sorted-grounded h (suc v) v (omega arith) l))

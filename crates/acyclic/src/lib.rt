@@ -1,4 +1,5 @@
-// Whether a graph has a cycle. The search goes depth first, from each slot along its inputs. Every turn of it raises the progress of
+// Whether a graph has a cycle. A sorted table, in which every slot reads lower slots only, has none; in another one a cycle is searched
+// for. The search goes depth first, from each slot along its inputs. Every turn of it raises the progress of
 // one slot, which is never above 8, so that the time grows with the number of slots and not faster. It has no recursion, and the
 // way back needs no stack of its own, whose height would have to be bounded.
 use definitions::SLOT_LIMIT;
@@ -10,6 +11,7 @@ ghost use Prim.Native.Nat.{_<_};
 ghost use Rattle.definitions.specs.Graph.{slotCount, graphOf, inputsOf, hasCycle};
 ghost use Rattle.graph_fields.specs.Layout.{ReadableGraph, Closed};
 ghost use Rattle.acyclic.specs.Search.{Sized, Ready, Searched};
+ghost use Rattle.acyclic.specs.Sorted.{readsLower, sorted};
 
 // A slot's progress is 0 before it is entered, 1 + i once i of its inputs are known to lead to no cycle, and this when the slot
 // itself is known to. It has at most 6 inputs, so the three do not overlap.
@@ -60,12 +62,48 @@ fn finds_cycle(
     }
 }
 
-// Whether some slot leads to itself along inputs.
+// Whether every input of slot k names a lower slot.
+fn reads_lower(graph: &[u8], k: usize) -> bool
+    requires { ⌜ ReadableGraph (now graph) ⌝ }
+    requires { ⌜ k < slotCount (now graph) ⌝ }
+    ensures { λ r. ⌜ r ≡ readsLower (inputsOf (graphOf (now (graph .entry)))) k ⌝ }
+{
+    let inputs = input_count(graph, k);
+    let mut i = 0;
+    while i < inputs {
+        if k <= input_at(graph, k, i) {
+            return false;
+        }
+        i += 1;
+    }
+    true
+}
+
+// Whether the table is sorted.
+fn is_sorted(graph: &[u8]) -> bool
+    requires { ⌜ ReadableGraph (now graph) ⌝ }
+    ensures { λ r. ⌜ r ≡ sorted (inputsOf (graphOf (now (graph .entry)))) (slotCount (now (graph .entry))) ⌝ }
+{
+    let count = slot_count(graph);
+    let mut k = 0;
+    while k < count {
+        if !reads_lower(graph, k) {
+            return false;
+        }
+        k += 1;
+    }
+    true
+}
+
+// Whether some slot leads to itself along inputs. A sorted table has no cycle, and is not searched.
 pub fn has_cycle(graph: &[u8]) -> bool
     requires { ⌜ ReadableGraph (now graph) ⌝ }
     requires { ⌜ Closed (now graph) ⌝ }
     ensures { λ r. ⌜ r ≡ hasCycle (graphOf (now (graph .entry))) ⌝ }
 {
+    if is_sorted(graph) {
+        return false;
+    }
     let count = slot_count(graph);
     let mut progress = [0u8; SLOT_LIMIT];
     let mut parent = [0u16; SLOT_LIMIT];

@@ -12,15 +12,15 @@ use lib.Dec.{eqb}
 use lib.ListN.{length}
 use Rattle.definitions.specs.declared.Refusal.{Refusal}
 use Rattle.definitions.specs.declared.Reply.{Reply}
-use Rattle.definitions.specs.declared.Reply.the-variants.{Done, Refused}
+use Rattle.definitions.specs.declared.Reply.the-variants.{Refused}
 use Rattle.definitions.specs.Lists.{member}
-use Rattle.definitions.specs.Reply.{done, badMapLength, badGraph, badRule, noPlace, refusal, refused, numberOf, indexOf, valueBeside, packed, numberIn, placeIn, valueIn, firstRefusal}
+use Rattle.definitions.specs.Reply.{done, badMapLength, badGraph, badRule, noPlace, refusal, refused, numberOf, indexOf, packed, numberIn, placeIn, valueIn, firstRefusal}
 use Rattle.definitions.specs.Graph.{graphFaults, graphReply, SoundGraph}
 use Rattle.definitions.specs.Rule.{sideLimit, ruleFaults, ruleReply, SoundRule}
 use Rattle.definitions.specs.Operations.{Outcome, Returned, outcome, atReturn, returned, mapBytes, mapReply, blocksReply}
 use Rattle.laws.proofs.Lists.{decided, true-not-false}
-use Rattle.laws.proofs.Reply.{number-packed, place-packed, value-packed, Plain, plain-done, plain-refused, done-or-refused, judged-either, first-done, first-refused}
-use Rattle.laws.proofs.Operations.{graph-plain, rule-plain, blocks-plain}
+use Rattle.laws.proofs.Reply.{number-packed, place-packed, value-packed, Plain, plain-refused, done-or-refused, judged-either, first-done, first-refused}
+use Rattle.laws.proofs.Operations.{graph-plain, rule-plain}
 use Rattle.graph_check.proofs.Sound as GraphSound
 use Rattle.rule_check.proofs.Sound as RuleSound
 use Rattle.answers.specs.Statements.{WithoutPlace, Good, blockNumbers, BlockReplies, Verdict, CheckedGraph, GraphVerdict, CheckedRule, RuleVerdict}

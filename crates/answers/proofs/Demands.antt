@@ -23,7 +23,7 @@ use Rattle.encoding.proofs.Blocks.{block-back, block-sound}
 use Rattle.replacement.proofs.Site.{Site, site}
 use Rattle.replacement.proofs.Table.{stays-vertex, staying-vertex, new-outputs, new-layout}
 use Rattle.replacement.proofs.Kept.{keeps-untouched, keeps-staying, keeps-outputs}
-use Rattle.shapes.proofs.Sound.{new-table, new-table-words}
+use Rattle.replacement.proofs.Sound.{new-table, new-table-words}
 use Rattle.answers.specs.Written.{imagesIn}
 use Rattle.answers.specs.Rewritten.{Keeps}
 use Rattle.answers.specs.Statements.{Rewrote, Demand3}

@@ -11,7 +11,7 @@ use lib.IntN.{ℤ}
 use Rattle.definitions.specs.Reply.{noMatch, noResult, noRoom, newCycle}
 use Rattle.definitions.specs.Graph.{Graph}
 use Rattle.definitions.specs.Rule.{Rule}
-use Rattle.definitions.specs.Match.{readAttribute, Match, LeastFrom, leastMatch}
+use Rattle.definitions.specs.Match.{readAttribute, LeastFrom, leastMatch}
 use Rattle.definitions.specs.Rewriting.{targetResults, hasRoom}
 use Rattle.laws.proofs.Lists.{option-either}
 use Rattle.theory.proofs.Fixing.{Fixing}

@@ -15,8 +15,7 @@ use Rattle.definitions.specs.Graph.{Graph, graphOf, SoundGraph}
 use Rattle.definitions.specs.Rule.{sourceCount, Rule, ruleOf, SoundRule}
 use Rattle.definitions.specs.Match.{MatchFrom, outputImages, NotAfter, leastMatch}
 use Rattle.definitions.specs.Operations.{Outcome, outcome, mapBytes, mapBlock, matched, findMatch}
-use Rattle.laws.proofs.Lists.{true-not-false, option-either}
-use Rattle.laws.proofs.Reply.{Plain, plain-done, plain-refused}
+use Rattle.laws.proofs.Lists.{option-either}
 use Rattle.laws.proofs.Members.{member-left}
 use Rattle.laws.proofs.Operations.{matched-plain}
 use Rattle.theory.proofs.Fixing.{sound-fixing}

@@ -9,7 +9,7 @@ use Prim.Native.Nat.{ℕ, zero, suc, _+_, _<_, _≤_}
 use native.Mathlib.Omega.{arith}
 use borrow.Author.Tests.{not-true, leb-true, leb-false, le-leb, lt-leb}
 use lib.ListN.{length, length-map}
-use Rattle.definitions.specs.Lists.{tabulate, filter, member, range}
+use Rattle.definitions.specs.Lists.{tabulate, filter, member, range, total}
 use Rattle.definitions.specs.Graph.{Graph, isVertex}
 use Rattle.definitions.specs.Rule.{Rule, isRuleInput}
 use Rattle.definitions.specs.Match.{imageOf, innerImages, Match}
@@ -18,8 +18,7 @@ use Rattle.laws.proofs.Lists.{decided}
 use Rattle.laws.proofs.Members.{holds, member-mem, mem-member}
 use Rattle.laws.proofs.Filtered.{filtered-count}
 use Rattle.laws.proofs.Match.{image-inside, inner-image, image-inner, inner-distinct, inner-below}
-use Rattle.uses.specs.Uses.{total}
-use Rattle.uses.proofs.Sums.{total-same, sumOver, sum-map, sum-filter, sum-range, total-parts}
+use Rattle.laws.proofs.Sums.{total-same, sumOver, sum-map, sum-filter, sum-range, total-parts}
 use Rattle.answers.specs.Rewritten.{room}
 
 -- those below n of which a test holds are as many as the sum of ones for them

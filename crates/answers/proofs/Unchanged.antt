@@ -1,7 +1,7 @@
 -- 'Nothing else changes': a vertex that stays and reads no replaced output keeps every byte of its record. Theorems from the contract of
 -- lg_rewrite alone.
 -- Assumes nothing.
-use mathlib.Core.Path.{_≡_, sym, ap, _∙_}
+use mathlib.Core.Path.{_≡_, sym, ap, ap₂, _∙_}
 use mathlib.Core.List.{List, map-id}
 use Prim.Native.Nat.{ℕ, _+_, _<_}
 use lib.Dec.{T}
@@ -15,6 +15,7 @@ use Rattle.definitions.specs.Rewriting.{stays, redirect, stayingSlot, newGraph}
 use Rattle.laws.proofs.Lists.{map-same}
 use Rattle.laws.proofs.Members.{holds, no-member}
 use Rattle.laws.proofs.Rewriting.{new-length}
+use Rattle.encoding.proofs.Tails.{tail-zero}
 use Rattle.encoding.proofs.Blocks.{record-held}
 use Rattle.encoding.proofs.Graphs.{table-of, canonical}
 use Rattle.replacement.proofs.Table.{stays-inside, redirect-other, slot-staying}
@@ -47,6 +48,7 @@ module _ (graph rule : List ℕ) (start : ℕ) (before : List ℕ) (reply : ℕ)
       let insideNew : k < length (new .slots) = rw (new-length g r images values) inside in
       ap (λ block. byteAt block (recordAt k + i)) (a .1 .block)
       ∙ record-held new (table graph rule images values (a .1)) k insideNew i l
-      ∙ ap (λ (s : Slot). getD (slotBlock s) i 0) (slot-staying g r images values site k stay ∙ slot-kept g r images k none)
+      ∙ ap₂ (λ (tail : List ℕ) (s : Slot). getD (slotBlock tail s) i 0) (tail-zero new k ∙ sym (tail-zero g k))
+      (slot-staying g r images values site k stay ∙ slot-kept g r images k none)
       ∙ sym (record-held g (table-of graph (a .1 .sound)) k inside i l)
       ∙ ap (λ block. byteAt block (recordAt k + i)) (canonical graph (a .1 .sound) (contract .lentGraph))

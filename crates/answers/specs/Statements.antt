@@ -16,8 +16,8 @@ use lib.ListN.{length}
 use Rattle.definitions.specs.Lists.{member}
 use Rattle.definitions.specs.Fields.{Bytes, byteAt, u16At}
 use Rattle.definitions.specs.Reply.{badMapLength, badGraph, badRule, noMatch, noResult, noRoom, newCycle, packed, numberIn, placeIn, valueIn}
-use Rattle.definitions.specs.Graph.{unusedPlace, slotBytes, recordAt, Graph, graphOf, graphBlock, graphReply, SoundGraph}
-use Rattle.definitions.specs.Rule.{sourceCount, Rule, ruleOf, ruleReply, SoundRule}
+use Rattle.definitions.specs.Graph.{unusedPlace, slotBytes, recordAt, graphOf, graphBlock, graphReply, SoundGraph}
+use Rattle.definitions.specs.Rule.{sourceCount, ruleOf, ruleReply, SoundRule}
 use Rattle.definitions.specs.Match.{readAttribute, MatchFrom, LeastFrom}
 use Rattle.definitions.specs.Rewriting.{targetResults, stays, newGraph}
 use Rattle.definitions.specs.Operations.{atReturn, returned, mapPlaces, mapBytes, findMatch, rewrite}

@@ -1,35 +1,32 @@
--- Laws about what expressions give: which attributes they read, how a node's result comes from those of its operands, and when a
--- memo of results stays right.
+-- Laws about what evaluating asks, and about agreement: of a list of expressions with words, one by one; which attributes an expression reads; and of the expression of
+-- a node, by what the node gives.
 -- Assumes nothing.
 use mathlib.Core.Path.{_≡_, refl, sym, ap, ap₂, _∙_}
-use mathlib.Core.Bool.{Bool, true, false, _&&_, and-true, and-false, and-assoc}
+use mathlib.Core.Bool.{Bool, true, false, _&&_, and-true, and-assoc}
 use mathlib.Core.List.{List, [], _∷_}
 use mathlib.Core.Logic.{⊎-elim}
-use mathlib.Core.Option.{Option, none, some}
-use Prim.Native.Nat.{ℕ, zero, suc, _+_, _-_, _<_, _≤_}
+use mathlib.Core.Option.{Option}
+use Prim.Native.Nat.{ℕ, zero, suc, _+_, _<_, _≤_}
 use native.Mathlib.Omega.{arith}
-use borrow.Author.Tests.{ltb-true, ltb-false, le-leb, lt-leb, eq-eqb, ne-eqb, eqb-true, eqb-false}
-use lib.Dec.{eqb, ltb}
+use borrow.Author.Tests.{ltb-true, eqb-true, eqb-false}
+use lib.Dec.{eqb}
 use lib.IntN.{ℤ}
-use lib.ListN.{length, getD, set, replicate, length-set}
-use lib.Seq.{getD-set-same, getD-set-other}
-use Rattle.definitions.specs.Lists.{within, allBelow, allPairs, build}
-use Rattle.definitions.specs.Fields.{u32At, signed}
-use Rattle.definitions.specs.Graph.{Slot, Graph, emptySlot, slotCount, graphOf, slotOf}
-use Rattle.definitions.specs.Rule.{sourceCount, nodeCount, nodeAt, Expression, anything, constant, access, apply, formAny, formConstant, formAccess, nodeForm, nodeLeft, nodeRight, nodeFrom, expressions, expressionOf, nodeFits, accessesBelow}
+use lib.ListN.{length, getD}
+use Rattle.definitions.specs.Lists.{allBelow, allPairs}
+use Rattle.definitions.specs.Fields.{signed}
+use Rattle.definitions.specs.Rule.{nodeCount, Expression, anything, constant, access, apply, formAny, formConstant, formAccess, nodeForm, expressionOf, nodeFits, accessesBelow}
 use Rattle.definitions.specs.Attributes.{combine, result, gives, agrees}
-use Rattle.definitions.specs.Match.{imageOf, attributeOf, readAttribute}
-use Rattle.laws.proofs.Lists.{decided, and-left, and-right, needed, allBelow-step, allBelow-fails}
-use Rattle.laws.proofs.Builds.{build-at, getD-none}
-use Rattle.laws.proofs.Graph.{length-slots, slot-past}
-use Rattle.laws.proofs.Match.{image-at}
-use Rattle.rule_expressions.proofs.Laws.{left-earlier, right-earlier}
-use Rattle.numbers.specs.declared.Value.{Value}
-use Rattle.numbers.specs.declared.Value.the-variants.{Nothing, Plus, Minus}
-use Rattle.numbers.specs.Value.{valueOf, bounded, operationOf}
-use Rattle.numbers.proofs.Laws.{combine-bounded, signed-inRange}
-use Rattle.attributes.specs.Evaluable.{agreeFirst}
-use Rattle.attributes.specs.Memo.{nodeResult, stateOf, magnitudeOf, remembered, Memo}
+use Rattle.laws.proofs.Lists.{decided, and-left, and-right, allBelow-step, allBelow-fails}
+use Rattle.match_values.specs.Evaluable.{NodeEvaluation}
+use Rattle.match_values.proofs.Laws.{any-node, constant-node, access-node, operation-node}
+use Rattle.attributes.specs.Agreement.{agreeFirst}
+use Rattle.attributes.specs.Evaluation.{Evaluation}
+
+-- ---- what evaluating asks
+
+-- what the attributes of a vertex ask is enough for each node that they name
+pub of-nodes : {graph rule images : List ℕ} → Evaluation graph rule images → NodeEvaluation graph rule images
+of-nodes e = record { table = e .table; whole = e .patterns .whole; evaluable = e .evaluable; imageSize = e .imageSize }
 
 -- ---- what a list of expressions agrees with
 
@@ -99,213 +96,24 @@ agree-first-below read other j ps ws h same =
     (λ i. agrees other (getD ps i anything) (signed (getD ws i 0))) (length ps)
     (λ i l. agrees-below read other j (getD ps i anything) (signed (getD ws i 0)) (h i l) same)
 
--- ---- attributes of images
+-- ---- the expression of a node
 
-module _ (s : Slot) (b : ℕ) where
-  pub place-zero : b < 1 → none ≡ attributeOf s b
-  unfolding attributeOf
-  place-zero h = simp (lt-leb 1 b h)
+-- e is the expression of node k
+module _ (block : List ℕ) (k : ℕ) (inside : k < nodeCount block) (read : ℕ → ℕ → Option ℤ) (e : Expression) (z : ℤ)
+    (named : expressionOf block k ≡ e) where
+  pub any-agrees : nodeForm block k ≡ formAny → true ≡ agrees read e z
+  unfolding agrees
+  any-agrees h = rw (← named, any-node block k inside h)
 
-  pub place-past : length (s .attributes) < b → none ≡ attributeOf s b
-  unfolding attributeOf
-  place-past h = simp (le-leb 1 b (omega arith), lt-leb b (length (s .attributes)) h)
-
-  pub place-within : 1 ≤ b → b ≤ length (s .attributes) → some (signed (getD (s .attributes) (b - 1) 0)) ≡ attributeOf s b
-  unfolding attributeOf
-  place-within h l = simp (le-leb 1 b h, le-leb b (length (s .attributes)) l)
-
--- w is the image of v
-module _ (graph images : List ℕ) (v b w : ℕ) (place : v < length images) (image : w ≡ getD images v 0) where
-  read-of : attributeOf (slotOf (graphOf graph) w) b ≡ readAttribute (graphOf graph) images v b
-  unfolding readAttribute
-  read-of = ap (λ (u : ℕ). attributeOf (slotOf (graphOf graph) u) b) (image ∙ sym (image-at images v place))
-
-  -- what is no slot has no attributes
-  pub read-no-slot : slotCount graph ≤ w → none ≡ readAttribute (graphOf graph) images v b
-  unfolding emptySlot
-  read-no-slot h =
-      rw (← read-of, slot-past (graphOf graph) w (rw (length-slots graph) h)) (⊎-elim
-      (λ (t : ltb b 1 ≡ true). place-zero emptySlot b (ltb-true b 1 t))
-      (λ (t : ltb b 1 ≡ false). place-past emptySlot b (omega (arith, ltb-false b 1 t)))
-      (decided (ltb b 1)))
-
-  pub read-zero : b < 1 → none ≡ readAttribute (graphOf graph) images v b
-  read-zero h = place-zero (slotOf (graphOf graph) w) b h ∙ read-of
-
-  pub read-past : length (slotOf (graphOf graph) w .attributes) < b → none ≡ readAttribute (graphOf graph) images v b
-  read-past h = place-past (slotOf (graphOf graph) w) b h ∙ read-of
-
-  pub read-within : 1 ≤ b → b ≤ length (slotOf (graphOf graph) w .attributes)
-      → some (signed (getD (slotOf (graphOf graph) w .attributes) (b - 1) 0)) ≡ readAttribute (graphOf graph) images v b
-  read-within h l = place-within (slotOf (graphOf graph) w) b h l ∙ read-of
-
--- ---- every result is in range
-
-attribute-bounded : (s : Slot) (b : ℕ) → bounded (attributeOf s b) ≡ true
-unfolding attributeOf bounded
-attribute-bounded s b =
-    ⊎-elim
-    (λ (t : within 1 b (length (s .attributes)) ≡ true). simp t (signed-inRange (getD (s .attributes) (b - 1) 0)))
-    (λ (f : within 1 b (length (s .attributes)) ≡ false). simp f)
-    (decided (within 1 b (length (s .attributes))))
-
-read-bounded : (g : Graph) (images : List ℕ) (v b : ℕ) → bounded (readAttribute g images v b) ≡ true
-unfolding readAttribute
-read-bounded g images v b = attribute-bounded (slotOf g (imageOf images v)) b
-
--- ---- the nodes of a block
-
-node-built : (block : List ℕ) (k : ℕ) → k < nodeCount block
-    → expressionOf block k ≡ nodeFrom block (build (nodeFrom block) k) k
-unfolding expressionOf expressions
-node-built block k l = build-at (nodeFrom block) (nodeCount block) k anything l
-
-module _ (block : List ℕ) (k : ℕ) (inside : k < nodeCount block) where
-  any-node : nodeForm block k ≡ formAny → expressionOf block k ≡ anything
-  unfolding nodeFrom
-  any-node h = node-built block k inside ∙ simp (eq-eqb (nodeForm block k) formAny h)
-
-  constant-node : nodeForm block k ≡ formConstant → expressionOf block k ≡ constant (signed (u32At block (nodeAt block k + 4)))
-  unfolding nodeFrom
-  constant-node h = node-built block k inside ∙ simp h
-
-  access-node : nodeForm block k ≡ formAccess → expressionOf block k ≡ access (nodeLeft block k) (nodeRight block k)
-  unfolding nodeFrom
-  access-node h = node-built block k inside ∙ simp h
-
-  -- an access that fits names a source vertex
-  pub access-vertex : nodeFits block k ≡ true → nodeForm block k ≡ formAccess → nodeLeft block k < sourceCount block
-  unfolding nodeFits
-  access-vertex fits h =
-      ltb-true (nodeLeft block k) (sourceCount block)
-      (needed (ltb (nodeLeft block k) (sourceCount block)) fits (λ f. simp (h, f, and-false)))
-
-  module _ (fits : nodeFits block k ≡ true) (operation : 2 < nodeForm block k) where
-    operand : (j : ℕ) → j < k → getD (build (nodeFrom block) k) j anything ≡ expressionOf block j
-    operand j l = build-at (nodeFrom block) k j anything l ∙ sym (node-built block j (omega arith))
-
-    operation-node : expressionOf block k
-        ≡ apply (operationOf (nodeForm block k)) (expressionOf block (nodeLeft block k)) (expressionOf block (nodeRight block k))
-    unfolding nodeFrom
-    operation-node =
-        node-built block k inside
-        ∙ simp (
-          ne-eqb (nodeForm block k) formAny (λ e. omega arith),
-          ne-eqb (nodeForm block k) formConstant (λ e. omega arith),
-          ne-eqb (nodeForm block k) formAccess (λ e. omega arith),
-          operand (nodeLeft block k) (left-earlier block k fits operation),
-          operand (nodeRight block k) (right-earlier block k fits operation),
-        )
-
-  -- ---- results and agreement, by the form
-
-  module _ (read : ℕ → ℕ → Option ℤ) where
-    pub any-gives : nodeForm block k ≡ formAny → none ≡ result read (expressionOf block k)
-    unfolding result
-    any-gives h = rw (any-node h)
-
-    pub constant-gives : nodeForm block k ≡ formConstant → some (signed (u32At block (nodeAt block k + 4))) ≡ result read (expressionOf block k)
-    unfolding result
-    constant-gives h = rw (constant-node h)
-
-    access-gives : nodeForm block k ≡ formAccess → read (nodeLeft block k) (nodeRight block k) ≡ result read (expressionOf block k)
-    unfolding result
-    access-gives h = rw (access-node h)
-
-    pub read-gives : (v b : ℕ) (x : Option ℤ) → v ≡ nodeLeft block k → b ≡ nodeRight block k → x ≡ read v b → nodeForm block k ≡ formAccess
-        → x ≡ result read (expressionOf block k)
-    read-gives v b x l r e h = rw (e, l, r) (access-gives h)
-
-    operation-gives : nodeFits block k ≡ true → 2 < nodeForm block k
-        → combine (operationOf (nodeForm block k)) (result read (expressionOf block (nodeLeft block k)))
-        (result read (expressionOf block (nodeRight block k))) ≡ result read (expressionOf block k)
-    unfolding result
-    operation-gives fits h = rw (operation-node fits h)
-
-    -- the same from what was read and worked out
-    pub combined-gives : (form left right : ℕ) (x y z : Option ℤ) → nodeFits block k ≡ true → 2 < nodeForm block k
-        → form ≡ nodeForm block k → left ≡ nodeLeft block k → right ≡ nodeRight block k
-        → x ≡ result read (expressionOf block left) → y ≡ result read (expressionOf block right)
-        → z ≡ combine (operationOf form) x y → z ≡ result read (expressionOf block k)
-    combined-gives form left right x y z fits h f l r d e g = rw (g, d, e, f, l, r) (operation-gives fits h)
-
-    -- e is the node's expression
-    module _ (e : Expression) (z : ℤ) (named : expressionOf block k ≡ e) where
-      pub any-agrees : nodeForm block k ≡ formAny → true ≡ agrees read e z
-      unfolding agrees
-      any-agrees h = rw (← named, any-node h)
-
-      pub result-agrees : (x : Option ℤ) (found : ℤ) → x ≡ result read (expressionOf block k) → found ≡ z
-          → nodeFits block k ≡ true → (nodeForm block k ≡ formAny → ⊥) → gives x found ≡ agrees read e z
-      unfolding agrees
-      result-agrees x found r f fits h =
-          rw (r, f, ← named) (⊎-elim
-          (λ (t : eqb (nodeForm block k) formConstant ≡ true). rw (constant-node (eqb-true (nodeForm block k) formConstant t)))
-          (λ (t : eqb (nodeForm block k) formConstant ≡ false). ⊎-elim
-          (λ (u : eqb (nodeForm block k) formAccess ≡ true). rw (access-node (eqb-true (nodeForm block k) formAccess u)))
-          (λ (u : eqb (nodeForm block k) formAccess ≡ false). rw (operation-node fits
-          (omega (arith, eqb-false (nodeForm block k) formConstant t, eqb-false (nodeForm block k) formAccess u))))
-          (decided (eqb (nodeForm block k) formAccess)))
-          (decided (eqb (nodeForm block k) formConstant)))
-
-module _ (graph rule images : List ℕ) (k : ℕ) (inside : k < nodeCount rule) where
-  abbrev read : ℕ → ℕ → Option ℤ
-  read = readAttribute (graphOf graph) images
-
-  -- a constant, an access or any
-  leaf-bounded : nodeForm rule k ≤ formAccess → bounded (nodeResult graph rule images k) ≡ true
-  unfolding bounded
-  leaf-bounded h =
-      ⊎-elim
-      (λ (t : eqb (nodeForm rule k) formAny ≡ true). rw (← any-gives rule k inside read (eqb-true (nodeForm rule k) formAny t)))
-      (λ (t : eqb (nodeForm rule k) formAny ≡ false). ⊎-elim
-      (λ (u : eqb (nodeForm rule k) formConstant ≡ true). rw (← constant-gives rule k inside read (eqb-true (nodeForm rule k) formConstant u))
-      (signed-inRange (u32At rule (nodeAt rule k + 4))))
-      (λ (u : eqb (nodeForm rule k) formConstant ≡ false). rw (← access-gives rule k inside read
-      (omega (arith, eqb-false (nodeForm rule k) formAny t, eqb-false (nodeForm rule k) formConstant u)))
-      (read-bounded (graphOf graph) images (nodeLeft rule k) (nodeRight rule k)))
-      (decided (eqb (nodeForm rule k) formConstant)))
-      (decided (eqb (nodeForm rule k) formAny))
-
-  pub node-bounded : nodeFits rule k ≡ true → bounded (nodeResult graph rule images k) ≡ true
-  node-bounded fits =
-      ⊎-elim
-      (λ (t : ltb 2 (nodeForm rule k) ≡ true). rw (← operation-gives rule k inside read fits (ltb-true 2 (nodeForm rule k) t))
-      (combine-bounded (operationOf (nodeForm rule k)) (result read (expressionOf rule (nodeLeft rule k)))
-      (result read (expressionOf rule (nodeRight rule k)))))
-      (λ (t : ltb 2 (nodeForm rule k) ≡ false). leaf-bounded (ltb-false 2 (nodeForm rule k) t))
-      (decided (ltb 2 (nodeForm rule k)))
-
--- ---- the memo
-
-pub remembered-value : (value : Value) → remembered (stateOf value) (magnitudeOf value) ≡ valueOf value
-unfolding remembered valueOf
-remembered-value Nothing = refl
-remembered-value (Plus n) = refl
-remembered-value (Minus n) = refl
-
-module _ (graph rule images : List ℕ) where
-  -- nothing is known at first
-  pub memo-none : Memo graph rule images (replicate 64 0) (replicate 64 0)
-  memo-none = record { stateSize = refl; magnitudeSize = refl; known = λ k h. absurd (h (getD-none 64 k 0)) }
-
-  -- one result more
-  pub memo-more : {states magnitudes : List ℕ} (k s n : ℕ) (value : Value) → Memo graph rule images states magnitudes → k < 64
-      → valueOf value ≡ nodeResult graph rule images k → s ≡ stateOf value → n ≡ magnitudeOf value
-      → Memo graph rule images (set states k s) (set magnitudes k n)
-  memo-more {states} {magnitudes} k s n value m l e f g = record {
-    stateSize = length-set states k s ∙ m .stateSize;
-    magnitudeSize = length-set magnitudes k n ∙ m .magnitudeSize;
-    known = λ j h. ⊎-elim
-        (λ (t : eqb j k ≡ true). rw (
-          eqb-true j k t,
-          getD-set-same states k s 0 (rw (m .stateSize) l),
-          getD-set-same magnitudes k n 0 (rw (m .magnitudeSize) l),
-          f,
-          g,
-        ) (remembered-value value ∙ e))
-        (λ (t : eqb j k ≡ false).
-        let same : getD (set states k s) j 0 ≡ getD states j 0 = getD-set-other states k j s 0 (eqb-false j k t) in
-        rw (same, getD-set-other magnitudes k j n 0 (eqb-false j k t)) (m .known j (λ z. h (same ∙ z))))
-        (decided (eqb j k));
-  }
+  pub result-agrees : (x : Option ℤ) (found : ℤ) → x ≡ result read (expressionOf block k) → found ≡ z
+      → nodeFits block k ≡ true → (nodeForm block k ≡ formAny → ⊥) → gives x found ≡ agrees read e z
+  unfolding agrees
+  result-agrees x found r f fits h =
+      rw (r, f, ← named) (⊎-elim
+      (λ (t : eqb (nodeForm block k) formConstant ≡ true). rw (constant-node block k inside (eqb-true (nodeForm block k) formConstant t)))
+      (λ (t : eqb (nodeForm block k) formConstant ≡ false). ⊎-elim
+      (λ (u : eqb (nodeForm block k) formAccess ≡ true). rw (access-node block k inside (eqb-true (nodeForm block k) formAccess u)))
+      (λ (u : eqb (nodeForm block k) formAccess ≡ false). rw (operation-node block k inside fits
+      (omega (arith, eqb-false (nodeForm block k) formConstant t, eqb-false (nodeForm block k) formAccess u))))
+      (decided (eqb (nodeForm block k) formAccess)))
+      (decided (eqb (nodeForm block k) formConstant)))

@@ -1,2 +1,2 @@
-pub mod Evaluable
-pub mod Memo
+pub mod Agreement
+pub mod Evaluation

@@ -1,19 +1,18 @@
 -- Records of two blocks, compared by words, and a block that holds a table up to the end of one record more.
 -- Assumes nothing.
 use mathlib.Core.Path.{_≡_, refl, sym, ap, ap₂, _∙_}
-use mathlib.Core.Bool.{true}
 use mathlib.Core.List.{List, [], _++_}
 use Prim.Native.Nat.{ℕ, _+_, _*_, _<_, _≤_}
 use native.Mathlib.Nat.{add-assoc}
 use native.Mathlib.Omega.{arith}
-use lib.ListN.{length, getD, take, drop, replicate, length-drop, getD-replicate}
+use lib.ListN.{length, getD, take, drop, length-drop}
 use lib.Seq.{length-take-le, take-all, getD-take, getD-drop, drop-drop, take-add, ext-getD}
-use Rattle.definitions.specs.Fields.{byteAt, Bytes, u32At, u32Bytes, filled}
-use Rattle.definitions.specs.Graph.{headerBytes, slotBytes, recordAt, slotTail}
+use Rattle.definitions.specs.Fields.{byteAt, Bytes, u32At, u32Bytes}
+use Rattle.definitions.specs.Graph.{headerBytes, slotBytes, tailOffset, tailBytes, recordAt}
 use Rattle.laws.proofs.Parts.{putPart, length-part, part-more}
 use Rattle.encoding.proofs.Pieces.{in-pieces}
-use Rattle.encoding.proofs.Numbers.{u32-bytes, filled-at}
-use Rattle.writing.specs.Records.{fieldBytes, fieldsAt}
+use Rattle.encoding.proofs.Numbers.{u32-bytes}
+use Rattle.graph_records.specs.Records.{fieldsAt}
 use Rattle.commit.specs.Tables.{Committed, slotAt}
 
 -- equal words of bytes are equal bytes
@@ -38,21 +37,12 @@ words-same graph table old new at l m words =
     getD-take slotBytes (drop at graph) i 0 inside ∙ getD-drop at graph i 0 ∙ every i inside
     ∙ sym (getD-take slotBytes (drop at table) i 0 inside ∙ getD-drop at table i 0))
 
--- a record with a clear tail is its fields and the tail that a record is written with
-pub clear-record : (table : List ℕ) (at : ℕ) → at + slotBytes ≤ length table
-    → filled table (at + fieldBytes) (at + slotBytes) 0 ≡ true → fieldsAt table at ++ slotTail ≡ slotAt table at
-unfolding slotAt fieldsAt slotTail
-clear-record table at l clear =
-    let rest = take 8 (drop (at + fieldBytes) table) in
-    let size : length rest ≡ 8 = length-take-le 8 (drop (at + fieldBytes) table) (simp length-drop (omega arith)) in
-    let zeros : replicate 8 0 ≡ rest =
-    ext-getD 0 (replicate 8 0) rest (sym size)
-    (λ i h.
-    getD-replicate 8 i 0 0 h
-    ∙ sym (getD-take 8 (drop (at + fieldBytes) table) i 0 h ∙ getD-drop (at + fieldBytes) table i 0
-    ∙ filled-at table (at + fieldBytes) (at + slotBytes) 0 clear i (omega arith))) in
-    ap (λ (t : List ℕ). take fieldBytes (drop at table) ++ t) (zeros ∙ ap (take 8) (sym (drop-drop fieldBytes at table)))
-    ∙ sym (take-add fieldBytes 8 (drop at table))
+-- a record is its fields and its tail
+pub whole-record : (table : List ℕ) (at : ℕ) → fieldsAt table at ++ take tailBytes (drop (at + tailOffset) table) ≡ slotAt table at
+unfolding slotAt fieldsAt
+whole-record table at =
+    ap (λ (t : List ℕ). take tailOffset (drop at table) ++ take tailBytes t) (sym (drop-drop tailOffset at table))
+    ∙ sym (take-add tailOffset tailBytes (drop at table))
 
 -- ---- the header, and one record more
 

@@ -1,17 +1,10 @@
--- What a table asks that is to be committed, and how far a block holds it.
+-- A record's bytes, and how far a block holds the table that is to be committed.
 -- Assumes nothing.
 use mathlib.Core.Path.{_≡_}
-use mathlib.Core.Bool.{true}
 use mathlib.Core.List.{List}
-use Prim.Native.Nat.{ℕ, _+_, _<_}
+use Prim.Native.Nat.{ℕ}
 use lib.ListN.{length, take, drop}
-use Rattle.definitions.specs.Fields.{filled}
-use Rattle.definitions.specs.Graph.{slotBytes, slotCount, recordAt}
-use Rattle.writing.specs.Records.{fieldBytes}
-
--- every record's last 8 bytes are zero, as those that a record is written with
-pub record ClearTails (block : List ℕ) : Type 0 where
-  pub clear : (k : ℕ) → k < slotCount block → filled block (recordAt k + fieldBytes) (recordAt k + slotBytes) 0 ≡ true
+use Rattle.definitions.specs.Graph.{slotBytes}
 
 -- the 48 bytes of the record that starts at `at`
 unfoldable pub slotAt : List ℕ → ℕ → List ℕ

@@ -2,18 +2,19 @@
 // and then record by record. It is called once the answer is sure.
 use definitions::HEADER_BYTES;
 use definitions::SLOT_BYTES;
+use definitions::TAIL_OFFSET;
 use fields::u32_at;
 use graph_fields::slot_count;
+use graph_records::read_record;
+use graph_records::write_record;
 use writing::copy;
-use writing::read_record;
-use writing::write_record;
 ghost use mathlib.Core.Path.{_≡_};
 ghost use mathlib.Core.Bool.{true};
 ghost use Prim.Native.Nat.{_+_, _<_, _≤_};
 ghost use lib.ListN.{length};
 ghost use Rattle.definitions.specs.Graph.{slotBytes, slotCount, recordAt};
 ghost use Rattle.graph_fields.specs.Layout.{WholeGraph};
-ghost use Rattle.commit.specs.Tables.{ClearTails, Committed, slotAt};
+ghost use Rattle.commit.specs.Tables.{Committed, slotAt};
 
 // The 32-bit words of a record.
 const RECORD_WORDS: usize = SLOT_BYTES / 4;
@@ -40,7 +41,6 @@ fn same_record(graph: &[u8], table: &[u8], at: usize) -> bool
 // not change is not written again; that is for speed alone.
 fn commit_slot(graph: &mut [u8], table: &[u8], k: usize)
     requires { ⌜ WholeGraph (now table) ⌝ }
-    requires { ⌜ ClearTails (now table) ⌝ }
     requires { ⌜ k < slotCount (now table) ⌝ }
     requires { ⌜ Committed (recordAt k) (now graph) (now table) ⌝ }
     ensures { λ r. ⌜ Committed (recordAt (k + 1)) (now (graph .exit)) (now (table .entry)) ⌝ }
@@ -51,14 +51,14 @@ fn commit_slot(graph: &mut [u8], table: &[u8], k: usize)
     }
     let record = read_record(table, at);
     let end = at + SLOT_BYTES;
-    write_record(&mut graph[at..end], record);
+    let tail = at + TAIL_OFFSET;
+    write_record(&mut graph[at..end], record, &table[tail..end]);
 }
 
 // Writes the new table over the old one, which is as long.
 pub fn commit(graph: &mut [u8], table: &[u8])
     requires { ⌜ length (now graph) ≡ length (now table) ⌝ }
     requires { ⌜ WholeGraph (now table) ⌝ }
-    requires { ⌜ ClearTails (now table) ⌝ }
     ensures { λ r. ⌜ now (graph .exit) ≡ now (table .entry) ⌝ }
 {
     copy(&mut graph[0..HEADER_BYTES], &table[0..HEADER_BYTES]);

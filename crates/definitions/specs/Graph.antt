@@ -4,12 +4,12 @@ use mathlib.Core.Path.{_≡_}
 use mathlib.Core.Bool.{Bool, true, false, not, _&&_, _||_}
 use mathlib.Core.List.{List, [], _∷_, _++_, List·Memᴰ}
 use mathlib.Core.Option.{Option}
-use Prim.Native.Nat.{ℕ, _+_, _*_, _<_}
+use Prim.Native.Nat.{ℕ, _+_, _-_, _*_, _<_}
 use lib.Dec.{eqb, ltb}
 use lib.IntN.{ℤ, pos, negsuc}
 use lib.ListN.{length, getD, replicate}
 use Rattle.definitions.specs.declared.Reply.{Reply}
-use Rattle.definitions.specs.Lists.{within, lowest, tabulate, all, padded, concatMap}
+use Rattle.definitions.specs.Lists.{within, lowest, total, tabulate, all, padded, concatMap, count}
 use Rattle.definitions.specs.Fields.{byteAt, u16At, u32At, filled, markFits, signed, u16Bytes, u32Bytes}
 use Rattle.definitions.specs.Operators.{kindEmpty, kindProj, shapeFits}
 use Rattle.definitions.specs.Paths.{Reads, Acyclic, acyclicBelow}
@@ -22,6 +22,26 @@ headerBytes = 24
 
 abbrev pub slotBytes : ℕ
 slotBytes = 48
+
+-- where the output places of the header start, and where they end
+abbrev pub outputsOffset : ℕ
+outputsOffset = 10
+
+abbrev pub outputsEnd : ℕ
+outputsEnd = 18
+
+-- where the input places of a record start, its attribute places, and its tail: the bytes behind them
+abbrev pub inputsOffset : ℕ
+inputsOffset = 4
+
+abbrev pub attributesOffset : ℕ
+attributesOffset = 16
+
+abbrev pub tailOffset : ℕ
+tailOffset = 40
+
+abbrev pub tailBytes : ℕ
+tailBytes = slotBytes - tailOffset
 
 abbrev pub slotLimit : ℕ
 slotLimit = 512
@@ -79,14 +99,14 @@ unfoldable pub slotFrom : List ℕ → ℕ → Slot
 slotFrom block at = record {
   kind = byteAt block at;
   operator = byteAt block (at + 1);
-  inputs = tabulate (byteAt block (at + 2)) (λ i. u16At block (at + 4 + 2 * i));
-  attributes = tabulate (byteAt block (at + 3)) (λ i. u32At block (at + 16 + 4 * i));
+  inputs = tabulate (byteAt block (at + 2)) (λ i. u16At block (at + inputsOffset + 2 * i));
+  attributes = tabulate (byteAt block (at + 3)) (λ i. u32At block (at + attributesOffset + 4 * i));
 }
 
 unfoldable pub graphOf : List ℕ → Graph
 graphOf block = record {
   slots = tabulate (slotCount block) (λ k. slotFrom block (recordAt k));
-  outputs = tabulate (outputCount block) (λ i. u16At block (10 + 2 * i));
+  outputs = tabulate (outputCount block) (λ i. u16At block (outputsOffset + 2 * i));
 }
 
 unfoldable pub slotOf : Graph → ℕ → Slot
@@ -99,17 +119,34 @@ inputsOf g v = slotOf g v .inputs
 unfoldable pub isVertex : Graph → ℕ → Bool
 isVertex g v = not (eqb (slotOf g v .kind) kindEmpty)
 
--- ---- the block of a graph; a record's last 8 bytes are zero for now
+-- how many input places name slot v
+unfoldable pub readsOf : Graph → ℕ → ℕ
+readsOf g v = total (λ w. count v (inputsOf g w)) (length (g .slots))
 
-unfoldable pub slotTail : List ℕ
-slotTail = replicate 8 0
+-- how many input places and graph outputs name slot v
+unfoldable pub usesOf : Graph → ℕ → ℕ
+usesOf g v = readsOf g v + count v (g .outputs)
 
-unfoldable pub slotBlock : Slot → List ℕ
-slotBlock s =
+-- ---- the block of a graph
+
+-- the tail of slot k's record: zero for now
+unfoldable pub slotTail : Graph → ℕ → List ℕ
+slotTail g k = replicate tailBytes 0
+
+-- the record of a slot, with the tail that it is given
+unfoldable pub slotBlock : List ℕ → Slot → List ℕ
+slotBlock tail s =
     (s .kind ∷ s .operator ∷ length (s .inputs) ∷ length (s .attributes) ∷ [])
     ++ concatMap u16Bytes (padded inputLimit unusedPlace (s .inputs))
     ++ concatMap u32Bytes (padded attributeLimit 0 (s .attributes))
-    ++ slotTail
+    ++ tail
+
+-- the record of slot k, and those of the first n slots
+abbrev pub recordBlock : Graph → ℕ → List ℕ
+recordBlock g k = slotBlock (slotTail g k) (slotOf g k)
+
+abbrev pub recordsBlock : Graph → ℕ → List ℕ
+recordsBlock g n = concatMap (recordBlock g) (tabulate n (λ k. k))
 
 -- the header for n slots and these outputs
 unfoldable pub headerBlock : ℕ → List ℕ → List ℕ
@@ -119,17 +156,17 @@ headerBlock n outputs =
     ++ u16Bytes n
     ++ u16Bytes (length outputs)
     ++ concatMap u16Bytes (padded outputLimit unusedPlace outputs)
-    ++ replicate 6 0
+    ++ replicate (headerBytes - outputsEnd) 0
 
 unfoldable pub graphBlock : Graph → List ℕ
-graphBlock g = headerBlock (length (g .slots)) (g .outputs) ++ concatMap slotBlock (g .slots)
+graphBlock g = headerBlock (length (g .slots)) (g .outputs) ++ recordsBlock g (length (g .slots))
 
 -- ---- faults, by kind, in document 01's order
 
 -- 1 to 4 outputs; the unused places hold 65535
 unfoldable pub outputPlacesFit : List ℕ → Bool
 outputPlacesFit block =
-    within 1 (outputCount block) outputLimit && filled block (10 + 2 * outputCount block) 18 255
+    within 1 (outputCount block) outputLimit && filled block (outputsOffset + 2 * outputCount block) outputsEnd 255
 
 -- length and header, with the unused output places
 unfoldable pub headerFits : List ℕ → Bool
@@ -139,21 +176,21 @@ headerFits block =
     && eqb (u16At block 4) graphVersion
     && within 1 (slotCount block) slotLimit
     && outputPlacesFit block
-    && filled block 18 24 0
+    && filled block outputsEnd headerBytes 0
 
 -- an index of a Proj is at least 1
 unfoldable pub atLeastOne : ℤ → Bool
 atLeastOne (pos n) = ltb 0 n
 atLeastOne (negsuc n) = false
 
--- the record that starts at `at` follows its kind: the tables, the unused places, a Proj's index, and the zero bytes at its end
+-- the record that starts at `at` follows its kind: the tables, the unused places, a Proj's index, and a tail of zero bytes
 unfoldable pub recordFits : List ℕ → ℕ → Bool
 recordFits block at =
     shapeFits (byteAt block at) (byteAt block (at + 1)) (byteAt block (at + 2)) (byteAt block (at + 3))
-    && filled block (at + 4 + 2 * byteAt block (at + 2)) (at + 16) 255
-    && filled block (at + 16 + 4 * byteAt block (at + 3)) (at + 40) 0
-    && (not (eqb (byteAt block at) kindProj) || atLeastOne (signed (u32At block (at + 16))))
-    && filled block (at + 40) (at + 48) 0
+    && filled block (at + inputsOffset + 2 * byteAt block (at + 2)) (at + attributesOffset) 255
+    && filled block (at + attributesOffset + 4 * byteAt block (at + 3)) (at + tailOffset) 0
+    && (not (eqb (byteAt block at) kindProj) || atLeastOne (signed (u32At block (at + attributesOffset))))
+    && filled block (at + tailOffset) (at + slotBytes) 0
 
 unfoldable pub badRecord : List ℕ → ℕ → Bool
 badRecord block k = not (recordFits block (recordAt k))

@@ -25,6 +25,11 @@ unfoldable pub lowest : (ℕ → Bool) → ℕ → ℕ
 lowest p zero = zero
 lowest p (suc n) = let k = lowest p n in cond (ltb k n) k (cond (p n) n (suc n))
 
+-- f 0 + .. + f (n - 1)
+unfoldable pub total : (ℕ → ℕ) → ℕ → ℕ
+total f zero = 0
+total f (suc n) = total f n + f n
+
 module _ {ℓ} {A : Type ℓ} where
   -- f 0, f 1, .. f (n - 1)
   unfoldable pub tabulate : ℕ → (ℕ → A) → List A
@@ -81,6 +86,11 @@ module _ {ℓ κ} {A : Type ℓ} {B : Type κ} where
 unfoldable pub member : ℕ → List ℕ → Bool
 member x [] = false
 member x (y ∷ ys) = eqb x y || member x ys
+
+-- how often x stands in the list
+unfoldable pub count : ℕ → List ℕ → ℕ
+count x [] = 0
+count x (y ∷ ys) = cond (eqb x y) 1 0 + count x ys
 
 -- the place of the first x, or the length where there is none
 unfoldable pub position : ℕ → List ℕ → ℕ

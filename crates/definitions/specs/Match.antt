@@ -10,11 +10,11 @@ use Prim.Native.Nat.{ℕ, zero, suc, _-_, _<_, _≤_}
 use lib.Dec.{eqb, T}
 use lib.IntN.{ℤ}
 use lib.ListN.{length, getD}
-use Rattle.definitions.specs.Lists.{within, allBelow, all, filter, concatMap, allPairs, firstSome, member, position, distinct, range}
+use Rattle.definitions.specs.Lists.{within, allBelow, total, all, filter, concatMap, allPairs, firstSome, member, count, position, distinct, range}
 use Rattle.definitions.specs.Fields.{signed}
 use Rattle.definitions.specs.Operators.{kindEmpty}
 use Rattle.definitions.specs.Graph.{unusedPlace, Slot, Graph, slotOf, inputsOf, isVertex}
-use Rattle.definitions.specs.Rule.{Pattern, Rule, sourceOf, isRuleInput}
+use Rattle.definitions.specs.Rule.{Pattern, Rule, sourceOf, sourceInputs, isRuleInput}
 use Rattle.definitions.specs.Attributes.{agrees}
 
 unfoldable pub imageOf : List ℕ → ℕ → ℕ
@@ -31,6 +31,10 @@ readAttribute g images v b = attributeOf (slotOf g (imageOf images v)) b
 -- neither rule input nor source output; a Const is interior
 unfoldable pub isInterior : Rule → ℕ → Bool
 isInterior r j = not (isRuleInput r j) && not (member j (r .sourceOutputs))
+
+-- how many input places of source vertices name source vertex j
+unfoldable pub placesOf : Rule → ℕ → ℕ
+placesOf r j = total (λ w. count j (sourceInputs r w)) (length (r .source))
 
 -- the images of the source vertices that are not rule inputs
 unfoldable pub innerImages : Rule → List ℕ → List ℕ

@@ -5,6 +5,18 @@
 pub const HEADER_BYTES: usize = 24;
 
 pub const SLOT_BYTES: usize = 48;
+// Where the header's output places start, and where they end.
+pub const OUTPUTS_OFFSET: usize = 10;
+
+pub const OUTPUTS_END: usize = 18;
+// Where a record's input places start, its attribute places, and its tail: the bytes behind them.
+pub const INPUTS_OFFSET: usize = 4;
+
+pub const ATTRIBUTES_OFFSET: usize = 16;
+
+pub const TAIL_OFFSET: usize = 40;
+
+pub const TAIL_BYTES: usize = SLOT_BYTES - TAIL_OFFSET;
 
 pub const SLOT_LIMIT: usize = 512;
 

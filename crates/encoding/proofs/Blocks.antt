@@ -2,27 +2,35 @@
 -- Assumes nothing.
 use mathlib.Core.Path.{_≡_, sym, ap, fun-ext, _∙_}
 use mathlib.Core.Bool.{true, false, not, _||_}
+use mathlib.Core.List.{List}
 use mathlib.Core.Logic.{⊎-elim}
 use Prim.Native.Nat.{ℕ, _+_, _*_, _^_, _<_, _≤_}
 use native.Mathlib.Omega.{arith}
 use borrow.Author.Tests.{leb-true, ltb-true, ltb-false}
 use lib.Dec.{eqb, ltb, leb}
 use lib.ListN.{length, getD, List·getD-eq-default}
-use Rattle.definitions.specs.Lists.{concatMap}
 use Rattle.definitions.specs.Fields.{byteAt, signed, filled}
 use Rattle.definitions.specs.Operators.{kindEmpty, kindProj, shapeFits}
 use Rattle.definitions.specs.Paths.{Acyclic}
-use Rattle.definitions.specs.Graph.{slotLimit, outputLimit, inputLimit, attributeLimit, unusedPlace, slotCount, recordAt, Slot, Graph, emptySlot, slotFrom, graphOf, slotOf, inputsOf, isVertex, slotBlock, headerBlock, graphBlock, atLeastOne, hasCycle, SoundGraph}
+use Rattle.definitions.specs.Graph.{headerBytes, slotBytes, tailOffset, slotLimit, outputLimit, inputLimit, attributeLimit, unusedPlace, slotCount, recordAt, Slot, Graph, emptySlot, slotFrom, graphOf, slotOf, inputsOf, isVertex, slotTail, recordBlock, recordsBlock, headerBlock, graphBlock, atLeastOne, hasCycle, SoundGraph}
 use Rattle.laws.proofs.Lists.{decided, and-left, and-right}
 use Rattle.laws.proofs.Members.{mem-at}
 use Rattle.laws.proofs.Operators.{few-inputs, few-attributes}
-use Rattle.laws.proofs.Pieces.{length-pieces}
 use Rattle.laws.proofs.Graph.{slot-past, vertex-inside, slot-of, length-slots, length-attributes}
 use Rattle.graph_fields.specs.Layout.{ReadableGraph, Closed}
 use Rattle.encoding.specs.Tables.{slotFits, Table, Words}
-use Rattle.encoding.proofs.Pieces.{at-first, at-second, length-two, tabulated, piece-at}
-use Rattle.encoding.proofs.Records.{length-slot, zero-tail, kind-back, operator-back, attribute-count-back, inputs-back, attributes-back, record-fits}
+use Rattle.encoding.proofs.Pieces.{at-first, at-second, length-two, tabulated, length-numbered, numbered-at}
+use Rattle.encoding.proofs.Records.{length-slot, tail-held, kind-back, operator-back, attribute-count-back, inputs-back, attributes-back, record-fits}
+use Rattle.encoding.proofs.Tails.{length-tail, tail-fits}
 use Rattle.encoding.proofs.Headers.{length-header, count-back, output-count-back, outputs-back, header-fits}
+
+-- ---- the two parts of a graph's block
+
+abbrev header : Graph → List ℕ
+header g = headerBlock (length (g .slots)) (g .outputs)
+
+abbrev records : Graph → List ℕ
+records g = recordsBlock g (length (g .slots))
 
 module _ (g : Graph) (table : Table g) where
   -- ---- what the graph's counts are, and its inputs
@@ -62,36 +70,31 @@ module _ (g : Graph) (table : Table g) where
 
   -- ---- where the block holds the header and the records
 
-  sized : (k : ℕ) → k < length (g .slots) → length (slotBlock (getD (g .slots) k emptySlot)) ≡ 48
-  unfolding slotOf
-  sized k l = length-slot (slotOf g k) (inputs-fit k l) (attributes-fit k l)
+  sized : (k : ℕ) → k < length (g .slots) → length (recordBlock g k) ≡ slotBytes
+  sized k l = length-slot (slotOf g k) (inputs-fit k l) (attributes-fit k l) (slotTail g k) (length-tail g k)
+
+  length-headed : length (header g) ≡ headerBytes
+  length-headed = length-header (length (g .slots)) (g .outputs) few-outputs
 
   pub block-length : length (graphBlock g) ≡ recordAt (length (g .slots))
   unfolding graphBlock
   block-length =
-      length-two (headerBlock (length (g .slots)) (g .outputs)) (concatMap slotBlock (g .slots)) 24 (48 * length (g .slots))
-      (length-header (length (g .slots)) (g .outputs) few-outputs) (length-pieces slotBlock 48 emptySlot (g .slots) sized)
+      length-two (header g) (records g) headerBytes (slotBytes * length (g .slots)) length-headed
+      (length-numbered (recordBlock g) slotBytes (length (g .slots)) (λ k. k) sized)
 
   -- the first 24 bytes are the header's
-  pub header-held : (i : ℕ) → i < 24 → byteAt (graphBlock g) i ≡ getD (headerBlock (length (g .slots)) (g .outputs)) i 0
+  pub header-held : (i : ℕ) → i < headerBytes → byteAt (graphBlock g) i ≡ getD (header g) i 0
   unfolding graphBlock
-  header-held i l =
-      at-first (headerBlock (length (g .slots)) (g .outputs)) (concatMap slotBlock (g .slots)) 24 i 0
-      (length-header (length (g .slots)) (g .outputs) few-outputs) l
+  header-held i l = at-first (header g) (records g) headerBytes i 0 length-headed l
 
   -- and the 48 from `recordAt k` on are those of slot k's record
-  pub record-held : (k : ℕ) → k < length (g .slots) → (i : ℕ) → i < 48
-      → byteAt (graphBlock g) (recordAt k + i) ≡ getD (slotBlock (slotOf g k)) i 0
-  unfolding graphBlock slotOf
+  pub record-held : (k : ℕ) → k < length (g .slots) → (i : ℕ) → i < slotBytes
+      → byteAt (graphBlock g) (recordAt k + i) ≡ getD (recordBlock g k) i 0
+  unfolding graphBlock
   record-held k l i m =
-      let e : recordAt k + i ≡ 24 + (48 * k + i) = omega arith in
-      rw e (at-second (headerBlock (length (g .slots)) (g .outputs)) (concatMap slotBlock (g .slots)) 24 (48 * k + i) 0
-      (length-header (length (g .slots)) (g .outputs) few-outputs)
-      ∙ piece-at slotBlock 48 emptySlot (g .slots) sized k i 0 l m)
-
-  -- whose last 8 bytes are zero
-  pub tail-held : (k : ℕ) → k < length (g .slots) → filled (graphBlock g) (recordAt k + 40) (recordAt k + 48) 0 ≡ true
-  tail-held k l = zero-tail (slotOf g k) (inputs-fit k l) (attributes-fit k l) (graphBlock g) (recordAt k) (record-held k l)
+      let e : recordAt k + i ≡ headerBytes + (slotBytes * k + i) = omega arith in
+      rw e (at-second (header g) (records g) headerBytes (slotBytes * k + i) 0 length-headed
+      ∙ numbered-at (recordBlock g) slotBytes (length (g .slots)) (λ j. j) sized k i 0 l m)
 
   -- ---- what is read from it
 
@@ -111,23 +114,29 @@ module _ (g : Graph) (table : Table g) where
     kind-same : slotFrom (graphBlock g) (recordAt k) .kind ≡ slotOf g k .kind
     unfolding slotFrom
     kind-same =
-        kind-back (slotOf g k) (inputs-fit k inside) (attributes-fit k inside) (graphBlock g) (recordAt k) (record-held k inside)
+        kind-back (slotOf g k) (inputs-fit k inside) (attributes-fit k inside) (slotTail g k) (graphBlock g) (recordAt k) (record-held k inside)
 
     operator-same : slotFrom (graphBlock g) (recordAt k) .operator ≡ slotOf g k .operator
     unfolding slotFrom
     operator-same =
-        operator-back (slotOf g k) (inputs-fit k inside) (attributes-fit k inside) (graphBlock g) (recordAt k) (record-held k inside)
+        operator-back (slotOf g k) (inputs-fit k inside) (attributes-fit k inside) (slotTail g k) (graphBlock g) (recordAt k) (record-held k inside)
 
     inputs-same : slotFrom (graphBlock g) (recordAt k) .inputs ≡ slotOf g k .inputs
     inputs-same =
-        inputs-back (slotOf g k) (inputs-fit k inside) (attributes-fit k inside) (graphBlock g) (recordAt k) (record-held k inside)
+        inputs-back (slotOf g k) (inputs-fit k inside) (attributes-fit k inside) (slotTail g k) (graphBlock g) (recordAt k) (record-held k inside)
         (λ i l. omega (arith, input-inside k i l, few-slots))
 
     attribute-count-same : length (slotFrom (graphBlock g) (recordAt k) .attributes) ≡ length (slotOf g k .attributes)
     attribute-count-same =
         length-attributes (graphBlock g) (recordAt k)
-        ∙ attribute-count-back (slotOf g k) (inputs-fit k inside) (attributes-fit k inside) (graphBlock g) (recordAt k)
+        ∙ attribute-count-back (slotOf g k) (inputs-fit k inside) (attributes-fit k inside) (slotTail g k) (graphBlock g) (recordAt k)
         (record-held k inside)
+
+    tail-same : filled (graphBlock g) (recordAt k + tailOffset) (recordAt k + slotBytes) 0 ≡ true
+    tail-same =
+        tail-fits g k (graphBlock g) (recordAt k)
+        (tail-held (slotOf g k) (inputs-fit k inside) (attributes-fit k inside) (slotTail g k) (graphBlock g) (recordAt k)
+        (record-held k inside))
 
   -- a field of every slot, where it is the same within
   everywhere : {A : Type 0} (field : Slot → A)
@@ -200,7 +209,7 @@ module _ (g : Graph) (table : Table g) where
 
     attributes-same : (k : ℕ) → k < length (g .slots) → slotFrom (graphBlock g) (recordAt k) .attributes ≡ slotOf g k .attributes
     attributes-same k inside =
-        attributes-back (slotOf g k) (inputs-fit k inside) (attributes-fit k inside) (graphBlock g) (recordAt k)
+        attributes-back (slotOf g k) (inputs-fit k inside) (attributes-fit k inside) (slotTail g k) (graphBlock g) (recordAt k)
         (record-held k inside) (λ i l. word-at k inside i)
 
     slot-same : (k : ℕ) → k < length (g .slots) → slotFrom (graphBlock g) (recordAt k) ≡ slotOf g k
@@ -227,8 +236,8 @@ module _ (g : Graph) (table : Table g) where
           (table .size) (table .outputCount) (omega (arith, few-slots));
       records = λ k l.
           let inside : k < length (g .slots) = omega (arith, block-slots) in
-          record-fits (slotOf g k) (inputs-fit k inside) (attributes-fit k inside) (graphBlock g) (recordAt k)
-          (record-held k inside) (table .shapes k inside) (word-at k inside 0);
+          record-fits (slotOf g k) (inputs-fit k inside) (attributes-fit k inside) (slotTail g k) (graphBlock g) (recordAt k)
+          (record-held k inside) (table .shapes k inside) (word-at k inside 0) (tail-same k inside);
       inputs = rw block-back (table .inputs);
       outputs = rw block-back (table .outputs);
       acyclic = rw block-back acyclic;

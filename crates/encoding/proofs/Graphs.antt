@@ -12,7 +12,7 @@ use lib.ListN.{length, getD}
 use lib.Seq.{ext-getD}
 use Rattle.definitions.specs.Fields.{byteAt, Bytes, u32At, signed}
 use Rattle.definitions.specs.Operators.{kindProj, rowOf, kinds, shapeFits}
-use Rattle.definitions.specs.Graph.{slotCount, outputCount, recordAt, Slot, slotFrom, graphOf, slotBlock, headerBlock, graphBlock, atLeastOne, recordFits, SoundGraph}
+use Rattle.definitions.specs.Graph.{headerBytes, slotBytes, attributesOffset, slotCount, outputCount, recordAt, Slot, slotFrom, graphOf, slotTail, slotBlock, headerBlock, graphBlock, atLeastOne, recordFits, SoundGraph}
 use Rattle.laws.proofs.Lists.{decided, needed}
 use Rattle.laws.proofs.Members.{tabulate-mem}
 use Rattle.laws.proofs.Operators.{row-attributes}
@@ -21,6 +21,7 @@ use Rattle.encoding.specs.Tables.{slotFits, Table, Words}
 use Rattle.encoding.proofs.Pieces.{in-parts, in-pieces}
 use Rattle.encoding.proofs.Numbers.{u32-small}
 use Rattle.encoding.proofs.Records.{record-read}
+use Rattle.encoding.proofs.Tails.{tail-read}
 use Rattle.encoding.proofs.Headers.{header-read}
 use Rattle.encoding.proofs.Blocks.{block-length, header-held, record-held}
 
@@ -45,9 +46,9 @@ follows s fits index =
 
 -- a record that follows its kind gives such a slot
 module _ (block : List ℕ) (at : ℕ) (fits : recordFits block at ≡ true) where
-  index-read : byteAt block at ≡ kindProj → atLeastOne (signed (u32At block (at + 16))) ≡ true
+  index-read : byteAt block at ≡ kindProj → atLeastOne (signed (u32At block (at + attributesOffset))) ≡ true
   unfolding recordFits
-  index-read proj = needed (atLeastOne (signed (u32At block (at + 16)))) fits (λ f. simp (proj, f, and-false))
+  index-read proj = needed (atLeastOne (signed (u32At block (at + attributesOffset)))) fits (λ f. simp (proj, f, and-false))
 
   slot-read : slotFits (slotFrom block at) ≡ true
   unfolding slotFrom
@@ -55,7 +56,7 @@ module _ (block : List ℕ) (at : ℕ) (fits : recordFits block at ≡ true) whe
       follows (slotFrom block at)
       (rw (length-inputs block at, length-attributes block at) (record-shape block at fits))
       (λ proj l.
-      let first : at + 16 + 4 * 0 ≡ at + 16 = omega arith in
+      let first : at + attributesOffset + 4 * 0 ≡ at + attributesOffset = omega arith in
       rw (attribute-of block at 0 0 (rw (length-attributes block at) at l), first) (index-read proj))
 
 pub table-of : (block : List ℕ) → SoundGraph block → Table (graphOf block)
@@ -74,8 +75,8 @@ table-of block sound = record {
 word-read : (block : List ℕ) → Bytes block → (at w : ℕ) → List·Memᴰ w (slotFrom block at .attributes) → w < 2 ^ 32
 unfolding slotFrom
 word-read block bytes at w m =
-    let place = tabulate-mem (byteAt block (at + 3)) (λ i. u32At block (at + 16 + 4 * i)) m in
-    omega (arith, place .2, u32-small block bytes (at + 16 + 4 * place .0))
+    let place = tabulate-mem (byteAt block (at + 3)) (λ i. u32At block (at + attributesOffset + 4 * i)) m in
+    omega (arith, place .2, u32-small block bytes (at + attributesOffset + 4 * place .0))
 
 pub words-of : (block : List ℕ) → Bytes block → Words (graphOf block)
 words-of block bytes k l w m =
@@ -84,19 +85,20 @@ words-of block bytes k l w m =
 -- ---- a sound block is the block of its graph
 
 module _ (block : List ℕ) (sound : SoundGraph block) (bytes : Bytes block) where
-  header-same : (i : ℕ) → i < 24 → byteAt (graphBlock (graphOf block)) i ≡ byteAt block i
+  header-same : (i : ℕ) → i < headerBytes → byteAt (graphBlock (graphOf block)) i ≡ byteAt block i
   header-same i l =
       header-held (graphOf block) (table-of block sound) i l
       ∙ ap (λ (n : ℕ). getD (headerBlock n (graphOf block .outputs)) i 0) (length-slots block)
       ∙ header-read block (sound .header) bytes i l
 
-  record-same : (k i : ℕ) → k < slotCount block → i < 48
-      → byteAt (graphBlock (graphOf block)) (24 + (48 * k + i)) ≡ byteAt block (24 + (48 * k + i))
+  record-same : (k i : ℕ) → k < slotCount block → i < slotBytes
+      → byteAt (graphBlock (graphOf block)) (headerBytes + (slotBytes * k + i)) ≡ byteAt block (headerBytes + (slotBytes * k + i))
   record-same k i l m =
-      let e : 24 + (48 * k + i) ≡ recordAt k + i = omega arith in
+      let e : headerBytes + (slotBytes * k + i) ≡ recordAt k + i = omega arith in
+      let fits = sound .records k l in
       rw e (record-held (graphOf block) (table-of block sound) k (omega (arith, length-slots block)) i m
-      ∙ ap (λ (s : Slot). getD (slotBlock s) i 0) (slot-of block k l)
-      ∙ record-read block (recordAt k) (sound .records k l) bytes i m)
+      ∙ ap (λ (s : Slot). getD (slotBlock (slotTail (graphOf block) k) s) i 0) (slot-of block k l)
+      ∙ record-read block (recordAt k) fits bytes (slotTail (graphOf block) k) (tail-read (graphOf block) k block (recordAt k) fits) i m)
 
   pub canonical : graphBlock (graphOf block) ≡ block
   canonical =
@@ -104,5 +106,5 @@ module _ (block : List ℕ) (sound : SoundGraph block) (bytes : Bytes block) whe
       block-length (graphOf block) (table-of block sound) ∙ ap recordAt (length-slots block) in
       let Same : ℕ → Type 0 = λ i. byteAt (graphBlock (graphOf block)) i ≡ byteAt block i in
       ext-getD 0 (graphBlock (graphOf block)) block (length-same ∙ sym (header-size block (sound .header)))
-      (λ i l. in-parts Same 24 (48 * slotCount block) header-same
-      (in-pieces (λ j. Same (24 + j)) 48 (slotCount block) (omega arith) record-same) i (omega arith))
+      (λ i l. in-parts Same headerBytes (slotBytes * slotCount block) header-same
+      (in-pieces (λ j. Same (headerBytes + j)) slotBytes (slotCount block) (omega arith) record-same) i (omega arith))

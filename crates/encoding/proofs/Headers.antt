@@ -4,14 +4,14 @@
 use mathlib.Core.Path.{_≡_, refl, sym, ap, _∙_}
 use mathlib.Core.Bool.{true, and-false}
 use mathlib.Core.List.{List, [], _∷_, _++_}
-use Prim.Native.Nat.{ℕ, zero, suc, _+_, _*_, _<_, _≤_}
+use Prim.Native.Nat.{ℕ, zero, suc, _+_, _-_, _*_, _<_, _≤_}
 use native.Mathlib.Omega.{arith}
 use borrow.Author.Tests.{eq-eqb, eqb-true}
 use lib.Dec.{eqb}
 use lib.ListN.{length, getD, replicate, getD-replicate}
 use Rattle.definitions.specs.Lists.{within, padded, concatMap}
 use Rattle.definitions.specs.Fields.{byteAt, Bytes, u16At, filled, markFits, u16Bytes}
-use Rattle.definitions.specs.Graph.{slotLimit, outputLimit, unusedPlace, graphLetter, graphVersion, slotCount, outputCount, recordAt, graphOf, headerBlock, outputPlacesFit, headerFits}
+use Rattle.definitions.specs.Graph.{headerBytes, outputsOffset, outputsEnd, slotLimit, outputLimit, unusedPlace, graphLetter, graphVersion, slotCount, outputCount, recordAt, graphOf, headerBlock, outputPlacesFit, headerFits}
 use Rattle.laws.proofs.Lists.{needed}
 use Rattle.laws.proofs.Graph.{length-outputs, output-of, few-outputs}
 use Rattle.encoding.proofs.Pieces.{in-parts, below-four, at-first, at-second, length-two, tabulated}
@@ -23,6 +23,12 @@ use Rattle.encoding.proofs.Places.{length-places, place-held, others-fi
 abbrev mark : List ℕ
 mark = 76 ∷ 71 ∷ graphLetter ∷ 0 ∷ []
 
+abbrev zeroBytes : ℕ
+zeroBytes = headerBytes - outputsEnd
+
+abbrev zeros : List ℕ
+zeros = replicate zeroBytes 0
+
 abbrev words : ℕ → List ℕ → List ℕ
 words n outputs = graphVersion ∷ n ∷ length outputs ∷ outputs
 
@@ -30,34 +36,34 @@ abbrev wordPlaces : ℕ → List ℕ → List ℕ
 wordPlaces n outputs = concatMap u16Bytes (padded 7 unusedPlace (words n outputs))
 
 module _ (n : ℕ) (outputs : List ℕ) (few : length outputs ≤ outputLimit) where
-  parts : headerBlock n outputs ≡ mark ++ wordPlaces n outputs ++ replicate 6 0
+  parts : headerBlock n outputs ≡ mark ++ wordPlaces n outputs ++ zeros
   unfolding headerBlock u16Bytes concatMap padded
   parts = refl
 
   few-words : length (words n outputs) ≤ 7
   few-words = omega arith
 
-  upto-words : length (mark ++ wordPlaces n outputs) ≡ 18
+  upto-words : length (mark ++ wordPlaces n outputs) ≡ outputsEnd
   upto-words = length-two mark (wordPlaces n outputs) 4 14 refl
       (length-places u16Bytes 2 7 unusedPlace (words n outputs) length-u16 few-words)
 
-  pub length-header : length (headerBlock n outputs) ≡ 24
-  length-header = rw parts (length-two (mark ++ wordPlaces n outputs) (replicate 6 0) 18 6 upto-words refl)
+  pub length-header : length (headerBlock n outputs) ≡ headerBytes
+  length-header = rw parts (length-two (mark ++ wordPlaces n outputs) zeros outputsEnd zeroBytes upto-words refl)
 
   -- ---- and where they stand
 
   word-byte : (i : ℕ) → i < 14 → getD (headerBlock n outputs) (4 + i) 0 ≡ getD (wordPlaces n outputs) i 0
   word-byte i l =
-      rw parts (at-first (mark ++ wordPlaces n outputs) (replicate 6 0) 18 (4 + i) 0 upto-words (omega arith)
+      rw parts (at-first (mark ++ wordPlaces n outputs) zeros outputsEnd (4 + i) 0 upto-words (omega arith)
       ∙ at-second mark (wordPlaces n outputs) 4 i 0 refl)
 
-  zero-byte : (i : ℕ) → i < 6 → getD (headerBlock n outputs) (18 + i) 0 ≡ 0
+  zero-byte : (i : ℕ) → i < zeroBytes → getD (headerBlock n outputs) (outputsEnd + i) 0 ≡ 0
   zero-byte i l =
-      rw parts (at-second (mark ++ wordPlaces n outputs) (replicate 6 0) 18 i 0 upto-words ∙ getD-replicate 6 i 0 0 l)
+      rw parts (at-second (mark ++ wordPlaces n outputs) zeros outputsEnd i 0 upto-words ∙ getD-replicate zeroBytes i 0 0 l)
 
   -- ---- a block that begins with the header
 
-  module _ (block : List ℕ) (held : (i : ℕ) → i < 24 → byteAt block i ≡ getD (headerBlock n outputs) i 0) where
+  module _ (block : List ℕ) (held : (i : ℕ) → i < headerBytes → byteAt block i ≡ getD (headerBlock n outputs) i 0) where
     words-held : (i : ℕ) → i < 14 → byteAt block (4 + i) ≡ getD (wordPlaces n outputs) i 0
     words-held i l = held (4 + i) (omega arith) ∙ word-byte i l
 
@@ -77,9 +83,9 @@ module _ (n : ℕ) (outputs : List ℕ) (few : length outputs ≤ outputLimit) w
     pub outputs-back : ((k : ℕ) → k < length outputs → getD outputs k unusedPlace < 65536) → graphOf block .outputs ≡ outputs
     unfolding graphOf
     outputs-back small =
-        tabulated (outputCount block) (λ k. u16At block (10 + 2 * k)) outputs unusedPlace output-count-back
+        tabulated (outputCount block) (λ k. u16At block (outputsOffset + 2 * k)) outputs unusedPlace output-count-back
         (λ k l.
-        let e : 4 + 2 * suc (suc (suc k)) ≡ 10 + 2 * k = omega arith in
+        let e : 4 + 2 * suc (suc (suc k)) ≡ outputsOffset + 2 * k = omega arith in
         rw e at (word-back (suc (suc (suc k))) (omega arith) (small k l)))
 
     -- ---- the header fits where the counts do
@@ -88,14 +94,14 @@ module _ (n : ℕ) (outputs : List ℕ) (few : length outputs ≤ outputLimit) w
     unfolding markFits headerBlock
     marked = simp (held 0 (omega arith), held 1 (omega arith), held 2 (omega arith), held 3 (omega arith))
 
-    unused-outputs : filled block (10 + 2 * length outputs) 18 255 ≡ true
+    unused-outputs : filled block (outputsOffset + 2 * length outputs) outputsEnd 255 ≡ true
     unused-outputs =
-        let e : 4 + 2 * length (words n outputs) ≡ 10 + 2 * length outputs = omega arith in
-        rw e at (others-filled u16Bytes 2 7 unusedPlace (words n outputs) length-u16 few-words block 4 18 255
+        let e : 4 + 2 * length (words n outputs) ≡ outputsOffset + 2 * length outputs = omega arith in
+        rw e at (others-filled u16Bytes 2 7 unusedPlace (words n outputs) length-u16 few-words block 4 outputsEnd 255
         (omega arith) u16-unused refl words-held)
 
-    zero-end : filled block 18 24 0 ≡ true
-    zero-end = filled-every block 18 24 0 (λ i l. held (18 + i) (omega arith) ∙ zero-byte i (omega arith))
+    zero-end : filled block outputsEnd headerBytes 0 ≡ true
+    zero-end = filled-every block outputsEnd headerBytes 0 (λ i l. held (outputsEnd + i) (omega arith) ∙ zero-byte i (omega arith))
 
     pub header-fits : length block ≡ recordAt n → within 1 n slotLimit ≡ true → within 1 (length outputs) outputLimit ≡ true
         → n < 65536 → headerFits block ≡ true
@@ -135,30 +141,30 @@ module _ (block : List ℕ) (fits : headerFits block ≡ true) where
   word-read (suc zero) l = refl
   word-read (suc (suc zero)) l = length-outputs block
   word-read (suc (suc (suc k))) l =
-      let e : 4 + 2 * suc (suc (suc k)) ≡ 10 + 2 * k = omega arith in
+      let e : 4 + 2 * suc (suc (suc k)) ≡ outputsOffset + 2 * k = omega arith in
       rw e (output-of block k unusedPlace (omega (arith, length-outputs block)))
 
-  unused-outputs-read : filled block (4 + 2 * length (words (slotCount block) (graphOf block .outputs))) 18 255 ≡ true
+  unused-outputs-read : filled block (4 + 2 * length (words (slotCount block) (graphOf block .outputs))) outputsEnd 255 ≡ true
   unfolding headerFits outputPlacesFit
   unused-outputs-read =
-      let e : 4 + 2 * length (words (slotCount block) (graphOf block .outputs)) ≡ 10 + 2 * outputCount block =
+      let e : 4 + 2 * length (words (slotCount block) (graphOf block .outputs)) ≡ outputsOffset + 2 * outputCount block =
       omega (arith, length-outputs block) in
-      rw e (needed (filled block (10 + 2 * outputCount block) 18 255) fits (λ f. simp (f, and-false)))
+      rw e (needed (filled block (outputsOffset + 2 * outputCount block) outputsEnd 255) fits (λ f. simp (f, and-false)))
 
-  zero-end-read : (i : ℕ) → i < 6 → byteAt block (18 + i) ≡ 0
+  zero-end-read : (i : ℕ) → i < zeroBytes → byteAt block (outputsEnd + i) ≡ 0
   unfolding headerFits
-  zero-end-read = filled-at block 18 24 0 (needed (filled block 18 24 0) fits (λ f. simp (f, and-false)))
+  zero-end-read = filled-at block outputsEnd headerBytes 0 (needed (filled block outputsEnd headerBytes 0) fits (λ f. simp (f, and-false)))
 
-  pub header-read : Bytes block → (i : ℕ) → i < 24
+  pub header-read : Bytes block → (i : ℕ) → i < headerBytes
       → getD (headerBlock (slotCount block) (graphOf block .outputs)) i 0 ≡ byteAt block i
   header-read bytes =
       let n = slotCount block in
       let outputs = graphOf block .outputs in
       let Same : ℕ → Type 0 = λ i. getD (headerBlock n outputs) i 0 ≡ byteAt block i in
-      in-parts Same 18 6
+      in-parts Same outputsEnd zeroBytes
       (in-parts Same 4 14 mark-read
       (λ i l. word-byte n outputs few-outputs-read i l
-      ∙ places-held u16Bytes 2 7 unusedPlace (words n outputs) length-u16 (few-words n outputs few-outputs-read) block 4 18 255
+      ∙ places-held u16Bytes 2 7 unusedPlace (words n outputs) length-u16 (few-words n outputs few-outputs-read) block 4 outputsEnd 255
       (omega arith) u16-unused refl
       (λ k h j m. ap (λ (x : ℕ). getD (u16Bytes x) j 0) (word-read k h) ∙ u16-bytes block bytes (4 + 2 * k) j m)
       unused-outputs-read i l))

@@ -1,7 +1,7 @@
 -- A list that is made of pieces, by index: pieces of one size that stand one after the other, and what holds of every index
 -- because it holds of the indices of each part.
 -- Assumes nothing.
-use mathlib.Core.Path.{_≡_, ap₂, _∙_}
+use mathlib.Core.Path.{_≡_, ap, ap₂, _∙_}
 use mathlib.Core.Bool.{true, false}
 use mathlib.Core.List.{List, [], _∷_, _++_}
 use mathlib.Core.Logic.{⊎-elim}
@@ -14,6 +14,7 @@ use lib.ListN.{length, getD, length-append, List·getD-append}
 use lib.Seq.{getD-append-add, ext-getD}
 use Rattle.definitions.specs.Lists.{tabulate, concatMap}
 use Rattle.laws.proofs.Lists.{decided, length-tabulate, getD-tabulate}
+use Rattle.laws.proofs.Pieces.{length-pieces}
 
 -- ---- what holds of every index below a bound
 
@@ -84,3 +85,19 @@ module _ {A : Type 0} {B : Type 0} (f : A → List B) (size : ℕ) (a : A) where
       let e : size * suc k + i ≡ size + (size * k + i) = omega arith in
       rw e (at-second (f x) (concatMap f xs) size (size * k + i) b (sized 0 (omega arith))
       ∙ piece-at xs (λ j n. sized (suc j) (omega arith)) k i b (le-of-suc-le-suc l) m)
+
+-- and of elements that are given by their numbers
+module _ {A : Type 0} {B : Type 0} (f : A → List B) (size n : ℕ) (h : ℕ → A) (sized : (k : ℕ) → k < n → length (f (h k)) ≡ size) where
+  each-sized : (k : ℕ) → k < length (tabulate n h) → length (f (getD (tabulate n h) k (h 0))) ≡ size
+  each-sized k l =
+      let inside : k < n = omega (arith, length-tabulate n h) in
+      ap (λ (x : A). length (f x)) (getD-tabulate n h k (h 0) inside) ∙ sized k inside
+
+  pub length-numbered : length (concatMap f (tabulate n h)) ≡ size * n
+  length-numbered =
+      length-pieces f size (h 0) (tabulate n h) each-sized ∙ ap (λ (m : ℕ). size * m) (length-tabulate n h)
+
+  pub numbered-at : (k i : ℕ) (b : B) → k < n → i < size → getD (concatMap f (tabulate n h)) (size * k + i) b ≡ getD (f (h k)) i b
+  numbered-at k i b l m =
+      piece-at f size (h 0) (tabulate n h) each-sized k i b (omega (arith, length-tabulate n h)) m
+      ∙ ap (λ (x : A). getD (f x) i b) (getD-tabulate n h k (h 0) l)

@@ -1,41 +1,53 @@
--- Runs of equal bytes, one byte more or one that differs.
+-- Runs of equal bytes: by their places, and by parts that leave no gap.
 -- Assumes nothing.
 use mathlib.Core.Path.{_≡_}
 use mathlib.Core.Bool.{true, false}
-use mathlib.Core.List.{List}
-use Prim.Native.Nat.{ℕ, _+_, _-_, _<_, _≤_, max}
+use mathlib.Core.Logic.{⊎-elim}
+use mathlib.Core.List.{List, [], _∷_}
+use Prim.Native.Nat.{ℕ, _+_, _-_, _<_, _≤_}
 use native.Mathlib.Omega.{arith}
-use borrow.Author.Tests.{eq-eqb, ne-eqb}
-use lib.Dec.{eqb}
-use Rattle.definitions.specs.Lists.{allBelow}
+use borrow.Author.Tests.{eq-eqb, eqb-true, ltb-true, ltb-false}
+use lib.Dec.{eqb, ltb}
 use Rattle.definitions.specs.Fields.{byteAt, filled}
-use Rattle.laws.proofs.Lists.{allBelow-step, allBelow-fails}
+use Rattle.laws.proofs.Lists.{decided, fails, and-left, and-right, allBelow-every, allBelow-at}
+use Rattle.laws.proofs.Tests.{same-tests, allOf, conjunction, Remains}
 
-module _ (block : List ℕ) (from value : ℕ) where
-  pub filled-none : (to : ℕ) → to ≤ from → filled block from to value ≡ true
-  unfolding filled allBelow
-  filled-none to h = let e : to - from ≡ 0 = omega arith in rw e
-
-  pub filled-more : (at : ℕ) → from ≤ at → filled block from at value ≡ true → byteAt block at ≡ value
-      → filled block from (at + 1) value ≡ true
+module _ (block : List ℕ) (value : ℕ) where
+  -- a run is filled where each of its places is
+  pub filled-each : (from to : ℕ) → ((k : ℕ) → from ≤ k → k < to → byteAt block k ≡ value) → filled block from to value ≡ true
   unfolding filled
-  filled-more at h t e =
-      let i : from + (at - from) ≡ at = omega arith in
-      let n : at + 1 - from ≡ at - from + 1 = omega arith in
-      let same : eqb (byteAt block (from + (at - from))) value ≡ true = rw i (eq-eqb (byteAt block at) value e) in
-      rw n (allBelow-step (λ k. eqb (byteAt block (from + k)) value) (at - from) t same)
+  filled-each from to each =
+      allBelow-every (λ i. eqb (byteAt block (from + i)) value) (to - from)
+      (λ i l. eq-eqb (byteAt block (from + i)) value (each (from + i) (omega arith) (omega arith)))
 
-  pub filled-fails : (at to : ℕ) → from ≤ at → at < to → (byteAt block at ≡ value → ⊥) → filled block from to value ≡ false
+  pub filled-place : (from to : ℕ) → filled block from to value ≡ true → (k : ℕ) → from ≤ k → k < to → byteAt block k ≡ value
   unfolding filled
-  filled-fails at to h l e =
-      let i : from + (at - from) ≡ at = omega arith in
-      let other : eqb (byteAt block (from + (at - from))) value ≡ false = rw i (ne-eqb (byteAt block at) value e) in
-      allBelow-fails (λ k. eqb (byteAt block (from + k)) value) (to - from) (at - from) (omega arith) other
+  filled-place from to h k a l =
+      let i : from + (k - from) ≡ k = omega arith in
+      rw i at (eqb-true (byteAt block (from + (k - from))) value
+      (allBelow-at (λ j. eqb (byteAt block (from + j)) value) (to - from) (k - from) h (omega arith)))
 
--- a loop that passed both ends has tested the whole run
-pub ended : (block : List ℕ) (from to value at : ℕ) → from ≤ at → at ≤ max from to → to ≤ at → filled block from at value ≡ true
-    → filled block from to value ≡ true
-unfolding filled
-ended block from to value at h m l t =
-    let same : to - from ≡ at - from = omega arith in
-    rw same t
+  -- a byte that differs
+  pub filled-fails : (from to k : ℕ) → from ≤ k → k < to → (byteAt block k ≡ value → ⊥) → filled block from to value ≡ false
+  filled-fails from to k a l other = fails (λ t. other (filled-place from to t k a l))
+
+  -- a run in two parts, which may overlap
+  pub filled-parts : (from middle rest to : ℕ) → from ≤ rest → rest ≤ middle → middle ≤ to
+      → Remains (filled block from to value) (filled block from middle value ∷ filled block rest to value ∷ [])
+  unfolding conjunction allOf
+  filled-parts from middle rest to a b l = record {
+    same = same-tests
+        (λ h.
+        simp (
+          filled-each from middle (λ k m n. filled-place from to h k (omega arith) (omega arith)),
+          filled-each rest to (λ k m n. filled-place from to h k (omega arith) (omega arith)),
+        ))
+        (λ h.
+        let first = and-left (filled block from middle value) (filled block rest to value) h in
+        let second = and-right (filled block from middle value) (filled block rest to value) h in
+        filled-each from to
+        (λ k m n.
+        ⊎-elim (λ (t : ltb k middle ≡ true). filled-place from middle first k m (ltb-true k middle t))
+        (λ (t : ltb k middle ≡ false). filled-place rest to second k (omega (arith, ltb-false k middle t)) n)
+        (decided (ltb k middle))));
+  }

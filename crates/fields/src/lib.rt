@@ -1,10 +1,16 @@
-// Fields of a lent block: bytes, 16-bit and 32-bit little-endian numbers, signed ones, and runs of
+// Fields of a lent block: bytes, 16-bit, 32-bit and 64-bit little-endian numbers, signed ones, and runs of
 // equal bytes. Nothing here reads past what its `requires` names.
 ghost use mathlib.Core.Path.{_≡_};
-ghost use Prim.Native.Nat.{_+_, _<_, _≤_, max};
+ghost use Prim.Native.Nat.{_+_, _*_, _<_, _≤_, min, max};
 ghost use lib.ListN.{length};
 ghost use Rattle.definitions.specs.Fields.{byteAt, u16At, u32At, filled, markFits, signed};
 ghost use Rattle.fields.specs.Integer.{integerOf};
+ghost use Rattle.fields.specs.Words.{wordBytes, u64At};
+
+// The bytes of a 64-bit word.
+pub const WORD_BYTES: usize = 8;
+// The word whose bytes are all 1.
+const WORD_OF_ONES: usize = 72340172838076673;
 
 // A whole number by its sign: Plus(n) is n, and Minus(n) is -(n + 1), so that each number has one
 // form only.
@@ -25,6 +31,16 @@ pub fn greater(a: usize, b: usize) -> usize
     ensures { λ r. ⌜ r ≡ max a b ⌝ }
 {
     if a < b {
+        return b;
+    }
+    a
+}
+
+// The lesser of two numbers.
+fn lesser(a: usize, b: usize) -> usize
+    ensures { λ r. ⌜ r ≡ min a b ⌝ }
+{
+    if b < a {
         return b;
     }
     a
@@ -58,6 +74,16 @@ pub fn u32_at(block: &[u8], at: usize) -> usize
     low + 65536 * high
 }
 
+// The 64-bit word at `at`. The compiler reads it in one step.
+pub fn u64_at(block: &[u8], at: usize) -> usize
+    requires { ⌜ at + wordBytes ≤ length (now block) ⌝ }
+    ensures { λ r. ⌜ r ≡ u64At (now (block .entry)) at ⌝ }
+{
+    let low = u32_at(block, at);
+    let high = u32_at(block, at + 4);
+    low + 4294967296 * high
+}
+
 // The signed 32-bit number at `at`, in two's complement.
 pub fn i32_at(block: &[u8], at: usize) -> Integer
     requires { ⌜ at + 3 < length (now block) ⌝ }
@@ -83,6 +109,44 @@ pub fn is_filled(block: &[u8], from: usize, to: usize, value: usize) -> bool
         at += 1;
     }
     true
+}
+
+// Whether the 8 bytes from `at` on all hold `value`: they are compared as one word.
+pub fn word_filled(block: &[u8], at: usize, value: u8) -> bool
+    requires { ⌜ at + wordBytes ≤ length (now block) ⌝ }
+    ensures { λ r. ⌜ r ≡ filled (now (block .entry)) at (at + wordBytes) value ⌝ }
+{
+    u64_at(block, at) == WORD_OF_ONES * value as usize
+}
+
+// Whether the bytes from `from` up to `to` all hold `value`, where they are one word to two words long: the first word and the last,
+// which may overlap.
+pub fn two_words_filled(block: &[u8], from: usize, to: usize, value: u8) -> bool
+    requires { ⌜ from + wordBytes ≤ to ⌝ }
+    requires { ⌜ to ≤ from + 2 * wordBytes ⌝ }
+    requires { ⌜ to ≤ length (now block) ⌝ }
+    ensures { λ r. ⌜ r ≡ filled (now (block .entry)) from to value ⌝ }
+{
+    if !word_filled(block, from, value) {
+        return false;
+    }
+    word_filled(block, to - WORD_BYTES, value)
+}
+
+// The same where they are one word to four words long: two pairs of words, which may overlap too. There is no loop, so that nothing
+// depends on the length but where the words stand.
+pub fn four_words_filled(block: &[u8], from: usize, to: usize, value: u8) -> bool
+    requires { ⌜ from + wordBytes ≤ to ⌝ }
+    requires { ⌜ to ≤ from + 4 * wordBytes ⌝ }
+    requires { ⌜ to ≤ length (now block) ⌝ }
+    ensures { λ r. ⌜ r ≡ filled (now (block .entry)) from to value ⌝ }
+{
+    let middle = lesser(from + 2 * WORD_BYTES, to);
+    if !two_words_filled(block, from, middle, value) {
+        return false;
+    }
+    let rest = lesser(middle, to - WORD_BYTES);
+    two_words_filled(block, rest, to, value)
 }
 
 // Whether the block starts with its mark: `LG`, the letter of its sort, and a zero byte.

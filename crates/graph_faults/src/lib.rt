@@ -1,17 +1,24 @@
 // The faults of a graph block but for a cycle, in document 01's order. Where a fault has a place, the
 // test gives the lowest one, or the number of places looked at where there is none.
+use definitions::ATTRIBUTES_OFFSET;
 use definitions::GRAPH_LETTER;
 use definitions::GRAPH_VERSION;
 use definitions::HEADER_BYTES;
+use definitions::INPUTS_OFFSET;
 use definitions::KIND_PROJ;
 use definitions::OUTPUT_LIMIT;
+use definitions::OUTPUTS_END;
+use definitions::OUTPUTS_OFFSET;
 use definitions::SLOT_BYTES;
 use definitions::SLOT_LIMIT;
 use fields::Integer;
+use fields::WORD_BYTES;
 use fields::byte_at;
+use fields::four_words_filled;
 use fields::has_mark;
 use fields::i32_at;
 use fields::is_filled;
+use fields::two_words_filled;
 use fields::u16_at;
 use graph_fields::input_at;
 use graph_fields::input_count;
@@ -22,13 +29,13 @@ use graph_fields::slot_count;
 use operators::shape_fits;
 ghost use mathlib.Core.Path.{_≡_};
 ghost use mathlib.Core.Bool.{not, _||_};
-ghost use Prim.Native.Nat.{_+_, _<_, _≤_};
+ghost use Prim.Native.Nat.{_+_, _*_, _<_, _≤_};
 ghost use lib.Dec.{eqb};
 ghost use lib.ListN.{length};
 ghost use Rattle.definitions.specs.Lists.{lowest, all};
-ghost use Rattle.definitions.specs.Fields.{u32At, signed};
+ghost use Rattle.definitions.specs.Fields.{u32At, filled, signed};
 ghost use Rattle.definitions.specs.Operators.{kindProj};
-ghost use Rattle.definitions.specs.Graph.{headerBytes, slotBytes, slotCount, outputCount, graphOf, inputsOf, isVertex, outputPlacesFit, headerFits, atLeastOne, recordFits, badRecord, badInputs, badOutput};
+ghost use Rattle.definitions.specs.Graph.{inputsOffset, attributesOffset, headerBytes, slotBytes, inputLimit, slotCount, outputCount, graphOf, inputsOf, isVertex, outputPlacesFit, headerFits, atLeastOne, recordFits, badRecord, badInputs, badOutput};
 ghost use Rattle.graph_fields.specs.Layout.{WholeGraph, ReadableGraph};
 
 // Whether 1 to 4 outputs are counted, and the unused output places hold 65535.
@@ -43,7 +50,7 @@ fn output_places_fit(graph: &[u8]) -> bool
     if OUTPUT_LIMIT < outputs {
         return false;
     }
-    is_filled(graph, 10 + 2 * outputs, 18, 255)
+    is_filled(graph, OUTPUTS_OFFSET + 2 * outputs, OUTPUTS_END, 255)
 }
 
 // Whether the length and the header are right.
@@ -72,24 +79,38 @@ pub fn header_fits(graph: &[u8]) -> bool
     if !output_places_fit(graph) {
         return false;
     }
-    is_filled(graph, 18, HEADER_BYTES, 0)
+    is_filled(graph, OUTPUTS_END, HEADER_BYTES, 0)
 }
 
 // Whether the record at `at` is no Proj, or its first attribute, the index, is at least 1.
 fn index_fits(graph: &[u8], at: usize, kind: usize) -> bool
     requires { ⌜ at + slotBytes ≤ length (now graph) ⌝ }
-    ensures { λ r. ⌜ r ≡ (not (eqb kind kindProj) || atLeastOne (signed (u32At (now (graph .entry)) (at + 16)))) ⌝ }
+    ensures { λ r. ⌜ r ≡ (not (eqb kind kindProj) || atLeastOne (signed (u32At (now (graph .entry)) (at + attributesOffset)))) ⌝ }
 {
     if kind != KIND_PROJ {
         return true;
     }
-    match i32_at(graph, at + 16) {
+    match i32_at(graph, at + ATTRIBUTES_OFFSET) {
         Integer::Plus(index) => 0 < index,
         Integer::Minus(_) => false,
     }
 }
 
-// Whether the record at `at` follows its kind.
+// Whether the unused input places of the record at `at` hold 65535.
+fn unused_inputs_fit(graph: &[u8], at: usize, inputs: usize) -> bool
+    requires { ⌜ at + slotBytes ≤ length (now graph) ⌝ }
+    requires { ⌜ inputs ≤ inputLimit ⌝ }
+    ensures { λ r. ⌜ r ≡ filled (now (graph .entry)) (at + inputsOffset + 2 * inputs) (at + attributesOffset) 255 ⌝ }
+{
+    let from = at + INPUTS_OFFSET + 2 * inputs;
+    let to = at + ATTRIBUTES_OFFSET;
+    if to < from + WORD_BYTES {
+        return is_filled(graph, from, to, 255);
+    }
+    two_words_filled(graph, from, to, 255)
+}
+
+// Whether the record at `at` follows its kind. Its unused attribute places and the zero bytes at its end are one run.
 pub fn record_fits(graph: &[u8], at: usize) -> bool
     requires { ⌜ at + slotBytes ≤ length (now graph) ⌝ }
     ensures { λ r. ⌜ r ≡ recordFits (now (graph .entry)) at ⌝ }
@@ -101,16 +122,18 @@ pub fn record_fits(graph: &[u8], at: usize) -> bool
     if !shape_fits(kind, operator, inputs, attributes) {
         return false;
     }
-    if !is_filled(graph, at + 4 + 2 * inputs, at + 16, 255) {
+    if !unused_inputs_fit(graph, at, inputs) {
         return false;
     }
-    if !is_filled(graph, at + 16 + 4 * attributes, at + 40, 0) {
+    if !four_words_filled(
+        graph,
+        at + ATTRIBUTES_OFFSET + 4 * attributes,
+        at + SLOT_BYTES,
+        0,
+    ) {
         return false;
     }
-    if !index_fits(graph, at, kind) {
-        return false;
-    }
-    is_filled(graph, at + 40, at + 48, 0)
+    index_fits(graph, at, kind)
 }
 
 // The lowest slot with a bad record, or the number of slots.

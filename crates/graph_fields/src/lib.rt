@@ -1,6 +1,9 @@
 // A graph block's fields by index, as fields of the graph for which the block stands.
+use definitions::ATTRIBUTES_OFFSET;
 use definitions::HEADER_BYTES;
+use definitions::INPUTS_OFFSET;
 use definitions::KIND_EMPTY;
+use definitions::OUTPUTS_OFFSET;
 use definitions::SLOT_BYTES;
 use fields::Integer;
 use fields::byte_at;
@@ -8,11 +11,11 @@ use fields::i32_at;
 use fields::u16_at;
 use fields::u32_at;
 ghost use mathlib.Core.Path.{_≡_};
-ghost use Prim.Native.Nat.{_<_, _≤_};
+ghost use Prim.Native.Nat.{_+_, _<_, _≤_};
 ghost use lib.ListN.{length, getD};
 ghost use Rattle.fields.specs.Integer.{integerOf};
 ghost use Rattle.definitions.specs.Fields.{signed};
-ghost use Rattle.definitions.specs.Graph.{headerBytes, inputLimit, attributeLimit, unusedPlace, slotCount, outputCount, graphOf, slotOf, inputsOf, isVertex};
+ghost use Rattle.definitions.specs.Graph.{headerBytes, slotBytes, inputLimit, attributeLimit, unusedPlace, slotCount, outputCount, recordAt, graphOf, slotOf, inputsOf, isVertex};
 ghost use Rattle.graph_fields.specs.Layout.{WholeGraph, ReadableGraph};
 
 // How many slots the header counts.
@@ -31,13 +34,23 @@ pub fn output_count(graph: &[u8]) -> usize
     u16_at(graph, 8)
 }
 
+// Where the record of slot k starts.
+fn record_at(graph: &[u8], k: usize) -> usize
+    requires { ⌜ WholeGraph (now graph) ⌝ }
+    requires { ⌜ k < slotCount (now graph) ⌝ }
+    ensures { λ r. ⌜ (r ≡ recordAt k) × (r + slotBytes ≤ length (now (graph .entry))) ⌝ }
+{
+    HEADER_BYTES + SLOT_BYTES * k
+}
+
 // The kind of slot k.
 pub fn kind_of(graph: &[u8], k: usize) -> usize
     requires { ⌜ WholeGraph (now graph) ⌝ }
     requires { ⌜ k < slotCount (now graph) ⌝ }
     ensures { λ r. ⌜ (r ≡ slotOf (graphOf (now (graph .entry))) k .kind) × (r < 256) ⌝ }
 {
-    byte_at(graph, HEADER_BYTES + SLOT_BYTES * k)
+    let at = record_at(graph, k);
+    byte_at(graph, at)
 }
 
 // The operator of slot k.
@@ -46,7 +59,8 @@ pub fn operator_of(graph: &[u8], k: usize) -> usize
     requires { ⌜ k < slotCount (now graph) ⌝ }
     ensures { λ r. ⌜ (r ≡ slotOf (graphOf (now (graph .entry))) k .operator) × (r < 256) ⌝ }
 {
-    byte_at(graph, HEADER_BYTES + SLOT_BYTES * k + 1)
+    let at = record_at(graph, k);
+    byte_at(graph, at + 1)
 }
 
 // How many inputs slot k has.
@@ -55,7 +69,8 @@ pub fn input_count(graph: &[u8], k: usize) -> usize
     requires { ⌜ k < slotCount (now graph) ⌝ }
     ensures { λ r. ⌜ (r ≡ length (inputsOf (graphOf (now (graph .entry))) k)) × (r ≤ inputLimit) ⌝ }
 {
-    byte_at(graph, HEADER_BYTES + SLOT_BYTES * k + 2)
+    let at = record_at(graph, k);
+    byte_at(graph, at + 2)
 }
 
 // What input place i of slot k names.
@@ -65,7 +80,8 @@ pub fn input_at(graph: &[u8], k: usize, i: usize) -> usize
     requires { ⌜ i < length (inputsOf (graphOf (now graph)) k) ⌝ }
     ensures { λ r. ⌜ (r ≡ getD (inputsOf (graphOf (now (graph .entry))) k) i unusedPlace) × (r < 65536) ⌝ }
 {
-    u16_at(graph, HEADER_BYTES + SLOT_BYTES * k + 4 + 2 * i)
+    let at = record_at(graph, k);
+    u16_at(graph, at + INPUTS_OFFSET + 2 * i)
 }
 
 // How many attributes slot k has.
@@ -74,7 +90,8 @@ pub fn attribute_count(graph: &[u8], k: usize) -> usize
     requires { ⌜ k < slotCount (now graph) ⌝ }
     ensures { λ r. ⌜ (r ≡ length (slotOf (graphOf (now (graph .entry))) k .attributes)) × (r ≤ attributeLimit) ⌝ }
 {
-    byte_at(graph, HEADER_BYTES + SLOT_BYTES * k + 3)
+    let at = record_at(graph, k);
+    byte_at(graph, at + 3)
 }
 
 // The number in attribute place i of slot k, here counted from 0.
@@ -84,7 +101,8 @@ pub fn attribute_at(graph: &[u8], k: usize, i: usize) -> Integer
     requires { ⌜ i < length (slotOf (graphOf (now graph)) k .attributes) ⌝ }
     ensures { λ r. ⌜ integerOf r ≡ signed (getD (slotOf (graphOf (now (graph .entry))) k .attributes) i 0) ⌝ }
 {
-    i32_at(graph, HEADER_BYTES + SLOT_BYTES * k + 16 + 4 * i)
+    let at = record_at(graph, k);
+    i32_at(graph, at + ATTRIBUTES_OFFSET + 4 * i)
 }
 
 // The 32-bit word in attribute place i of slot k, here counted from 0.
@@ -94,7 +112,8 @@ pub fn attribute_word(graph: &[u8], k: usize, i: usize) -> usize
     requires { ⌜ i < length (slotOf (graphOf (now graph)) k .attributes) ⌝ }
     ensures { λ r. ⌜ (r ≡ getD (slotOf (graphOf (now (graph .entry))) k .attributes) i 0) × (r < 4294967296) ⌝ }
 {
-    u32_at(graph, HEADER_BYTES + SLOT_BYTES * k + 16 + 4 * i)
+    let at = record_at(graph, k);
+    u32_at(graph, at + ATTRIBUTES_OFFSET + 4 * i)
 }
 
 // What output place i names.
@@ -103,7 +122,7 @@ pub fn output_at(graph: &[u8], i: usize) -> usize
     requires { ⌜ i < outputCount (now graph) ⌝ }
     ensures { λ r. ⌜ (r ≡ getD (graphOf (now (graph .entry)) .outputs) i unusedPlace) × (r < 65536) ⌝ }
 {
-    u16_at(graph, 10 + 2 * i)
+    u16_at(graph, OUTPUTS_OFFSET + 2 * i)
 }
 
 // Whether v names a vertex: a slot of the block that is not Empty.

@@ -1,4 +1,5 @@
 pub mod Lists
+pub mod Tests
 pub mod Graph
 pub mod Rule
 pub mod Operators
@@ -16,3 +17,5 @@ pub mod Results
 pub mod Rewriting
 pub mod Parts
 pub mod Operations
+pub mod Sums
+pub mod Counts

@@ -17,7 +17,7 @@ use Rattle.definitions.specs.Graph.{Graph, graphOf, hasCycle, graphFaults, grap
 use Rattle.definitions.specs.Rule.{sideLimit, Rule, ruleOf, ruleFaults, ruleReply}
 use Rattle.definitions.specs.Match.{readAttribute, leastMatch}
 use Rattle.definitions.specs.Rewriting.{targetResults, hasRoom, newGraph}
-use Rattle.definitions.specs.Operations.{Outcome, mapBytes, mapReply, blocksReply, matched, findMatch, Rewritten, accepted, turnedDown, rewrittenWith, rewritten, replaced, rewrite}
+use Rattle.definitions.specs.Operations.{mapBytes, mapReply, blocksReply, matched, findMatch, Rewritten, accepted, turnedDown, rewrittenWith, rewritten, replaced, rewrite}
 use Rattle.laws.proofs.Reply.{Plain, plain-done, plain-refused, judged-plain}
 
 -- ---- the lent blocks

@@ -67,89 +67,87 @@ module _ (block : List ℕ) where
   unfolding ruleOf
   target-output-of i d h = getD-tabulate (ruleOutputCount block) (λ k. originOf (byteAt block (12 + k))) i d h
 
-  module _ {P : Type 0} (naming : ℕ → P) where
-    pub length-pattern-inputs : (at : ℕ) → length (patternFrom naming block at .inputs) ≡ byteAt block (at + 2)
+  -- a vertex that is read from the record that starts at `at`, field by field
+  module _ {P : Type 0} (naming : ℕ → P) (at : ℕ) {p : Pattern P} (read : p ≡ patternFrom naming block at) where
+    kind-at : p .kind ≡ byteAt block at
     unfolding patternFrom
-    length-pattern-inputs at = length-tabulate (byteAt block (at + 2)) (λ i. naming (byteAt block (at + 4 + i)))
+    kind-at = ap (λ (q : Pattern P). q .kind) read
 
-    pub pattern-input-of : (at i : ℕ) (d : P) → i < byteAt block (at + 2)
-        → getD (patternFrom naming block at .inputs) i d ≡ naming (byteAt block (at + 4 + i))
+    operator-at : p .operator ≡ byteAt block (at + 1)
     unfolding patternFrom
-    pattern-input-of at i d h = getD-tabulate (byteAt block (at + 2)) (λ k. naming (byteAt block (at + 4 + k))) i d h
+    operator-at = ap (λ (q : Pattern P). q .operator) read
 
-    pub length-pattern-attributes : (at : ℕ) → length (patternFrom naming block at .attributes) ≡ byteAt block (at + 3)
+    inputs-at : length (p .inputs) ≡ byteAt block (at + 2)
     unfolding patternFrom
-    length-pattern-attributes at =
-        length-tabulate (byteAt block (at + 3)) (λ i. expressionOf block (byteAt block (at + 10 + i)))
+    inputs-at =
+        ap (λ (q : Pattern P). length (q .inputs)) read
+        ∙ length-tabulate (byteAt block (at + 2)) (λ i. naming (byteAt block (at + 4 + i)))
 
-    pub pattern-attribute-of : (at i : ℕ) (d : Expression) → i < byteAt block (at + 3)
-        → getD (patternFrom naming block at .attributes) i d ≡ expressionOf block (byteAt block (at + 10 + i))
+    input-at : (i : ℕ) (d : P) → i < length (p .inputs) → getD (p .inputs) i d ≡ naming (byteAt block (at + 4 + i))
     unfolding patternFrom
-    pattern-attribute-of at i d h =
-        getD-tabulate (byteAt block (at + 3)) (λ k. expressionOf block (byteAt block (at + 10 + k))) i d h
+    input-at i d l =
+        ap (λ (q : Pattern P). getD (q .inputs) i d) read
+        ∙ getD-tabulate (byteAt block (at + 2)) (λ k. naming (byteAt block (at + 4 + k))) i d (rw inputs-at at l)
 
-  -- the same, from the vertex's number to its bytes
+    attributes-at : length (p .attributes) ≡ byteAt block (at + 3)
+    unfolding patternFrom
+    attributes-at =
+        ap (λ (q : Pattern P). length (q .attributes)) read
+        ∙ length-tabulate (byteAt block (at + 3)) (λ i. expressionOf block (byteAt block (at + 10 + i)))
+
+    attribute-at : (i : ℕ) (d : Expression) → i < length (p .attributes)
+        → getD (p .attributes) i d ≡ expressionOf block (byteAt block (at + 10 + i))
+    unfolding patternFrom
+    attribute-at i d l =
+        ap (λ (q : Pattern P). getD (q .attributes) i d) read
+        ∙ getD-tabulate (byteAt block (at + 3)) (λ k. expressionOf block (byteAt block (at + 10 + k))) i d (rw attributes-at at l)
+
+  -- the same of a source or target vertex, by its number
   pub source-kind-at : (j : ℕ) → j < sourceCount block → sourceOf (ruleOf block) j .kind ≡ byteAt block (vertexAt j)
-  unfolding patternFrom
-  source-kind-at j h = ap (λ (p : Pattern ℕ). p .kind) (source-of j h)
+  source-kind-at j h = kind-at (λ p. p) (vertexAt j) (source-of j h)
 
   pub source-operator-at : (j : ℕ) → j < sourceCount block → sourceOf (ruleOf block) j .operator ≡ byteAt block (vertexAt j + 1)
-  unfolding patternFrom
-  source-operator-at j h = ap (λ (p : Pattern ℕ). p .operator) (source-of j h)
+  source-operator-at j h = operator-at (λ p. p) (vertexAt j) (source-of j h)
 
   pub source-count-at : (j : ℕ) → j < sourceCount block → length (sourceInputs (ruleOf block) j) ≡ byteAt block (vertexAt j + 2)
-  source-count-at j h = ap (λ (p : Pattern ℕ). length (p .inputs)) (source-of j h) ∙ length-pattern-inputs (λ p. p) (vertexAt j)
+  source-count-at j h = inputs-at (λ p. p) (vertexAt j) (source-of j h)
 
   pub source-input-at : (j i d : ℕ) → j < sourceCount block → i < length (sourceInputs (ruleOf block) j)
       → getD (sourceInputs (ruleOf block) j) i d ≡ byteAt block (vertexAt j + 4 + i)
-  source-input-at j i d h l =
-      ap (λ (p : Pattern ℕ). getD (p .inputs) i d) (source-of j h)
-      ∙ pattern-input-of (λ p. p) (vertexAt j) i d (rw (source-count-at j h) at l)
+  source-input-at j i d h = input-at (λ p. p) (vertexAt j) (source-of j h) i d
 
   pub source-attributes-at : (j : ℕ) → j < sourceCount block
       → length (sourceOf (ruleOf block) j .attributes) ≡ byteAt block (vertexAt j + 3)
-  source-attributes-at j h =
-      ap (λ (p : Pattern ℕ). length (p .attributes)) (source-of j h) ∙ length-pattern-attributes (λ p. p) (vertexAt j)
+  source-attributes-at j h = attributes-at (λ p. p) (vertexAt j) (source-of j h)
 
   pub source-attribute-at : (j i : ℕ) (d : Expression) → j < sourceCount block → i < length (sourceOf (ruleOf block) j .attributes)
       → getD (sourceOf (ruleOf block) j .attributes) i d ≡ expressionOf block (byteAt block (vertexAt j + 10 + i))
-  source-attribute-at j i d h l =
-      ap (λ (p : Pattern ℕ). getD (p .attributes) i d) (source-of j h)
-      ∙ pattern-attribute-of (λ p. p) (vertexAt j) i d (rw (source-attributes-at j h) at l)
+  source-attribute-at j i d h = attribute-at (λ p. p) (vertexAt j) (source-of j h) i d
 
   pub target-kind-at : (t : ℕ) → t < targetCount block
       → targetOf (ruleOf block) t .kind ≡ byteAt block (vertexAt (sourceCount block + t))
-  unfolding patternFrom
-  target-kind-at t h = ap (λ (p : Pattern Origin). p .kind) (target-of t h)
-
-  pub target-count-at : (t : ℕ) → t < targetCount block
-      → length (targetOf (ruleOf block) t .inputs) ≡ byteAt block (vertexAt (sourceCount block + t) + 2)
-  target-count-at t h =
-      ap (λ (p : Pattern Origin). length (p .inputs)) (target-of t h) ∙ length-pattern-inputs originOf (vertexAt (sourceCount block + t))
-
-  pub target-input-at : (t i : ℕ) (d : Origin) → t < targetCount block → i < length (targetOf (ruleOf block) t .inputs)
-      → getD (targetOf (ruleOf block) t .inputs) i d ≡ originOf (byteAt block (vertexAt (sourceCount block + t) + 4 + i))
-  target-input-at t i d h l =
-      ap (λ (p : Pattern Origin). getD (p .inputs) i d) (target-of t h)
-      ∙ pattern-input-of originOf (vertexAt (sourceCount block + t)) i d (rw (target-count-at t h) at l)
+  target-kind-at t h = kind-at originOf (vertexAt (sourceCount block + t)) (target-of t h)
 
   pub target-operator-at : (t : ℕ) → t < targetCount block
       → targetOf (ruleOf block) t .operator ≡ byteAt block (vertexAt (sourceCount block + t) + 1)
-  unfolding patternFrom
-  target-operator-at t h = ap (λ (p : Pattern Origin). p .operator) (target-of t h)
+  target-operator-at t h = operator-at originOf (vertexAt (sourceCount block + t)) (target-of t h)
+
+  pub target-count-at : (t : ℕ) → t < targetCount block
+      → length (targetOf (ruleOf block) t .inputs) ≡ byteAt block (vertexAt (sourceCount block + t) + 2)
+  target-count-at t h = inputs-at originOf (vertexAt (sourceCount block + t)) (target-of t h)
+
+  pub target-input-at : (t i : ℕ) (d : Origin) → t < targetCount block → i < length (targetOf (ruleOf block) t .inputs)
+      → getD (targetOf (ruleOf block) t .inputs) i d ≡ originOf (byteAt block (vertexAt (sourceCount block + t) + 4 + i))
+  target-input-at t i d h = input-at originOf (vertexAt (sourceCount block + t)) (target-of t h) i d
 
   pub target-attributes-at : (t : ℕ) → t < targetCount block
       → length (targetOf (ruleOf block) t .attributes) ≡ byteAt block (vertexAt (sourceCount block + t) + 3)
-  target-attributes-at t h =
-      ap (λ (p : Pattern Origin). length (p .attributes)) (target-of t h)
-      ∙ length-pattern-attributes originOf (vertexAt (sourceCount block + t))
+  target-attributes-at t h = attributes-at originOf (vertexAt (sourceCount block + t)) (target-of t h)
 
   pub target-attribute-at : (t i : ℕ) (d : Expression) → t < targetCount block → i < length (targetOf (ruleOf block) t .attributes)
       → getD (targetOf (ruleOf block) t .attributes) i d
       ≡ expressionOf block (byteAt block (vertexAt (sourceCount block + t) + 10 + i))
-  target-attribute-at t i d h l =
-      ap (λ (p : Pattern Origin). getD (p .attributes) i d) (target-of t h)
-      ∙ pattern-attribute-of originOf (vertexAt (sourceCount block + t)) i d (rw (target-attributes-at t h) at l)
+  target-attribute-at t i d h = attribute-at originOf (vertexAt (sourceCount block + t)) (target-of t h) i d
 
   -- ---- what a header that fits says, and a record that follows its kind
 

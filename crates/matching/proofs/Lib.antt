@@ -1,3 +1,3 @@
-pub mod Candidates
 pub mod Maps
 pub mod Steps
+pub mod Sound

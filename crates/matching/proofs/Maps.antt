@@ -14,18 +14,17 @@ use lib.Seq.{ext-getD, getD-set-same, getD-set-other}
 use Rattle.definitions.specs.Lists.{allBelow, anyBelow, allPairs}
 use Rattle.definitions.specs.Fields.{signed}
 use Rattle.definitions.specs.Operators.{kindEmpty}
-use Rattle.definitions.specs.Graph.{unusedPlace, Slot, Graph, slotOf, inputsOf, isVertex}
+use Rattle.definitions.specs.Graph.{unusedPlace, Slot, Graph, slotOf, inputsOf, isVertex, usesOf}
 use Rattle.definitions.specs.Rule.{sideCapacity, Rule, sourceOf, sourceInputs}
 use Rattle.definitions.specs.Attributes.{agrees}
-use Rattle.definitions.specs.Match.{imageOf, attributeOf, readAttribute, isInterior, Takes, Match}
+use Rattle.definitions.specs.Match.{imageOf, attributeOf, readAttribute, isInterior, Takes, Match, placesOf}
 use Rattle.laws.proofs.Lists.{decided, true-not-false, anyBelow-found, anyBelow-some, map-at, map-same}
 use Rattle.laws.proofs.Members.{holds, true-holds}
-use Rattle.attributes.specs.Evaluable.{agreeFirst}
+use Rattle.attributes.specs.Agreement.{agreeFirst}
 use Rattle.attributes.proofs.Laws.{agree-pairs, agree-first-below}
-use Rattle.uses.specs.Uses.{usesOf, placesOf}
-use Rattle.matching.specs.Candidate.{slotHead, patternHead, isCandidate}
+use Rattle.match_look.specs.Candidate.{slotHead, patternHead, isCandidate}
 use Rattle.matching.specs.Partial.{Partial, Extends, Sends, SendsInputs, Step}
-use Rattle.matching.proofs.Candidates.{Formed, wild-input, candidate-same, candidate-vertex, candidate-uses}
+use Rattle.match_look.proofs.Candidates.{Formed, wild-input, candidate-same, candidate-vertex, candidate-uses}
 
 -- ---- what a vertex asks of a map, it asks of the images of lower vertices
 

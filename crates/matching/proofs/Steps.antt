@@ -16,12 +16,12 @@ use Rattle.definitions.specs.Rule.{sideCapacity, Rule, sourceOf, sourceInputs}
 use Rattle.definitions.specs.Match.{imageOf, readAttribute, Match}
 use Rattle.laws.proofs.Lists.{decided, true-not-false}
 use Rattle.laws.proofs.Walks.{rest}
-use Rattle.attributes.specs.Evaluable.{agreeFirst}
+use Rattle.attributes.specs.Agreement.{agreeFirst}
 use Rattle.rule_order.specs.InOrder.{InOrder, visitedAfter}
 use Rattle.rule_order.proofs.InOrder.{in-order-first, in-order-rest}
-use Rattle.matching.specs.Candidate.{isCandidate}
+use Rattle.match_look.specs.Candidate.{isCandidate}
 use Rattle.matching.specs.Partial.{Partial, Extends, Sends, SendsInputs, Step}
-use Rattle.matching.proofs.Candidates.{Formed, match-candidate}
+use Rattle.match_look.proofs.Candidates.{Formed, match-candidate}
 use Rattle.matching.proofs.Maps.{match-sends, match-agrees, match-free}
 
 module _ {g : Graph} {r : Rule} {next : ℕ} {images : List ℕ} {Asked : List ℕ → Type 0} {end : ℕ} where

@@ -1,3 +1,2 @@
-pub mod Candidate
 pub mod Partial
-pub mod Setting
+pub mod Ready

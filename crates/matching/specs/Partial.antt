@@ -6,10 +6,9 @@ use mathlib.Core.List.{List}
 use Prim.Native.Nat.{ℕ, _<_, _≤_}
 use lib.ListN.{length, getD}
 use Rattle.definitions.specs.Operators.{kindEmpty}
-use Rattle.definitions.specs.Graph.{unusedPlace, Graph, slotOf, inputsOf, isVertex}
+use Rattle.definitions.specs.Graph.{unusedPlace, Graph, slotOf, inputsOf, isVertex, usesOf}
 use Rattle.definitions.specs.Rule.{sideCapacity, Rule, sourceOf, sourceInputs}
-use Rattle.definitions.specs.Match.{imageOf, isInterior, Takes, Match}
-use Rattle.uses.specs.Uses.{usesOf, placesOf}
+use Rattle.definitions.specs.Match.{imageOf, isInterior, Takes, Match, placesOf}
 
 -- The images of the first `next` source vertices meet every condition of a match; the other places may hold anything. That an
 -- interior image is read from inside alone is said by its uses, which do not speak of the images to come.

@@ -1,124 +1,25 @@
 // Matching a source vertex with a slot. The traversal that put the source vertices in order is followed: inputs first, left to right,
 // each vertex once, so the images found so far are those of the first `next` source vertices.
 use attributes::attributes_agree;
-use definitions::KIND_EMPTY;
 use definitions::SIDE_CAPACITY;
 use definitions::SLOT_LIMIT;
 use fields::greater;
 use fields::widened;
-use graph_fields::attribute_count;
 use graph_fields::input_at;
-use graph_fields::input_count;
-use graph_fields::kind_of;
-use graph_fields::operator_of;
-use rule_fields::source_attribute_count;
+use match_look::is_candidate;
 use rule_fields::source_input;
 use rule_fields::source_input_count;
-use rule_fields::source_kind;
-use rule_fields::source_operator;
 ghost use mathlib.Core.Path.{_≡_};
-ghost use mathlib.Core.Bool.{true};
-ghost use mathlib.Core.List.{[], _∷_};
 ghost use Prim.Native.Nat.{suc, _<_, _≤_, max};
 ghost use lib.Dec.{eqb};
 ghost use lib.ListN.{length, getD, drop};
 ghost use Rattle.definitions.specs.Lists.{anyBelow};
-ghost use Rattle.definitions.specs.Graph.{slotCount, graphOf, slotOf, inputsOf};
-ghost use Rattle.definitions.specs.Rule.{sideCapacity, sourceCount, ruleOf, sourceOf, sourceInputs};
+ghost use Rattle.definitions.specs.Graph.{graphOf};
+ghost use Rattle.definitions.specs.Rule.{sideCapacity, ruleOf, sourceInputs};
 ghost use Rattle.definitions.specs.Match.{imageOf};
-ghost use Rattle.graph_fields.specs.Layout.{ReadableGraph};
-ghost use Rattle.rule_fields.specs.Layout.{ReadableRule};
-ghost use Rattle.rule_order.specs.InOrder.{InOrder, visitedAfter};
-ghost use Rattle.matching.specs.Candidate.{slotHead, patternHead, headFits, usesFit, isCandidate};
-ghost use Rattle.matching.specs.Partial.{Partial, Sends, SendsInputs, Step};
-ghost use Rattle.matching.specs.Setting.{Matchable, Setting};
-
-// What a record says of itself in four numbers. A look at these is cheap, and turns away most candidates.
-pub struct Head {
-    pub kind: usize,
-    pub operator: usize,
-    pub inputs: usize,
-    pub attributes: usize,
-}
-
-// ---- the look
-
-fn slot_head(graph: &[u8], v: usize) -> Head
-    requires { ⌜ ReadableGraph (now graph) ⌝ }
-    requires { ⌜ v < slotCount (now graph) ⌝ }
-    ensures { λ r. ⌜ r ≡ slotHead (slotOf (graphOf (now (graph .entry))) v) ⌝ }
-{
-    Head {
-        kind: kind_of(graph, v),
-        operator: operator_of(graph, v),
-        inputs: input_count(graph, v),
-        attributes: attribute_count(graph, v),
-    }
-}
-
-fn pattern_head(rule: &[u8], j: usize) -> Head
-    requires { ⌜ ReadableRule (now rule) ⌝ }
-    requires { ⌜ j < sourceCount (now rule) ⌝ }
-    ensures { λ r. ⌜ r ≡ patternHead (sourceOf (ruleOf (now (rule .entry))) j) ⌝ }
-{
-    Head {
-        kind: source_kind(rule, j),
-        operator: source_operator(rule, j),
-        inputs: source_input_count(rule, j),
-        attributes: source_attribute_count(rule, j),
-    }
-}
-
-// The look: it takes nothing but these four numbers of each record. A wildcard, of kind 0, takes any slot that is not Empty.
-pub fn head_fits(pattern: Head, slot: Head) -> bool
-    ensures { λ r. ⌜ r ≡ headFits pattern slot ⌝ }
-{
-    if pattern.kind == KIND_EMPTY {
-        return slot.kind != KIND_EMPTY;
-    }
-    if slot.kind != pattern.kind {
-        return false;
-    }
-    if slot.operator != pattern.operator {
-        return false;
-    }
-    if slot.inputs != pattern.inputs {
-        return false;
-    }
-    slot.attributes == pattern.attributes
-}
-
-// Whether a slot with so many uses meets a demand: 0 is none, and another is one more than the uses.
-fn uses_fit(demand: u16, uses: u16) -> bool
-    ensures { λ r. ⌜ r ≡ usesFit demand uses ⌝ }
-{
-    if demand == 0 {
-        return true;
-    }
-    demand - 1 == uses
-}
-
-// Whether slot v can be the image of source vertex j, by what can be told without entering its inputs.
-fn is_candidate(
-    graph: &[u8],
-    rule: &[u8],
-    uses: &[u16; SLOT_LIMIT],
-    demands: &[u16; SIDE_CAPACITY],
-    j: usize,
-    v: usize,
-) -> bool
-    requires { ⌜ Setting (now graph) (now rule) (now uses) (now demands) ⌝ }
-    requires { ⌜ j < sourceCount (now rule) ⌝ }
-    requires { ⌜ v < slotCount (now graph) ⌝ }
-    ensures { λ r. ⌜ r ≡ isCandidate (graphOf (now (graph .entry))) (ruleOf (now (rule .entry))) j v ⌝ }
-{
-    if !head_fits(pattern_head(rule, j), slot_head(graph, v)) {
-        return false;
-    }
-    uses_fit(demands[j], uses[v])
-}
-
-// ---- one vertex
+ghost use Rattle.rule_order.specs.InOrder.{visitedAfter};
+ghost use Rattle.matching.specs.Partial.{Sends, SendsInputs, Step};
+ghost use Rattle.matching.specs.Ready.{SettleReady, VertexReady, InputsReady};
 
 // Whether v is the image of one of the first `next` source vertices.
 fn is_taken(images: &[u16; SIDE_CAPACITY], next: usize, v: usize) -> bool
@@ -139,13 +40,7 @@ fn is_taken(images: &[u16; SIDE_CAPACITY], next: usize, v: usize) -> bool
 // Gives source vertex j, a candidate whose inputs have their images, the image v: where v is no lower vertex's image, and the
 // attributes agree.
 fn settle(graph: &[u8], rule: &[u8], j: usize, v: usize, images: &mut [u16; SIDE_CAPACITY]) -> bool
-    requires { ⌜ ReadableGraph (now graph) ⌝ }
-    requires { ⌜ Matchable (now rule) ⌝ }
-    requires { ⌜ j < sourceCount (now rule) ⌝ }
-    requires { ⌜ v < slotCount (now graph) ⌝ }
-    requires { ⌜ isCandidate (graphOf (now graph)) (ruleOf (now rule)) j v ≡ true ⌝ }
-    requires { ⌜ Partial (graphOf (now graph)) (ruleOf (now rule)) j (now images) ⌝ }
-    requires { ⌜ SendsInputs (graphOf (now graph)) (ruleOf (now rule)) j v 0 (now images) ⌝ }
+    requires { ⌜ SettleReady (now graph) (now rule) j v (now images) ⌝ }
     ensures { λ r. ⌜ Step (graphOf (now (graph .entry))) (ruleOf (now (rule .entry))) j (now (images .entry)) (Sends j v) (suc j) r
         (now (images .exit)) ⌝ }
 {
@@ -181,11 +76,7 @@ pub fn match_vertex(
     next: usize,
     images: &mut [u16; SIDE_CAPACITY],
 ) -> bool
-    requires { ⌜ Setting (now graph) (now rule) (now uses) (now demands) ⌝ }
-    requires { ⌜ j < sourceCount (now rule) ⌝ }
-    requires { ⌜ v < slotCount (now graph) ⌝ }
-    requires { ⌜ Partial (graphOf (now graph)) (ruleOf (now rule)) next (now images) ⌝ }
-    requires { ⌜ InOrder (ruleOf (now rule)) next (j ∷ []) ⌝ }
+    requires { ⌜ VertexReady (now graph) (now rule) (now uses) (now demands) j v next (now images) ⌝ }
     ensures { λ r. ⌜ Step (graphOf (now (graph .entry))) (ruleOf (now (rule .entry))) next (now (images .entry)) (Sends j v)
         (max next (suc j)) r (now (images .exit)) ⌝ }
 {
@@ -213,13 +104,7 @@ fn match_inputs(
     next: usize,
     images: &mut [u16; SIDE_CAPACITY],
 ) -> bool
-    requires { ⌜ Setting (now graph) (now rule) (now uses) (now demands) ⌝ }
-    requires { ⌜ j < sourceCount (now rule) ⌝ }
-    requires { ⌜ v < slotCount (now graph) ⌝ }
-    requires { ⌜ i ≤ length (sourceInputs (ruleOf (now rule)) j) ⌝ }
-    requires { ⌜ length (sourceInputs (ruleOf (now rule)) j) ≤ length (inputsOf (graphOf (now graph)) v) ⌝ }
-    requires { ⌜ Partial (graphOf (now graph)) (ruleOf (now rule)) next (now images) ⌝ }
-    requires { ⌜ InOrder (ruleOf (now rule)) next (drop i (sourceInputs (ruleOf (now rule)) j)) ⌝ }
+    requires { ⌜ InputsReady (now graph) (now rule) (now uses) (now demands) j v i next (now images) ⌝ }
     ensures { λ r. ⌜ Step (graphOf (now (graph .entry))) (ruleOf (now (rule .entry))) next (now (images .entry))
         (SendsInputs (graphOf (now (graph .entry))) (ruleOf (now (rule .entry))) j v i)
         (visitedAfter next (drop i (sourceInputs (ruleOf (now (rule .entry))) j))) r (now (images .exit)) ⌝ }

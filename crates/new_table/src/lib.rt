@@ -1,164 +1,30 @@
 // The new table, written whole into a block of its own: the header and every slot, each from the old table, which is only read. So
 // nothing is read from a slot that was written before, and every place is redirected once.
-use definitions::ATTRIBUTE_LIMIT;
 use definitions::HEADER_BYTES;
-use definitions::INPUT_LIMIT;
-use definitions::KIND_EMPTY;
 use definitions::SIDE_CAPACITY;
 use definitions::SLOT_BYTES;
 use definitions::SLOT_LIMIT;
-use definitions::UNUSED_PLACE;
-use graph_fields::attribute_count;
-use graph_fields::attribute_word;
-use graph_fields::input_count;
-use graph_fields::kind_of;
-use graph_fields::operator_of;
+use definitions::TAIL_BYTES;
 use graph_fields::output_count;
 use graph_fields::slot_count;
+use graph_records::write_header;
+use graph_records::write_record;
+use new_places::new_outputs;
+use new_records::new_record;
 use redirection::Redirection;
-use redirection::new_outputs;
 use redirection::redirection_of;
-use redirection::staying_inputs;
-use redirection::target_inputs;
-use rule_fields::target_attribute_count;
-use rule_fields::target_count;
-use rule_fields::target_input_count;
-use rule_fields::target_kind;
-use rule_fields::target_operator;
-use target_attributes::vertex_words;
-use writing::Record;
-use writing::write_header;
-use writing::write_record;
 ghost use mathlib.Core.Path.{_≡_};
 ghost use mathlib.Core.Bool.{cond, not};
 ghost use mathlib.Core.List.{_++_};
 ghost use Prim.Native.Nat.{_+_, _*_, _<_};
-ghost use lib.ListN.{length, getD, take};
-ghost use Rattle.definitions.specs.Lists.{padded, concatMap, filter, range};
-ghost use Rattle.definitions.specs.Graph.{headerBytes, slotBytes, slotLimit, attributeLimit, slotCount, emptySlot, graphOf, slotOf, slotBlock, graphBlock};
-ghost use Rattle.definitions.specs.Rule.{targetCount, ruleOutputCount, ruleOf, targetOf};
-ghost use Rattle.definitions.specs.Rewriting.{stays, targetSlot, newSlot};
-ghost use Rattle.graph_fields.specs.Layout.{ReadableGraph};
-ghost use Rattle.writing.specs.Records.{Stands};
+ghost use lib.ListN.{length, take};
+ghost use Rattle.definitions.specs.Lists.{filter, range};
+ghost use Rattle.definitions.specs.Graph.{headerBytes, slotBytes, slotLimit, slotCount, graphOf, graphBlock, recordBlock, recordsBlock};
+ghost use Rattle.definitions.specs.Rule.{ruleOutputCount, ruleOf};
+ghost use Rattle.definitions.specs.Rewriting.{stays};
 ghost use Rattle.vacancies.specs.Vacant.{Marks};
-ghost use Rattle.redirection.specs.Moves.{moved};
-ghost use Rattle.new_table.specs.Slots.{movedSlot, valuesOf, fitResults, newTable, Prepared, Redirects};
-
-// ---- records
-
-// The record of an Empty slot.
-fn empty_record() -> Record
-    ensures { λ r. ⌜ Stands r emptySlot ⌝ }
-{
-    Record {
-        kind: KIND_EMPTY as u8,
-        operator: 0,
-        n: 0,
-        m: 0,
-        inputs: [UNUSED_PLACE; INPUT_LIMIT],
-        attributes: [0u32; ATTRIBUTE_LIMIT],
-    }
-}
-
-// Every attribute place of slot k; zero stands in the unused ones.
-fn attribute_words(graph: &[u8], k: usize) -> [u32; ATTRIBUTE_LIMIT]
-    requires { ⌜ ReadableGraph (now graph) ⌝ }
-    requires { ⌜ k < slotCount (now graph) ⌝ }
-    ensures { λ r. ⌜ r ≡ padded attributeLimit 0 (slotOf (graphOf (now (graph .entry))) k .attributes) ⌝ }
-{
-    let count = attribute_count(graph, k);
-    let mut words = [0u32; ATTRIBUTE_LIMIT];
-    let mut i = 0;
-    while i < count {
-        words[i] = attribute_word(graph, k, i) as u32;
-        i += 1;
-    }
-    words
-}
-
-// The record of a vertex that stays: its input places redirected, and nothing else changed.
-fn staying_record(graph: &[u8], k: usize, way: Redirection) -> Record
-    requires { ⌜ ReadableGraph (now graph) ⌝ }
-    requires { ⌜ k < slotCount (now graph) ⌝ }
-    ensures { λ r. ⌜ Stands r (movedSlot (moved way) (slotOf (graphOf (now (graph .entry))) k)) ⌝ }
-{
-    let kind = kind_of(graph, k);
-    let operator = operator_of(graph, k);
-    let n = input_count(graph, k);
-    let m = attribute_count(graph, k);
-    let inputs = staying_inputs(graph, k, way);
-    let attributes = attribute_words(graph, k);
-    Record {
-        kind: kind as u8,
-        operator: operator as u8,
-        n: n as u8,
-        m: m as u8,
-        inputs,
-        attributes,
-    }
-}
-
-// The record of target vertex t. Its attributes are read from the old table, where the slots that go still hold what they held.
-fn target_record(
-    graph: &[u8],
-    rule: &[u8],
-    images: &[u16; SIDE_CAPACITY],
-    places: &[u16; SIDE_CAPACITY],
-    t: usize,
-) -> Record
-    requires { ⌜ Prepared (now graph) (now rule) (now images) (now places) ⌝ }
-    requires { ⌜ t < targetCount (now rule) ⌝ }
-    ensures { λ r. ⌜ Stands r (targetSlot (graphOf (now (graph .entry))) (ruleOf (now (rule .entry))) (now (images .entry))
-        (valuesOf (fitResults (now (graph .entry)) (now (rule .entry)) (now (images .entry)))) t) ⌝ }
-{
-    let kind = target_kind(rule, t);
-    let operator = target_operator(rule, t);
-    let n = target_input_count(rule, t);
-    let m = target_attribute_count(rule, t);
-    let inputs = target_inputs(rule, t, images, places);
-    let found = vertex_words(graph, rule, images, t);
-    let attributes = found.words;
-    Record {
-        kind: kind as u8,
-        operator: operator as u8,
-        n: n as u8,
-        m: m as u8,
-        inputs,
-        attributes,
-    }
-}
-
-// The record of slot k of the new table. `next` free slots lie below it; so where it is free itself, target vertex `next` takes it, if
-// there is one.
-fn new_record(
-    graph: &[u8],
-    rule: &[u8],
-    images: &[u16; SIDE_CAPACITY],
-    places: &[u16; SIDE_CAPACITY],
-    way: Redirection,
-    k: usize,
-    free: bool,
-    next: usize,
-) -> Record
-    requires { ⌜ Prepared (now graph) (now rule) (now images) (now places) ⌝ }
-    requires { ⌜ Redirects (now graph) (now rule) (now images) way ⌝ }
-    requires { ⌜ k < slotCount (now graph) ⌝ }
-    requires { ⌜ free ≡ not (stays (graphOf (now graph)) (ruleOf (now rule)) (now images) k) ⌝ }
-    requires { ⌜ next ≡ length (filter (λ i. not (stays (graphOf (now graph)) (ruleOf (now rule)) (now images) i)) (range 0 k)) ⌝ }
-    ensures { λ r. ⌜ Stands r (newSlot (graphOf (now (graph .entry))) (ruleOf (now (rule .entry))) (now (images .entry))
-        (valuesOf (fitResults (now (graph .entry)) (now (rule .entry)) (now (images .entry)))) k) ⌝ }
-{
-    if !free {
-        return staying_record(graph, k, way);
-    }
-    let targets = target_count(rule);
-    if next < targets {
-        return target_record(graph, rule, images, places, next);
-    }
-    empty_record()
-}
-
-// ---- the table
+ghost use Rattle.new_records.specs.Slots.{Prepared, Redirects};
+ghost use Rattle.new_table.specs.Table.{newTable};
 
 // How many free slots lie below the next slot, where `next` lie below this one.
 fn counted(next: usize, free: bool) -> usize
@@ -191,13 +57,13 @@ fn write_slot(
     requires { ⌜ next ≡ length (filter (λ i. not (stays (graphOf (now graph)) (ruleOf (now rule)) (now images) i)) (range 0 k)) ⌝ }
     requires { ⌜ length (now table) ≡ length (now graph) ⌝ }
     ensures { λ r. ⌜ take (headerBytes + slotBytes * (k + 1)) (now (table .exit)) ≡ take (headerBytes + slotBytes * k) (now (table .entry))
-        ++ slotBlock (newSlot (graphOf (now (graph .entry))) (ruleOf (now (rule .entry))) (now (images .entry))
-        (valuesOf (fitResults (now (graph .entry)) (now (rule .entry)) (now (images .entry)))) k) ⌝ }
+        ++ recordBlock (newTable (now (graph .entry)) (now (rule .entry)) (now (images .entry))) k ⌝ }
 {
     let record = new_record(graph, rule, images, places, way, k, free, next);
     let at = HEADER_BYTES + SLOT_BYTES * k;
     let end = at + SLOT_BYTES;
-    write_record(&mut table[at..end], record);
+    let tail = [0u8; TAIL_BYTES];
+    write_record(&mut table[at..end], record, &tail);
 }
 
 // Writes every slot; the header is left as it is.
@@ -215,7 +81,8 @@ fn write_slots(
     requires { ⌜ Marks (λ k. not (stays (graphOf (now graph)) (ruleOf (now rule)) (now images) k)) (slotCount (now graph)) (now free) ⌝ }
     requires { ⌜ length (now table) ≡ length (now graph) ⌝ }
     ensures { λ r. ⌜ now (table .exit) ≡ take headerBytes (now (table .entry))
-        ++ concatMap slotBlock (newTable (now (graph .entry)) (now (rule .entry)) (now (images .entry)) .slots) ⌝ }
+        ++ recordsBlock (newTable (now (graph .entry)) (now (rule .entry)) (now (images .entry)))
+        (length (newTable (now (graph .entry)) (now (rule .entry)) (now (images .entry)) .slots)) ⌝ }
 {
     let slots = slot_count(graph);
     let mut next = 0;

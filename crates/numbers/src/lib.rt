@@ -1,20 +1,12 @@
-// Exact arithmetic on whole numbers by sign and magnitude: what an operation of an expression gives for two operands. No step
-// makes a number that a u64 does not hold, and a result that is out of range is Nothing.
-use definitions::FORM_ADD;
-use definitions::FORM_DIVIDE;
-use definitions::FORM_MULTIPLY;
-use definitions::FORM_SUBTRACT;
+// What an expression gives: a whole number by sign and magnitude, in range, or nothing.
 use fields::Integer;
 ghost use mathlib.Core.Path.{_≡_};
-ghost use mathlib.Core.Bool.{true};
 ghost use mathlib.Core.Option.{some};
-ghost use Prim.Native.Nat.{_+_, _*_, _≤_, min};
 ghost use lib.IntN.{pos, negsuc, negℤ, subℕ};
-ghost use Rattle.definitions.specs.Rule as rules;
 ghost use Rattle.definitions.specs.Attributes as results;
-ghost use Rattle.definitions.specs.Attributes.{inRange, fit, isZero};
+ghost use Rattle.definitions.specs.Attributes.{fit};
 ghost use Rattle.fields.specs.Integer.{integerOf};
-ghost use Rattle.numbers.specs.Value.{valueOf, limit, bounded, operationOf};
+ghost use Rattle.numbers.specs.Value.{valueOf};
 
 // What an expression gives: Plus(n) is n, Minus(n) is -(n + 1), and Nothing where it has no result.
 pub enum Value {
@@ -24,7 +16,7 @@ pub enum Value {
 }
 
 // Results are from -LIMIT to LIMIT - 1.
-const LIMIT: u64 = 2147483648;
+pub const LIMIT: u64 = 2147483648;
 
 // ---- numbers, and results that have to be in range
 
@@ -39,7 +31,7 @@ pub fn number(x: Integer) -> Value
 }
 
 // The result n.
-fn fit_plus(n: u64) -> Value
+pub fn fit_plus(n: u64) -> Value
     ensures { λ r. ⌜ valueOf r ≡ fit (pos n) ⌝ }
 {
     if LIMIT <= n {
@@ -49,7 +41,7 @@ fn fit_plus(n: u64) -> Value
 }
 
 // The result -(n + 1).
-fn fit_minus(n: u64) -> Value
+pub fn fit_minus(n: u64) -> Value
     ensures { λ r. ⌜ valueOf r ≡ fit (negsuc n) ⌝ }
 {
     if LIMIT <= n {
@@ -58,18 +50,36 @@ fn fit_minus(n: u64) -> Value
     Value::Minus(n)
 }
 
-// The result -n.
-fn fit_negated(n: u64) -> Value
-    ensures { λ r. ⌜ valueOf r ≡ fit (negℤ (pos n)) ⌝ }
+// The number as a result, if it is in range.
+pub fn fit_number(x: Integer) -> Value
+    ensures { λ r. ⌜ valueOf r ≡ fit (integerOf x) ⌝ }
+{
+    match x {
+        Integer::Plus(n) => fit_plus(n),
+        Integer::Minus(n) => fit_minus(n),
+    }
+}
+
+// The number -n.
+pub fn negated(n: u64) -> Integer
+    ensures { λ r. ⌜ integerOf r ≡ negℤ (pos n) ⌝ }
 {
     if n == 0 {
-        return fit_plus(0);
+        return Integer::Plus(0);
     }
-    fit_minus(n - 1)
+    let less = n - 1;
+    Integer::Minus(less)
+}
+
+// The result -n.
+pub fn fit_negated(n: u64) -> Value
+    ensures { λ r. ⌜ valueOf r ≡ fit (negℤ (pos n)) ⌝ }
+{
+    fit_number(negated(n))
 }
 
 // The result a - b.
-fn fit_difference(a: u64, b: u64) -> Value
+pub fn fit_difference(a: u64, b: u64) -> Value
     ensures { λ r. ⌜ valueOf r ≡ fit (subℕ a b) ⌝ }
 {
     if a < b {
@@ -78,180 +88,7 @@ fn fit_difference(a: u64, b: u64) -> Value
     fit_plus(a - b)
 }
 
-// ---- sums, differences and products
-
-fn add(x: Integer, y: Integer) -> Value
-    requires { ⌜ inRange (integerOf x) ≡ true ⌝ }
-    requires { ⌜ inRange (integerOf y) ≡ true ⌝ }
-    ensures { λ r. ⌜ valueOf r ≡ results.operate rules.add (integerOf x) (integerOf y) ⌝ }
-{
-    match x {
-        Integer::Plus(a) => match y {
-            Integer::Plus(b) => fit_plus(a + b),
-            Integer::Minus(b) => fit_difference(a, b + 1),
-        },
-        Integer::Minus(a) => match y {
-            Integer::Plus(b) => fit_difference(b, a + 1),
-            Integer::Minus(b) => fit_minus(a + b + 1),
-        },
-    }
-}
-
-fn subtract(x: Integer, y: Integer) -> Value
-    requires { ⌜ inRange (integerOf x) ≡ true ⌝ }
-    requires { ⌜ inRange (integerOf y) ≡ true ⌝ }
-    ensures { λ r. ⌜ valueOf r ≡ results.operate rules.subtract (integerOf x) (integerOf y) ⌝ }
-{
-    match x {
-        Integer::Plus(a) => match y {
-            Integer::Plus(b) => fit_difference(a, b),
-            Integer::Minus(b) => fit_plus(a + b + 1),
-        },
-        Integer::Minus(a) => match y {
-            Integer::Plus(b) => fit_minus(a + b),
-            Integer::Minus(b) => fit_difference(b + 1, a + 1),
-        },
-    }
-}
-
-// The product of two magnitudes, or LIMIT + 1 where it is above LIMIT: then no sign brings it into range. The division shows
-// whether it is, before the product is made.
-fn bounded_product(a: u64, b: u64) -> u64
-    ensures { λ r. ⌜ r ≡ min (a * b) (limit + 1) ⌝ }
-{
-    if b == 0 {
-        return 0;
-    }
-    if LIMIT / b < a {
-        return LIMIT + 1;
-    }
-    a * b
-}
-
-fn multiply(x: Integer, y: Integer) -> Value
-    requires { ⌜ inRange (integerOf x) ≡ true ⌝ }
-    requires { ⌜ inRange (integerOf y) ≡ true ⌝ }
-    ensures { λ r. ⌜ valueOf r ≡ results.operate rules.multiply (integerOf x) (integerOf y) ⌝ }
-{
-    match x {
-        Integer::Plus(a) => match y {
-            Integer::Plus(b) => fit_plus(bounded_product(a, b)),
-            Integer::Minus(b) => fit_negated(bounded_product(a, b + 1)),
-        },
-        Integer::Minus(a) => match y {
-            Integer::Plus(b) => fit_negated(bounded_product(a + 1, b)),
-            Integer::Minus(b) => fit_plus(bounded_product(a + 1, b + 1)),
-        },
-    }
-}
-
-// ---- quotients, rounded down, and remainders, which have the sign of the divisor
-
-// Whether nothing can be divided by this number.
-fn is_zero(y: Integer) -> bool
-    ensures { λ r. ⌜ r ≡ isZero (integerOf y) ⌝ }
-{
-    match y {
-        Integer::Plus(n) => n == 0,
-        Integer::Minus(_) => false,
-    }
-}
-
-fn divide(x: Integer, y: Integer) -> Value
-    requires { ⌜ inRange (integerOf x) ≡ true ⌝ }
-    requires { ⌜ inRange (integerOf y) ≡ true ⌝ }
-    ensures { λ r. ⌜ valueOf r ≡ results.operate rules.divide (integerOf x) (integerOf y) ⌝ }
-{
-    if is_zero(y) {
-        return Value::Nothing;
-    }
-    match x {
-        Integer::Plus(a) => match y {
-            Integer::Plus(b) => fit_plus(a / b),
-            // Adding b, one less than the divisor's magnitude, rounds the magnitude up.
-            Integer::Minus(b) => fit_negated((a + b) / (b + 1)),
-        },
-        Integer::Minus(a) => match y {
-            // Here the magnitude is a + 1, and one less than the divisor's is b - 1.
-            Integer::Plus(b) => fit_negated((a + b) / b),
-            Integer::Minus(b) => fit_plus((a + 1) / (b + 1)),
-        },
-    }
-}
-
-// What the quotient leaves, without the product of the quotient and the divisor. Where the quotient's magnitude is rounded up, that
-// is what was added for it, less what the division of the sum leaves.
-fn remainder(x: Integer, y: Integer) -> Value
-    requires { ⌜ inRange (integerOf x) ≡ true ⌝ }
-    requires { ⌜ inRange (integerOf y) ≡ true ⌝ }
-    ensures { λ r. ⌜ valueOf r ≡ results.operate rules.remainder (integerOf x) (integerOf y) ⌝ }
-{
-    if is_zero(y) {
-        return Value::Nothing;
-    }
-    match x {
-        Integer::Plus(a) => match y {
-            Integer::Plus(b) => fit_plus(a % b),
-            Integer::Minus(b) => fit_negated(b - (a + b) % (b + 1)),
-        },
-        Integer::Minus(a) => match y {
-            Integer::Plus(b) => fit_difference(b - 1, (a + b) % b),
-            Integer::Minus(b) => fit_negated((a + 1) % (b + 1)),
-        },
-    }
-}
-
-// ---- expressions
-
-// The result of the operation with that form.
-pub fn operate(form: usize, x: Integer, y: Integer) -> Value
-    requires { ⌜ rules.formAdd ≤ form ⌝ }
-    requires { ⌜ inRange (integerOf x) ≡ true ⌝ }
-    requires { ⌜ inRange (integerOf y) ≡ true ⌝ }
-    ensures { λ r. ⌜ valueOf r ≡ results.operate (operationOf form) (integerOf x) (integerOf y) ⌝ }
-{
-    if form == FORM_ADD {
-        return add(x, y);
-    }
-    if form == FORM_SUBTRACT {
-        return subtract(x, y);
-    }
-    if form == FORM_MULTIPLY {
-        return multiply(x, y);
-    }
-    if form == FORM_DIVIDE {
-        return divide(x, y);
-    }
-    remainder(x, y)
-}
-
-// The result of the operation for a number and a result.
-fn combine_right(form: usize, x: Integer, y: Value) -> Value
-    requires { ⌜ rules.formAdd ≤ form ⌝ }
-    requires { ⌜ inRange (integerOf x) ≡ true ⌝ }
-    requires { ⌜ bounded (valueOf y) ≡ true ⌝ }
-    ensures { λ r. ⌜ valueOf r ≡ results.combine (operationOf form) (some (integerOf x)) (valueOf y) ⌝ }
-{
-    match y {
-        Value::Nothing => Value::Nothing,
-        Value::Plus(b) => operate(form, x, Integer::Plus(b)),
-        Value::Minus(b) => operate(form, x, Integer::Minus(b)),
-    }
-}
-
-// The result of the operation for two results: an operand that has none gives none.
-pub fn combine(form: usize, x: Value, y: Value) -> Value
-    requires { ⌜ rules.formAdd ≤ form ⌝ }
-    requires { ⌜ bounded (valueOf x) ≡ true ⌝ }
-    requires { ⌜ bounded (valueOf y) ≡ true ⌝ }
-    ensures { λ r. ⌜ valueOf r ≡ results.combine (operationOf form) (valueOf x) (valueOf y) ⌝ }
-{
-    match x {
-        Value::Nothing => Value::Nothing,
-        Value::Plus(a) => combine_right(form, Integer::Plus(a), y),
-        Value::Minus(a) => combine_right(form, Integer::Minus(a), y),
-    }
-}
+// ---- comparison
 
 // Whether there is a result, and it is that number.
 pub fn gives(x: Value, y: Integer) -> bool

@@ -7,10 +7,11 @@ ghost use mathlib.Core.Path.{_≡_};
 ghost use Prim.Native.Nat.{_<_, _≤_};
 ghost use Rattle.definitions.specs.Operators.{kindCall, kindProj, operatorCount, countsOf, rowOf, shapeFits};
 
-// How many inputs and attributes an operator has.
+// How many inputs and attributes an operator has. The tables are of bytes, since an array that is a constant is stored anew wherever it
+// is read.
 pub struct Counts {
-    pub inputs: usize,
-    pub attributes: usize,
+    pub inputs: u8,
+    pub attributes: u8,
 }
 
 // Operators 1 to 14, in order.
@@ -80,9 +81,9 @@ const OPERATORS: [Counts; OPERATOR_COUNT] = [
 
 // The least and the greatest input count of a kind other than Call, and its attribute count.
 pub struct Row {
-    pub least: usize,
-    pub greatest: usize,
-    pub attributes: usize,
+    pub least: u8,
+    pub greatest: u8,
+    pub attributes: u8,
 }
 
 // Kinds 0 to 5; a Call's row is not used.
@@ -146,10 +147,10 @@ fn call_fits(operator: usize, n: usize, m: usize) -> bool
         return false;
     }
     let counts = counts_of(operator);
-    if n != counts.inputs {
+    if n != counts.inputs as usize {
         return false;
     }
-    if m != counts.attributes {
+    if m != counts.attributes as usize {
         return false;
     }
     true
@@ -169,13 +170,13 @@ pub fn shape_fits(kind: usize, operator: usize, n: usize, m: usize) -> bool
         return false;
     }
     let row = row_of(kind);
-    if n < row.least {
+    if n < row.least as usize {
         return false;
     }
-    if row.greatest < n {
+    if (row.greatest as usize) < n {
         return false;
     }
-    if m != row.attributes {
+    if m != row.attributes as usize {
         return false;
     }
     true

@@ -15,8 +15,8 @@ use Rattle.definitions.specs.Graph.{unusedPlace, Graph}
 use Rattle.definitions.specs.Rule.{sideLimit, targetBase, sideCapacity, targetCount, ruleOutputCount, Origin, given, made, Rule, originOf, ruleOf, targetOf, inputKind, originFits, targetInputsFit, SoundRule}
 use Rattle.definitions.specs.Match.{imageOf, outputImages}
 use Rattle.definitions.specs.Rewriting.{placeOf, resolve, redirect}
-use Rattle.laws.proofs.Lists.{decided, and-right, getD-any, map-same, all-at}
-use Rattle.laws.proofs.Members.{mem-place, position-inside}
+use Rattle.laws.proofs.Lists.{decided, and-right, getD-any, all-at}
+use Rattle.laws.proofs.Members.{position-inside}
 use Rattle.laws.proofs.Rule.{input-inside, length-source, length-source-outputs, length-target-outputs, few-sources, few-targets}
 use Rattle.redirection.specs.declared.Redirection.{Redirection}
 use Rattle.redirection.specs.Moves.{originInside, Resolvable, resolveIn, redirectBy, moveOf, moved}
@@ -113,17 +113,6 @@ redirect-same g block images places inside h v =
     (rw named at (inside .outputs (position v replaced) few))))
     (λ (t : member v replaced ≡ false). simp t)
     (decided (member v replaced))
-
--- and a target vertex's inputs are the definition's
-pub inputs-same : (g : Graph) (block : List ℕ) (images places : List ℕ) → Resolvable block
-    → ((t : ℕ) → t < sideCapacity → getD places t unusedPlace ≡ placeOf g (ruleOf block) images t)
-    → (t : ℕ) → t < targetCount block
-    → map (resolveIn images places) (targetOf (ruleOf block) t .inputs) ≡ map (resolve g (ruleOf block) images) (targetOf (ruleOf block) t .inputs)
-inputs-same g block images places inside h t l =
-    map-same (resolveIn images places) (resolve g (ruleOf block) images) (targetOf (ruleOf block) t .inputs)
-    (λ o m.
-    let found = mem-place (made 255) m in
-    resolve-same g (ruleOf block) images places h o (rw (found .2) at (inside .inputs t (found .0) l (found .1))))
 
 -- a sound rule's target places can be resolved
 pub sound-resolvable : (block : List ℕ) → SoundRule block → Resolvable block

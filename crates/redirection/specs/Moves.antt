@@ -10,6 +10,7 @@ use Rattle.definitions.specs.Lists.{member, position}
 use Rattle.definitions.specs.Graph.{unusedPlace}
 use Rattle.definitions.specs.Rule.{sideCapacity, targetCount, ruleOutputCount, Origin, given, made, Rule, ruleOf, targetOf}
 use Rattle.definitions.specs.Match.{imageOf, outputImages}
+use Rattle.rule_fields.specs.Layout.{WholeRule, Layered}
 use Rattle.redirection.specs.declared.Move.{Move}
 use Rattle.redirection.specs.declared.Redirection.{Redirection}
 
@@ -23,6 +24,18 @@ pub record Resolvable (block : List ℕ) : Type 0 where
   pub inputs : (t i : ℕ) → t < targetCount block → i < length (targetOf (ruleOf block) t .inputs)
       → originInside (getD (targetOf (ruleOf block) t .inputs) i (made 255)) ≡ true
   pub outputs : (i : ℕ) → i < ruleOutputCount block → originInside (getD (ruleOf block .targetOutputs) i (made 255)) ≡ true
+
+-- the arrays in which places are looked up: one with the images, and one with the target vertices' slots
+pub record Arrays (images places : List ℕ) : Type 0 where
+  pub imageSize : length images ≡ sideCapacity
+  pub placeSize : length places ≡ sideCapacity
+
+-- what the moves of a rewriting are made from: a rule whose outputs can be read and name vertices, and places for these in the arrays
+pub record Movable (block images places : List ℕ) : Type 0 where
+  pub whole : WholeRule block
+  pub layered : Layered block
+  pub resolvable : Resolvable block
+  pub arrays : Arrays images places
 
 -- the slot that a target place names
 unfoldable pub resolveIn : List ℕ → List ℕ → Origin → ℕ

@@ -1,3 +1,6 @@
 pub mod Site
 pub mod Table
 pub mod Kept
+pub mod Values
+pub mod Slots
+pub mod Sound

@@ -1,4 +1,1 @@
-pub mod Same
-pub mod Stages
-pub mod Replies
 pub mod Outcome

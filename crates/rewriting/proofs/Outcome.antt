@@ -8,15 +8,15 @@ use Prim.Native.Nat.{ℕ}
 use lib.ListN.{take}
 use Rattle.definitions.specs.declared.Refusal.{Refusal}
 use Rattle.definitions.specs.declared.Reply.the-variants.{Done, Refused}
-use Rattle.definitions.specs.Reply.{done, noMatch, refused}
-use Rattle.definitions.specs.Graph.{Graph, graphOf, graphBlock}
+use Rattle.definitions.specs.Reply.{noMatch, refused, done}
+use Rattle.definitions.specs.Graph.{Graph, graphOf, graphBlock, SoundGraph}
 use Rattle.definitions.specs.Rule.{sourceCount, ruleOf, SoundRule}
 use Rattle.definitions.specs.Match.{leastMatch}
 use Rattle.definitions.specs.Operations.{outcome, mapBlock, blocksReply, accepted, turnedDown, rewritten, replaced, rewrite}
 use Rattle.theory.proofs.Fixing.{sound-fixing}
 use Rattle.theory.proofs.Least.{least-match}
 use Rattle.search.specs.Finds.{Finds}
-use Rattle.rewriting.specs.Planned.{Matched}
+use Rattle.new_plan.specs.Planned.{Matched}
 
 module _ (graph rule : List ℕ) (start : ℕ) (images : List ℕ) where
   pub blocks-refused : (refusal : Refusal) → blocksReply graph rule images ≡ Refused refusal
@@ -46,9 +46,11 @@ module _ (graph rule : List ℕ) (start : ℕ) (images : List ℕ) where
       table-left new e = sym (rw (e, replaced)) ∙ at-match
 
 -- what a search found is the map of a match
-pub matched : (graph rule : List ℕ) (start : ℕ) (ok : Bool) (images : List ℕ) → SoundRule rule
+pub matched : (graph rule : List ℕ) (start : ℕ) (ok : Bool) (images : List ℕ) → SoundGraph graph → SoundRule rule
     → Finds (leastMatch (graphOf graph) (ruleOf rule) start) (sourceCount rule) ok images → ok ≡ true → Matched graph rule images
-matched graph rule start ok images soundRule finds success = record {
+matched graph rule start ok images soundGraph soundRule finds success = record {
+  soundGraph = soundGraph;
+  soundRule = soundRule;
   size = finds .size success;
   isMatch = least-match (graphOf graph) (ruleOf rule) (sound-fixing rule soundRule) start (take (sourceCount rule) images)
       (finds .found success) .isMatch;

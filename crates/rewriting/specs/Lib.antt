@@ -1,1 +1,1 @@
-pub mod Planned
+pub mod Replaced

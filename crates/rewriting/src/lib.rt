@@ -1,6 +1,5 @@
 // Rewriting in lent blocks: replies 0 to 7 in order. The new table is made beside the old one and judged there; the lent blocks are
 // written last, once the answer is sure.
-use acyclic::has_cycle;
 use blocks::check_blocks;
 use blocks::write_map;
 use commit::commit;
@@ -9,54 +8,20 @@ use definitions::Reply;
 use definitions::SIDE_CAPACITY;
 use definitions::SLOT_BYTES;
 use definitions::SLOT_LIMIT;
-use graph_fields::slot_count;
-use new_table::write_table;
-use reply::NEW_CYCLE;
+use new_plan::plan;
 use reply::NO_MATCH;
-use reply::NO_RESULT;
-use reply::NO_ROOM;
 use reply::refuse;
-use rule_fields::target_count;
 use search::least_match;
-use target_attributes::all_fit;
-use vacancies::find_free;
-use vacancies::lowest_free;
 ghost use mathlib.Core.Path.{_≡_};
 ghost use lib.ListN.{length, take};
-ghost use Rattle.definitions.specs.Graph.{slotLimit, recordAt, graphOf, SoundGraph};
-ghost use Rattle.definitions.specs.Rule.{sourceCount, ruleOf, SoundRule};
+ghost use Rattle.definitions.specs.Graph.{slotLimit, recordAt, graphOf};
+ghost use Rattle.definitions.specs.Rule.{sourceCount, ruleOf};
 ghost use Rattle.definitions.specs.Operations as operation;
-ghost use Rattle.rewriting.specs.Planned.{Matched, Planned, Replaced};
+ghost use Rattle.new_plan.specs.Planned.{Matched};
+ghost use Rattle.rewriting.specs.Replaced.{Replaced};
 
 // The length of the longest graph block.
 const BLOCK_LIMIT: usize = HEADER_BYTES + SLOT_BYTES * SLOT_LIMIT;
-
-// What a rewriting at this match comes to: refusal 5, 6 or 7, in that order, or done with the new table in `table`. The cycle is
-// looked for in the new table, and the room counted after the removal.
-fn plan(graph: &[u8], rule: &[u8], images: &[u16; SIDE_CAPACITY], table: &mut [u8]) -> Reply
-    requires { ⌜ SoundGraph (now graph) ⌝ }
-    requires { ⌜ SoundRule (now rule) ⌝ }
-    requires { ⌜ Matched (now graph) (now rule) (now images) ⌝ }
-    requires { ⌜ length (now table) ≡ length (now graph) ⌝ }
-    ensures { λ r. ⌜ Planned (operation.rewritten (graphOf (now (graph .entry))) (ruleOf (now (rule .entry)))
-        (take (sourceCount (now (rule .entry))) (now (images .entry)))) r (now (table .exit)) ⌝ }
-{
-    if !all_fit(graph, rule, images) {
-        return refuse(NO_RESULT);
-    }
-    let free = find_free(graph, rule, images);
-    let places = lowest_free(&free, slot_count(graph));
-    if places.count < target_count(rule) {
-        return refuse(NO_ROOM);
-    }
-    let slots = places.slots;
-    write_table(graph, rule, images, &slots, &free, table);
-    let made = &table[..];
-    if has_cycle(made) {
-        return refuse(NEW_CYCLE);
-    }
-    Reply::Done(0)
-}
 
 // Room for a table: zeros, as many as the longest block has bytes.
 fn blank() -> [u8; BLOCK_LIMIT]
@@ -67,8 +32,6 @@ fn blank() -> [u8; BLOCK_LIMIT]
 
 // Rewrites the graph at this match, or says how that is refused, and then leaves the graph as it is.
 fn replace(graph: &mut [u8], rule: &[u8], images: &[u16; SIDE_CAPACITY]) -> Reply
-    requires { ⌜ SoundGraph (now graph) ⌝ }
-    requires { ⌜ SoundRule (now rule) ⌝ }
     requires { ⌜ Matched (now graph) (now rule) (now images) ⌝ }
     ensures { λ r. ⌜ Replaced (operation.rewritten (graphOf (now (graph .entry))) (ruleOf (now (rule .entry)))
         (take (sourceCount (now (rule .entry))) (now (images .entry)))) r (now (graph .entry)) (now (graph .exit)) ⌝ }

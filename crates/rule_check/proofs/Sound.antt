@@ -18,7 +18,7 @@ use Rattle.laws.proofs.Lists.{decided, needed, lowest-whole, lowest-passed, all
 use Rattle.laws.proofs.Ranges.{same-lists, same-self}
 use Rattle.laws.proofs.Reply.{flag-none, place-none, judged-first, judged-rest}
 use Rattle.laws.proofs.Rule.{length-source, length-target, outputs-below, inputs-lower}
-use Rattle.rule_outputs.proofs.Reached.{reached-path, path-reached}
+use Rattle.rule_connection.proofs.Reached.{reached-path, path-reached}
 use Rattle.rule_check.proofs.Laws.{good, pattern, sound}
 
 module _ (block : List ℕ) where

@@ -10,12 +10,12 @@ use native.Mathlib.Omega.{arith}
 use borrow.Author.Tests.{lt-ltb, le-ltb, ltb-true, le-leb, lt-leb, leb-true, leb-false, ne-eqb, eqb-true, eqb-false, not-false}
 use lib.Dec.{eqb, ltb, leb, leb·zero}
 use lib.ListN.{getD, set, replicate, List·getD-map}
-use Rattle.definitions.specs.Lists.{build, lowest}
+use Rattle.definitions.specs.Lists.{build}
 use Rattle.definitions.specs.Fields.{byteAt, filled}
-use Rattle.definitions.specs.Rule.{nodeCount, nodeAt, Expression, anything, constant, access, apply, formAny, formConstant, formAccess, nodeForm, nodeLeft, nodeRight, nodeFrom, expressions, expressionOf, operandFits, nodeFits, badNode, accessesBelow}
+use Rattle.definitions.specs.Rule.{nodeLimit, nodeCount, nodeAt, Expression, anything, constant, access, apply, formAny, formConstant, formAccess, formRemainder, nodeForm, nodeLeft, nodeRight, nodeFrom, expressions, expressionOf, operandFits, nodeFits, badNode, accessesBelow}
 use Rattle.laws.proofs.Lists.{decided, and-left, and-right, lowest-passed}
 use Rattle.laws.proofs.Builds.{build-more, getD-padded, map-build}
-use Rattle.rule_expressions.specs.Access.{topAccess, topFrom}
+use Rattle.rule_expressions.specs.Access.{topAccess, topFrom, TopsKnown, NodesFaultless}
 
 -- ---- the highest access
 
@@ -72,19 +72,19 @@ module _ (block : List ℕ) where
   top-unpadded tops n k = simp getD-padded
 
   -- the array of tops, when one more is stored, and when all are
-  module _ (n : ℕ) (tops : List ℕ) (so-far : tops ≡ build (topFrom block) n ++ replicate (64 - n) 0) where
-    pub tops-more : (x : ℕ) → n < 64 → x ≡ topFrom block tops n
-        → set tops n x ≡ build (topFrom block) (n + 1) ++ replicate (64 - (n + 1)) 0
+  module _ (n : ℕ) (tops : List ℕ) (so-far : tops ≡ build (topFrom block) n ++ replicate (nodeLimit - n) 0) where
+    pub tops-more : (x : ℕ) → n < nodeLimit → x ≡ topFrom block tops n
+        → set tops n x ≡ build (topFrom block) (n + 1) ++ replicate (nodeLimit - (n + 1)) 0
     tops-more x l e =
         ap (λ (xs : List ℕ). set xs n x) so-far
-        ∙ build-more (topFrom block) 64 n 0 x l
-        (e ∙ ap (λ (xs : List ℕ). topFrom block xs n) so-far ∙ top-unpadded (build (topFrom block) n) (64 - n) n)
+        ∙ build-more (topFrom block) nodeLimit n 0 x l
+        (e ∙ ap (λ (xs : List ℕ). topFrom block xs n) so-far ∙ top-unpadded (build (topFrom block) n) (nodeLimit - n) n)
 
-    pub tops-all : n ≡ nodeCount block → (k : ℕ) → getD tops k 0 ≡ topAccess (expressionOf block k)
+    pub tops-all : n ≡ nodeCount block → TopsKnown block tops
     unfolding expressionOf expressions topAccess
     tops-all e k =
         ap (λ (xs : List ℕ). getD xs k 0) so-far
-        ∙ getD-padded (build (topFrom block) n) (64 - n) k 0
+        ∙ getD-padded (build (topFrom block) n) (nodeLimit - n) k 0
         ∙ ap (λ (m : ℕ). getD (build (topFrom block) m) k 0) e
         ∙ ap (λ (xs : List ℕ). getD xs k 0) (sym (map-build topAccess (nodeFrom block) (topFrom block) top-node (nodeCount block)))
         ∙ List·getD-map topAccess (build (nodeFrom block) (nodeCount block)) k anything
@@ -95,28 +95,28 @@ module _ (block : List ℕ) where
   unfolding operandFits
   operand-earlier k j h = ltb-true j k (and-left (ltb j k) (not (eqb (nodeForm block j) formAny)) h)
 
-  module _ (k : ℕ) (fits : nodeFits block k ≡ true) (operation : 2 < nodeForm block k) where
-    operands : (leb (nodeForm block k) 7 && operandFits block k (nodeLeft block k) && operandFits block k (nodeRight block k)) ≡ true
+  module _ (k : ℕ) (fits : nodeFits block k ≡ true) (operation : formAccess < nodeForm block k) where
+    operands : (leb (nodeForm block k) formRemainder && operandFits block k (nodeLeft block k) && operandFits block k (nodeRight block k)) ≡ true
     unfolding nodeFits
     operands =
         let no-any : eqb (nodeForm block k) formAny ≡ false = ne-eqb (nodeForm block k) formAny (λ e. omega arith) in
         let no-constant : eqb (nodeForm block k) formConstant ≡ false = ne-eqb (nodeForm block k) formConstant (λ e. omega arith) in
         let no-access : eqb (nodeForm block k) formAccess ≡ false = ne-eqb (nodeForm block k) formAccess (λ e. omega arith) in
         last (eqb (byteAt block (nodeAt block k + 3)) 0) (filled block (nodeAt block k + 4) (nodeAt block k + 8) 0)
-        (leb (nodeForm block k) 7 && operandFits block k (nodeLeft block k) && operandFits block k (nodeRight block k))
+        (leb (nodeForm block k) formRemainder && operandFits block k (nodeLeft block k) && operandFits block k (nodeRight block k))
         (simp (no-any, no-constant, no-access) at fits)
 
     pub left-earlier : nodeLeft block k < k
     left-earlier =
         operand-earlier k (nodeLeft block k)
-        (middle (leb (nodeForm block k) 7) (operandFits block k (nodeLeft block k)) (operandFits block k (nodeRight block k)) operands)
+        (middle (leb (nodeForm block k) formRemainder) (operandFits block k (nodeLeft block k)) (operandFits block k (nodeRight block k)) operands)
 
     pub right-earlier : nodeRight block k < k
     right-earlier =
         operand-earlier k (nodeRight block k)
-        (and-right (leb (nodeForm block k) 7 && operandFits block k (nodeLeft block k)) (operandFits block k (nodeRight block k)) operands)
+        (and-right (leb (nodeForm block k) formRemainder && operandFits block k (nodeLeft block k)) (operandFits block k (nodeRight block k)) operands)
 
   -- every node fits where a search for a fault passed all
-  pub all-fit : nodeCount block ≤ lowest (badNode block) (nodeCount block) → (k : ℕ) → k < nodeCount block → nodeFits block k ≡ true
+  pub all-fit : NodesFaultless block → (k : ℕ) → k < nodeCount block → nodeFits block k ≡ true
   unfolding badNode
   all-fit h k l = not-false (nodeFits block k) (lowest-passed (badNode block) (nodeCount block) k (omega arith))

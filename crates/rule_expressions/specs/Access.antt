@@ -1,11 +1,13 @@
--- The highest source vertex that an expression accesses, as one number that decides every use of it.
+-- The highest source vertex that an expression accesses, as one number that decides every use of it; and what the tests of uses ask.
 -- Assumes nothing.
+use mathlib.Core.Path.{_≡_}
 use mathlib.Core.Bool.{cond}
 use mathlib.Core.List.{List}
-use Prim.Native.Nat.{ℕ, suc, _+_, max}
+use Prim.Native.Nat.{ℕ, suc, _+_, _≤_, max}
 use lib.Dec.{eqb, ltb}
 use lib.ListN.{getD}
-use Rattle.definitions.specs.Rule.{Expression, anything, constant, access, apply, formAccess, nodeForm, nodeLeft, nodeRight}
+use Rattle.definitions.specs.Lists.{lowest}
+use Rattle.definitions.specs.Rule.{nodeCount, Expression, anything, constant, access, apply, formAccess, nodeForm, nodeLeft, nodeRight, expressionOf, badNode}
 
 -- one more than that vertex, or 0 where the expression accesses none
 unfoldable pub topAccess : Expression → ℕ
@@ -20,3 +22,11 @@ topFrom block earlier k =
     cond (ltb (nodeForm block k) formAccess) 0
     (cond (eqb (nodeForm block k) formAccess) (nodeLeft block k + 1)
     (max (getD earlier (nodeLeft block k) 0) (getD earlier (nodeRight block k) 0)))
+
+-- `tops` has that number for every node
+abbrev pub TopsKnown : List ℕ → List ℕ → Type 0
+TopsKnown block tops = (k : ℕ) → getD tops k 0 ≡ topAccess (expressionOf block k)
+
+-- the search for a node with a fault found none
+abbrev pub NodesFaultless : List ℕ → Type 0
+NodesFaultless block = nodeCount block ≤ lowest (badNode block) (nodeCount block)

@@ -20,15 +20,15 @@ use rule_nodes::node_byte;
 use rule_nodes::node_form;
 ghost use mathlib.Core.Path.{_≡_};
 ghost use mathlib.Core.Bool.{true, not, _&&_};
-ghost use Prim.Native.Nat.{ℕ, _+_, _<_, _≤_};
+ghost use Prim.Native.Nat.{_+_, _<_, _≤_};
 ghost use lib.Dec.{eqb, ltb, leb};
-ghost use lib.ListN.{length, getD};
+ghost use lib.ListN.{length};
 ghost use Rattle.definitions.specs.Lists.{within, lowest};
-ghost use Rattle.definitions.specs.Fields.{byteAt, filled};
+ghost use Rattle.definitions.specs.Fields.{filled};
 ghost use Rattle.definitions.specs.Graph.{attributeLimit};
-ghost use Rattle.definitions.specs.Rule.{ruleHeaderBytes, nodeBytes, sourceCount, targetCount, nodeCount, nodeAt, formRemainder, nodeForm, expressionOf, operandFits, nodeFits, badNode, useFits, badUse};
+ghost use Rattle.definitions.specs.Rule.{ruleHeaderBytes, sourceCount, targetCount, nodeCount, nodeAt, formRemainder, operandFits, nodeFits, badNode, useFits, badUse};
 ghost use Rattle.rule_fields.specs.Layout.{WholeRule, ReadableRule};
-ghost use Rattle.rule_expressions.specs.Access.{topAccess, topFrom};
+ghost use Rattle.rule_expressions.specs.Access.{topFrom, TopsKnown, NodesFaultless};
 
 // ---- nodes
 
@@ -174,8 +174,8 @@ fn node_top(rule: &[u8], k: usize, tops: &[usize; NODE_LIMIT]) -> usize
 // time that doubles with every node.
 fn access_tops(rule: &[u8]) -> [usize; NODE_LIMIT]
     requires { ⌜ WholeRule (now rule) ⌝ }
-    requires { ⌜ nodeCount (now rule) ≤ lowest (badNode (now rule)) (nodeCount (now rule)) ⌝ }
-    ensures { λ r. ⌜ ((k : ℕ) → getD r k 0 ≡ topAccess (expressionOf (now (rule .entry)) k)) ⌝ }
+    requires { ⌜ NodesFaultless (now rule) ⌝ }
+    ensures { λ r. ⌜ TopsKnown (now (rule .entry)) r ⌝ }
 {
     let nodes = node_count(rule);
     let mut tops = [0usize; NODE_LIMIT];
@@ -191,7 +191,7 @@ fn access_tops(rule: &[u8]) -> [usize; NODE_LIMIT]
 // Whether vertex v may use node k as an attribute.
 fn use_fits(rule: &[u8], tops: &[usize; NODE_LIMIT], v: usize, k: usize) -> bool
     requires { ⌜ WholeRule (now rule) ⌝ }
-    requires { ⌜ ((n : ℕ) → getD (now tops) n 0 ≡ topAccess (expressionOf (now rule) n)) ⌝ }
+    requires { ⌜ TopsKnown (now rule) (now tops) ⌝ }
     ensures { λ r. ⌜ r ≡ useFits (now (rule .entry)) v k ⌝ }
 {
     if node_count(rule) <= k {
@@ -210,7 +210,7 @@ fn use_fits(rule: &[u8], tops: &[usize; NODE_LIMIT], v: usize, k: usize) -> bool
 fn vertex_uses_fit(rule: &[u8], tops: &[usize; NODE_LIMIT], v: usize) -> bool
     requires { ⌜ ReadableRule (now rule) ⌝ }
     requires { ⌜ v < sourceCount (now rule) + targetCount (now rule) ⌝ }
-    requires { ⌜ ((n : ℕ) → getD (now tops) n 0 ≡ topAccess (expressionOf (now rule) n)) ⌝ }
+    requires { ⌜ TopsKnown (now rule) (now tops) ⌝ }
     ensures { λ r. ⌜ r ≡ not (badUse (now (rule .entry)) v) ⌝ }
 {
     let at = RULE_HEADER_BYTES + PATTERN_BYTES * v;
@@ -229,7 +229,7 @@ fn vertex_uses_fit(rule: &[u8], tops: &[usize; NODE_LIMIT], v: usize) -> bool
 // The lowest vertex that uses a node wrongly, or the number of vertices.
 pub fn bad_use(rule: &[u8]) -> usize
     requires { ⌜ ReadableRule (now rule) ⌝ }
-    requires { ⌜ nodeCount (now rule) ≤ lowest (badNode (now rule)) (nodeCount (now rule)) ⌝ }
+    requires { ⌜ NodesFaultless (now rule) ⌝ }
     ensures { λ r. ⌜ r ≡ lowest (badUse (now (rule .entry))) (sourceCount (now (rule .entry)) + targetCount (now (rule .entry))) ⌝ }
 {
     let vertices = source_count(rule) + target_count(rule);

@@ -27,3 +27,8 @@ pub record Layered (block : List ℕ) : Type 0 where
   pub lower : (j i : ℕ) → j < sourceCount block → i < length (sourceInputs (ruleOf block) j)
       → getD (sourceInputs (ruleOf block) j) i 255 < j
   pub outputs : (i : ℕ) → i < ruleOutputCount block → getD (ruleOf block .sourceOutputs) i 255 < sourceCount block
+
+-- both of these: what is asked to follow source inputs down from the outputs
+pub record LayeredRule (block : List ℕ) : Type 0 where
+  pub readable : ReadableRule block
+  pub layered : Layered block

@@ -9,7 +9,7 @@ ghost use Prim.Native.Nat.{_+_, _<_, _≤_};
 ghost use lib.ListN.{length, getD};
 ghost use Rattle.definitions.specs.Fields.{byteAt};
 ghost use Rattle.definitions.specs.Graph.{inputLimit, attributeLimit};
-ghost use Rattle.definitions.specs.Rule.{ruleHeaderBytes, sourceCount, targetCount, ruleOutputCount, nodeCount, vertexAt, anything, made, originOf, expressionOf, ruleOf, sourceOf, targetOf, sourceInputs, isRuleInput};
+ghost use Rattle.definitions.specs.Rule.{ruleHeaderBytes, patternBytes, sourceCount, targetCount, ruleOutputCount, nodeCount, vertexAt, anything, made, originOf, expressionOf, ruleOf, sourceOf, targetOf, sourceInputs, isRuleInput};
 ghost use Rattle.rule_fields.specs.Layout.{WholeRule, ReadableRule};
 
 // How many source vertices the header counts.
@@ -44,13 +44,54 @@ pub fn node_count(rule: &[u8]) -> usize
     byte_at(rule, 9)
 }
 
+// Where the record of source vertex j starts.
+fn source_at(rule: &[u8], j: usize) -> usize
+    requires { ⌜ WholeRule (now rule) ⌝ }
+    requires { ⌜ j < sourceCount (now rule) ⌝ }
+    ensures { λ r. ⌜ (r ≡ vertexAt j) × (r + patternBytes ≤ length (now (rule .entry))) ⌝ }
+{
+    RULE_HEADER_BYTES + PATTERN_BYTES * j
+}
+
+// Where the record of target vertex t starts: target records come after all source records.
+fn target_at(rule: &[u8], t: usize) -> usize
+    requires { ⌜ WholeRule (now rule) ⌝ }
+    requires { ⌜ t < targetCount (now rule) ⌝ }
+    ensures { λ r. ⌜ (r ≡ vertexAt (sourceCount (now (rule .entry)) + t)) × (r + patternBytes ≤ length (now (rule .entry))) ⌝ }
+{
+    let v = source_count(rule) + t;
+    RULE_HEADER_BYTES + PATTERN_BYTES * v
+}
+
+// Byte i of the record of source vertex j: kind, operator, the two counts, then the places of inputs and of attributes.
+fn source_byte(rule: &[u8], j: usize, i: usize) -> usize
+    requires { ⌜ WholeRule (now rule) ⌝ }
+    requires { ⌜ j < sourceCount (now rule) ⌝ }
+    requires { ⌜ i < patternBytes ⌝ }
+    ensures { λ r. ⌜ (r ≡ byteAt (now (rule .entry)) (vertexAt j + i)) × (r < 256) ⌝ }
+{
+    let at = source_at(rule, j);
+    byte_at(rule, at + i)
+}
+
+// Byte i of the record of target vertex t, in the same order.
+fn target_byte(rule: &[u8], t: usize, i: usize) -> usize
+    requires { ⌜ WholeRule (now rule) ⌝ }
+    requires { ⌜ t < targetCount (now rule) ⌝ }
+    requires { ⌜ i < patternBytes ⌝ }
+    ensures { λ r. ⌜ (r ≡ byteAt (now (rule .entry)) (vertexAt (sourceCount (now (rule .entry)) + t) + i)) × (r < 256) ⌝ }
+{
+    let at = target_at(rule, t);
+    byte_at(rule, at + i)
+}
+
 // The kind of source vertex j.
 pub fn source_kind(rule: &[u8], j: usize) -> usize
     requires { ⌜ WholeRule (now rule) ⌝ }
     requires { ⌜ j < sourceCount (now rule) ⌝ }
     ensures { λ r. ⌜ (r ≡ sourceOf (ruleOf (now (rule .entry))) j .kind) × (r < 256) ⌝ }
 {
-    byte_at(rule, RULE_HEADER_BYTES + PATTERN_BYTES * j)
+    source_byte(rule, j, 0)
 }
 
 // The operator of source vertex j.
@@ -59,7 +100,7 @@ pub fn source_operator(rule: &[u8], j: usize) -> usize
     requires { ⌜ j < sourceCount (now rule) ⌝ }
     ensures { λ r. ⌜ (r ≡ sourceOf (ruleOf (now (rule .entry))) j .operator) × (r < 256) ⌝ }
 {
-    byte_at(rule, RULE_HEADER_BYTES + PATTERN_BYTES * j + 1)
+    source_byte(rule, j, 1)
 }
 
 // How many inputs source vertex j has.
@@ -68,7 +109,7 @@ pub fn source_input_count(rule: &[u8], j: usize) -> usize
     requires { ⌜ j < sourceCount (now rule) ⌝ }
     ensures { λ r. ⌜ (r ≡ length (sourceInputs (ruleOf (now (rule .entry))) j)) × (r ≤ inputLimit) ⌝ }
 {
-    byte_at(rule, RULE_HEADER_BYTES + PATTERN_BYTES * j + 2)
+    source_byte(rule, j, 2)
 }
 
 // What input place i of source vertex j names.
@@ -78,7 +119,7 @@ pub fn source_input(rule: &[u8], j: usize, i: usize) -> usize
     requires { ⌜ i < length (sourceInputs (ruleOf (now rule)) j) ⌝ }
     ensures { λ r. ⌜ (r ≡ getD (sourceInputs (ruleOf (now (rule .entry))) j) i 255) × (r < 256) ⌝ }
 {
-    byte_at(rule, RULE_HEADER_BYTES + PATTERN_BYTES * j + 4 + i)
+    source_byte(rule, j, 4 + i)
 }
 
 // How many attributes source vertex j has.
@@ -87,7 +128,7 @@ pub fn source_attribute_count(rule: &[u8], j: usize) -> usize
     requires { ⌜ j < sourceCount (now rule) ⌝ }
     ensures { λ r. ⌜ (r ≡ length (sourceOf (ruleOf (now (rule .entry))) j .attributes)) × (r ≤ attributeLimit) ⌝ }
 {
-    byte_at(rule, RULE_HEADER_BYTES + PATTERN_BYTES * j + 3)
+    source_byte(rule, j, 3)
 }
 
 // The node of attribute i of source vertex j, here counted from 0.
@@ -98,7 +139,7 @@ pub fn source_attribute(rule: &[u8], j: usize, i: usize) -> usize
     ensures { λ r. ⌜ expressionOf (now (rule .entry)) r ≡ getD (sourceOf (ruleOf (now (rule .entry))) j .attributes) i anything ⌝ }
     ensures { λ r. ⌜ r ≡ byteAt (now (rule .entry)) (vertexAt j + 10 + i) ⌝ }
 {
-    byte_at(rule, RULE_HEADER_BYTES + PATTERN_BYTES * j + 10 + i)
+    source_byte(rule, j, 10 + i)
 }
 
 // The kind of target vertex t.
@@ -107,8 +148,7 @@ pub fn target_kind(rule: &[u8], t: usize) -> usize
     requires { ⌜ t < targetCount (now rule) ⌝ }
     ensures { λ r. ⌜ (r ≡ targetOf (ruleOf (now (rule .entry))) t .kind) × (r < 256) ⌝ }
 {
-    let v = source_count(rule) + t;
-    byte_at(rule, RULE_HEADER_BYTES + PATTERN_BYTES * v)
+    target_byte(rule, t, 0)
 }
 
 // The operator of target vertex t.
@@ -117,8 +157,7 @@ pub fn target_operator(rule: &[u8], t: usize) -> usize
     requires { ⌜ t < targetCount (now rule) ⌝ }
     ensures { λ r. ⌜ (r ≡ targetOf (ruleOf (now (rule .entry))) t .operator) × (r < 256) ⌝ }
 {
-    let v = source_count(rule) + t;
-    byte_at(rule, RULE_HEADER_BYTES + PATTERN_BYTES * v + 1)
+    target_byte(rule, t, 1)
 }
 
 // How many inputs target vertex t has.
@@ -127,8 +166,7 @@ pub fn target_input_count(rule: &[u8], t: usize) -> usize
     requires { ⌜ t < targetCount (now rule) ⌝ }
     ensures { λ r. ⌜ (r ≡ length (targetOf (ruleOf (now (rule .entry))) t .inputs)) × (r ≤ inputLimit) ⌝ }
 {
-    let v = source_count(rule) + t;
-    byte_at(rule, RULE_HEADER_BYTES + PATTERN_BYTES * v + 2)
+    target_byte(rule, t, 2)
 }
 
 // The place number in input place i of target vertex t.
@@ -138,8 +176,7 @@ pub fn target_input(rule: &[u8], t: usize, i: usize) -> usize
     requires { ⌜ i < length (targetOf (ruleOf (now rule)) t .inputs) ⌝ }
     ensures { λ r. ⌜ (originOf r ≡ getD (targetOf (ruleOf (now (rule .entry))) t .inputs) i (made 255)) × (r < 256) ⌝ }
 {
-    let v = source_count(rule) + t;
-    byte_at(rule, RULE_HEADER_BYTES + PATTERN_BYTES * v + 4 + i)
+    target_byte(rule, t, 4 + i)
 }
 
 // How many attributes target vertex t has.
@@ -148,8 +185,7 @@ pub fn target_attribute_count(rule: &[u8], t: usize) -> usize
     requires { ⌜ t < targetCount (now rule) ⌝ }
     ensures { λ r. ⌜ (r ≡ length (targetOf (ruleOf (now (rule .entry))) t .attributes)) × (r ≤ attributeLimit) ⌝ }
 {
-    let v = source_count(rule) + t;
-    byte_at(rule, RULE_HEADER_BYTES + PATTERN_BYTES * v + 3)
+    target_byte(rule, t, 3)
 }
 
 // The node of attribute i of target vertex t, here counted from 0.
@@ -160,8 +196,7 @@ pub fn target_attribute(rule: &[u8], t: usize, i: usize) -> usize
     ensures { λ r. ⌜ expressionOf (now (rule .entry)) r ≡ getD (targetOf (ruleOf (now (rule .entry))) t .attributes) i anything ⌝ }
     ensures { λ r. ⌜ r ≡ byteAt (now (rule .entry)) (vertexAt (sourceCount (now (rule .entry)) + t) + 10 + i) ⌝ }
 {
-    let v = source_count(rule) + t;
-    byte_at(rule, RULE_HEADER_BYTES + PATTERN_BYTES * v + 10 + i)
+    target_byte(rule, t, 10 + i)
 }
 
 // The source vertex that source output i is.

@@ -1,4 +1,4 @@
--- What a visit of a source vertex, or of its inputs, gives where the first `next` vertices are visited already.
+-- What a visit of a source vertex, or of its inputs, asks and gives where the first `next` vertices are visited already.
 -- Assumes nothing.
 use mathlib.Core.Path.{_≡_}
 use mathlib.Core.Bool.{Bool, true, false}
@@ -7,6 +7,13 @@ use Prim.Native.Nat.{ℕ, _<_, _≤_}
 use lib.ListN.{drop}
 use Rattle.definitions.specs.Lists.{foldl, range}
 use Rattle.definitions.specs.Rule.{sourceCount, ruleOf, sourceInputs, visit}
+use Rattle.rule_fields.specs.Layout.{LayeredRule}
+
+-- v is a source vertex, its inputs and theirs are lower, and no more vertices are visited than there are.
+pub record MayVisit (block : List ℕ) (v next : ℕ) : Type 0 where
+  pub layout : LayeredRule block
+  pub vertex : v < sourceCount block
+  pub count : next ≤ sourceCount block
 
 -- Whatever is visited later, the vertices do not stand in order.
 unfoldable pub OutOfOrder : List ℕ → Type 0

@@ -7,11 +7,11 @@ use rule_fields::source_input;
 use rule_fields::source_input_count;
 use rule_fields::source_output;
 ghost use mathlib.Core.Path.{_≡_};
-ghost use Prim.Native.Nat.{_<_, _≤_};
+ghost use Prim.Native.Nat.{_≤_};
 ghost use lib.ListN.{length};
-ghost use Rattle.definitions.specs.Rule.{sourceCount, ruleOf, sourceInputs, inVisitingOrder};
-ghost use Rattle.rule_fields.specs.Layout.{ReadableRule, Layered};
-ghost use Rattle.rule_order.specs.Order.{Visits, VisitsInputs};
+ghost use Rattle.definitions.specs.Rule.{ruleOf, sourceInputs, inVisitingOrder};
+ghost use Rattle.rule_fields.specs.Layout.{LayeredRule};
+ghost use Rattle.rule_order.specs.Order.{MayVisit, Visits, VisitsInputs};
 
 // Whether the order is right so far, and how many vertices are visited where it is. Once it is wrong it stays wrong: a visit only
 // adds vertices after those that are visited.
@@ -22,10 +22,7 @@ struct Visited {
 
 // Visits v, its inputs first, where next vertices are visited already.
 fn visit(rule: &[u8], v: usize, next: usize) -> Visited
-    requires { ⌜ ReadableRule (now rule) ⌝ }
-    requires { ⌜ Layered (now rule) ⌝ }
-    requires { ⌜ v < sourceCount (now rule) ⌝ }
-    requires { ⌜ next ≤ sourceCount (now rule) ⌝ }
+    requires { ⌜ MayVisit (now rule) v next ⌝ }
     ensures { λ r. ⌜ Visits (now (rule .entry)) v next (r .ok) (r .next) ⌝ }
 {
     if v < next {
@@ -46,11 +43,8 @@ fn visit(rule: &[u8], v: usize, next: usize) -> Visited
 
 // Visits the inputs of v from place i on.
 fn visit_inputs(rule: &[u8], v: usize, i: usize, next: usize) -> Visited
-    requires { ⌜ ReadableRule (now rule) ⌝ }
-    requires { ⌜ Layered (now rule) ⌝ }
-    requires { ⌜ v < sourceCount (now rule) ⌝ }
+    requires { ⌜ MayVisit (now rule) v next ⌝ }
     requires { ⌜ i ≤ length (sourceInputs (ruleOf (now rule)) v) ⌝ }
-    requires { ⌜ next ≤ sourceCount (now rule) ⌝ }
     ensures { λ r. ⌜ VisitsInputs (now (rule .entry)) v i next (r .ok) (r .next) ⌝ }
 {
     if i == source_input_count(rule, v) {
@@ -65,8 +59,7 @@ fn visit_inputs(rule: &[u8], v: usize, i: usize, next: usize) -> Visited
 
 // Whether the traversal from the outputs gives the source vertices in their order, each of them.
 pub fn in_visiting_order(rule: &[u8]) -> bool
-    requires { ⌜ ReadableRule (now rule) ⌝ }
-    requires { ⌜ Layered (now rule) ⌝ }
+    requires { ⌜ LayeredRule (now rule) ⌝ }
     ensures { λ r. ⌜ r ≡ inVisitingOrder (ruleOf (now (rule .entry))) ⌝ }
 {
     let outputs = output_count(rule);

@@ -130,7 +130,7 @@ fn pattern_fits(rule: &[u8], at: usize) -> bool
     if !is_filled(rule, at + 4 + inputs, at + 10, 255) {
         return false;
     }
-    is_filled(rule, at + 10 + attributes, at + 16, 255)
+    is_filled(rule, at + 10 + attributes, at + PATTERN_BYTES, 255)
 }
 
 // Whether every input of source vertex j names a lower vertex.

@@ -1,3 +1,2 @@
-pub mod Sound
 pub mod Steps
 pub mod Whole

@@ -8,7 +8,7 @@ use native.Mathlib.Omega.{arith}
 use lib.ListN.{length, take}
 use lib.Seq.{length-take-le}
 use Rattle.definitions.specs.Operators.{kindEmpty}
-use Rattle.definitions.specs.Graph.{unusedPlace, Graph, slotOf, inputsOf, isVertex}
+use Rattle.definitions.specs.Graph.{unusedPlace, Graph, slotOf, inputsOf, isVertex, usesOf}
 use Rattle.definitions.specs.Rule.{sideCapacity, Rule, sourceOf, sourceInputs, isRuleInput}
 use Rattle.definitions.specs.Match.{imageOf, isInterior, Takes, Match}
 use Rattle.laws.proofs.Lists.{true-not-false}
@@ -16,10 +16,9 @@ use Rattle.laws.proofs.Members.{holds, true-holds}
 use Rattle.laws.proofs.Graph.{vertex-inside}
 use Rattle.laws.proofs.Rule.{source-reader}
 use Rattle.laws.proofs.Padded.{taken-at}
-use Rattle.uses.specs.Uses.{usesOf}
-use Rattle.uses.proofs.Inside.{uses-private}
+use Rattle.theory.proofs.Inside.{uses-private}
 use Rattle.matching.specs.Partial.{Partial}
-use Rattle.matching.proofs.Candidates.{Formed, wild-input}
+use Rattle.match_look.proofs.Candidates.{Formed, wild-input}
 use Rattle.matching.proofs.Maps.{takes-same}
 
 module _ (g : Graph) (r : Rule) (f : Formed r) (images : List ℕ) (p : Partial g r (length (r .source)) images)

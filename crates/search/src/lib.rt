@@ -4,15 +4,15 @@ use definitions::SIDE_CAPACITY;
 use definitions::SLOT_LIMIT;
 use definitions::UNUSED_PLACE;
 use graph_fields::slot_count;
+use graph_uses::count_uses;
 use matching::match_vertex;
 use rule_fields::output_count;
 use rule_fields::source_output;
-use uses::count_demands;
-use uses::count_uses;
+use rule_uses::count_demands;
 ghost use Rattle.definitions.specs.Graph.{graphOf, SoundGraph};
 ghost use Rattle.definitions.specs.Rule.{sourceCount, ruleOf, SoundRule};
 ghost use Rattle.definitions.specs.Match.{leastMatch};
-ghost use Rattle.matching.specs.Setting.{Setting};
+ghost use Rattle.match_look.specs.Setting.{Setting};
 ghost use Rattle.search.specs.Finds.{Finds};
 
 // The images of all source vertices, where `ok`; in the places after them stands 65535.

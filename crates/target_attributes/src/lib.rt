@@ -8,23 +8,31 @@ use rule_fields::target_attribute_count;
 use rule_fields::target_count;
 use rule_fields::target_kind;
 ghost use mathlib.Core.Path.{_≡_};
-ghost use mathlib.Core.Option.{some};
 ghost use mathlib.Core.Bool.{true};
 ghost use Prim.Native.Nat.{_<_};
-ghost use lib.ListN.{length};
 ghost use Rattle.definitions.specs.Graph.{graphOf};
-ghost use Rattle.definitions.specs.Rule.{sideCapacity, targetCount, ruleOf, targetOf};
+ghost use Rattle.definitions.specs.Rule.{targetCount, ruleOf, targetOf};
 ghost use Rattle.definitions.specs.Match.{readAttribute};
-ghost use Rattle.definitions.specs.Rewriting.{vertexResults, targetResults};
 ghost use Rattle.numbers.specs.Value.{valueOf, bounded};
-ghost use Rattle.graph_fields.specs.Layout.{ReadableGraph};
-ghost use Rattle.rule_fields.specs.Layout.{ReadableRule};
-ghost use Rattle.attributes.specs.Evaluable.{Evaluable};
-ghost use Rattle.target_attributes.specs.Words.{wordOfValue, indexLike, Given, isGiven};
+ghost use Rattle.attributes.specs.Evaluation.{Evaluation};
+ghost use Rattle.target_attributes.specs.Words.{wordOfValue, indexLike};
+ghost use Rattle.target_attributes.specs.Fitness.{targetFitness, Told};
 
-// The words of a vertex's attributes, where `ok`; zero stands in the unused places.
+// The first that is unfit, by its place among those that were looked at.
+pub struct Lack {
+    pub place: usize,
+}
+
+// Whether all have fit results, or the first that has none.
+pub enum Fitness {
+    Fit,
+    Unfit(Lack),
+}
+
+// The words of a vertex's attributes, where all are fit; zero stands in the unused places. (An enum that held the array would have to
+// be proved without the borrow checker.)
 pub struct Words {
-    pub ok: bool,
+    pub fitness: Fitness,
     pub words: [u32; ATTRIBUTE_LIMIT],
 }
 
@@ -56,15 +64,12 @@ fn is_fit(kind: usize, value: Value) -> bool
     }
 }
 
-// The attributes of target vertex t.
+// The attributes of target vertex t, or the first of them that is unfit.
 pub fn vertex_words(graph: &[u8], rule: &[u8], images: &[u16; SIDE_CAPACITY], t: usize) -> Words
-    requires { ⌜ ReadableGraph (now graph) ⌝ }
-    requires { ⌜ ReadableRule (now rule) ⌝ }
-    requires { ⌜ Evaluable (now rule) ⌝ }
-    requires { ⌜ length (now images) ≡ sideCapacity ⌝ }
+    requires { ⌜ Evaluation (now graph) (now rule) (now images) ⌝ }
     requires { ⌜ t < targetCount (now rule) ⌝ }
-    ensures { λ r. ⌜ Given (vertexResults (readAttribute (graphOf (now (graph .entry))) (now (images .entry)))
-        (targetOf (ruleOf (now (rule .entry))) t)) (r .ok) (r .words) ⌝ }
+    ensures { λ r. ⌜ Told (readAttribute (graphOf (now (graph .entry))) (now (images .entry)))
+        (targetOf (ruleOf (now (rule .entry))) t) r ⌝ }
 {
     let kind = target_kind(rule, t);
     let count = target_attribute_count(rule, t);
@@ -73,31 +78,36 @@ pub fn vertex_words(graph: &[u8], rule: &[u8], images: &[u16; SIDE_CAPACITY], t:
     while i < count {
         let value = target_value(graph, rule, images, t, i);
         if !is_fit(kind, value) {
-            return Words { ok: false, words };
+            return Words {
+                fitness: Fitness::Unfit(Lack { place: i }),
+                words,
+            };
         }
         words[i] = word_of(value);
         i += 1;
     }
-    Words { ok: true, words }
+    Words {
+        fitness: Fitness::Fit,
+        words,
+    }
 }
 
-// Whether every attribute of every target vertex has a fit result.
-pub fn all_fit(graph: &[u8], rule: &[u8], images: &[u16; SIDE_CAPACITY]) -> bool
-    requires { ⌜ ReadableGraph (now graph) ⌝ }
-    requires { ⌜ ReadableRule (now rule) ⌝ }
-    requires { ⌜ Evaluable (now rule) ⌝ }
-    requires { ⌜ length (now images) ≡ sideCapacity ⌝ }
-    ensures { λ r. ⌜ r ≡ isGiven (targetResults (readAttribute (graphOf (now (graph .entry))) (now (images .entry)))
-        (ruleOf (now (rule .entry)) .target)) ⌝ }
+// Whether every attribute of every target vertex has a fit result, or the first target vertex with one that has none.
+pub fn all_fit(graph: &[u8], rule: &[u8], images: &[u16; SIDE_CAPACITY]) -> Fitness
+    requires { ⌜ Evaluation (now graph) (now rule) (now images) ⌝ }
+    ensures { λ r. ⌜ r ≡ targetFitness (readAttribute (graphOf (now (graph .entry))) (now (images .entry)))
+        (ruleOf (now (rule .entry))) ⌝ }
 {
     let count = target_count(rule);
     let mut t = 0;
     while t < count {
         let found = vertex_words(graph, rule, images, t);
-        if !found.ok {
-            return false;
+        let fitness = found.fitness;
+        match fitness {
+            Fitness::Unfit(_) => return Fitness::Unfit(Lack { place: t }),
+            Fitness::Fit => {}
         }
         t += 1;
     }
-    true
+    Fitness::Fit
 }

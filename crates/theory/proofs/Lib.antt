@@ -8,3 +8,4 @@ pub mod Choices
 pub mod Least
 pub mod Fields
 pub mod Reply
+pub mod Inside

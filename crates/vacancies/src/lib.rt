@@ -10,15 +10,13 @@ use rule_fields::is_rule_input;
 use rule_fields::source_count;
 ghost use mathlib.Core.Path.{_≡_};
 ghost use mathlib.Core.Bool.{not};
-ghost use Prim.Native.Nat.{ℕ, _<_, _≤_};
+ghost use Prim.Native.Nat.{_≤_};
 ghost use lib.ListN.{length};
 ghost use Rattle.definitions.specs.Graph.{slotLimit, slotCount, graphOf, isVertex};
-ghost use Rattle.definitions.specs.Rule.{sideCapacity, sourceCount, ruleOf};
-ghost use Rattle.definitions.specs.Match.{imageOf};
+ghost use Rattle.definitions.specs.Rule.{ruleOf};
 ghost use Rattle.definitions.specs.Rewriting.{stays};
 ghost use Rattle.graph_fields.specs.Layout.{WholeGraph};
-ghost use Rattle.rule_fields.specs.Layout.{WholeRule};
-ghost use Rattle.vacancies.specs.Vacant.{Marks, marked, Lowest};
+ghost use Rattle.vacancies.specs.Vacant.{Removable, Marks, marked, Lowest};
 
 // How many slots are free, and the lowest of them; 65535 stands in the places after the last.
 pub struct Places {
@@ -45,10 +43,7 @@ fn mark_empty(graph: &[u8]) -> [bool; SLOT_LIMIT]
 
 // Marks the slots that are Empty after the removal: the images of the source vertices that are no rule inputs too.
 pub fn find_free(graph: &[u8], rule: &[u8], images: &[u16; SIDE_CAPACITY]) -> [bool; SLOT_LIMIT]
-    requires { ⌜ WholeGraph (now graph) ⌝ }
-    requires { ⌜ WholeRule (now rule) ⌝ }
-    requires { ⌜ length (now images) ≡ sideCapacity ⌝ }
-    requires { ⌜ ((j : ℕ) → j < sourceCount (now rule) → imageOf (now images) j < slotCount (now graph)) ⌝ }
+    requires { ⌜ Removable (now graph) (now rule) (now images) ⌝ }
     ensures { λ r. ⌜ Marks (λ k. not (stays (graphOf (now (graph .entry))) (ruleOf (now (rule .entry))) (now (images .entry)) k))
         (slotCount (now (graph .entry))) r ⌝ }
 {

@@ -1,32 +1,9 @@
-// Numbers, slot records and headers, written into a part of a block that the caller lends on; and the reader of a record.
-use definitions::ATTRIBUTE_LIMIT;
-use definitions::GRAPH_LETTER;
-use definitions::GRAPH_VERSION;
-use definitions::INPUT_LIMIT;
-use definitions::OUTPUT_LIMIT;
-use fields::byte_at;
-use fields::u16_at;
-use fields::u32_at;
+// Numbers, zeros and other bytes, written into a part of a block that the caller lends on.
 ghost use mathlib.Core.Path.{_≡_};
-ghost use mathlib.Core.List.{_++_};
-ghost use Prim.Native.Nat.{_+_, _*_, _≤_};
+ghost use Prim.Native.Nat.{_*_};
 ghost use lib.ListN.{length, replicate};
 ghost use Rattle.definitions.specs.Lists.{concatMap};
 ghost use Rattle.definitions.specs.Fields.{u16Bytes, u32Bytes};
-ghost use Rattle.definitions.specs.Graph.{headerBytes, slotBytes, inputLimit, attributeLimit, outputLimit, slotTail};
-ghost use Rattle.writing.specs.Records.{recordBytes, headerWith, inputsAt, attributesAt, fieldsAt};
-
-// What a slot's record holds: kind, operator, input count n, attribute count m, and every place, the unused ones too.
-pub struct Record {
-    pub kind: u8,
-    pub operator: u8,
-    pub n: u8,
-    pub m: u8,
-    pub inputs: [u16; INPUT_LIMIT],
-    pub attributes: [u32; ATTRIBUTE_LIMIT],
-}
-
-// ---- numbers
 
 // Writes 16-bit numbers, each as two bytes, the lower one first.
 pub fn put_u16s(part: &mut [u8], numbers: &[u16])
@@ -83,93 +60,4 @@ pub fn copy(to: &mut [u8], from: &[u8])
         to[i] = from[i];
         i += 1;
     }
-}
-
-// ---- records
-
-// Writes a slot's record into the 48 bytes of its slot.
-pub fn write_record(part: &mut [u8], record: Record)
-    requires { ⌜ length (now part) ≡ slotBytes ⌝ }
-    requires { ⌜ length («record» .inputs) ≡ inputLimit ⌝ }
-    requires { ⌜ length («record» .attributes) ≡ attributeLimit ⌝ }
-    ensures { λ r. ⌜ now (part .exit) ≡ recordBytes «record» ⌝ }
-{
-    part[0] = record.kind;
-    part[1] = record.operator;
-    part[2] = record.n;
-    part[3] = record.m;
-    let inputs = record.inputs;
-    put_u16s(&mut part[4..16], &inputs);
-    let attributes = record.attributes;
-    put_u32s(&mut part[16..40], &attributes);
-    clear(&mut part[40..48]);
-}
-
-// Every input place of the record that starts at `at`.
-fn read_inputs(block: &[u8], at: usize) -> [u16; INPUT_LIMIT]
-    requires { ⌜ at + slotBytes ≤ length (now block) ⌝ }
-    ensures { λ r. ⌜ r ≡ inputsAt (now (block .entry)) at ⌝ }
-{
-    let mut inputs = [0u16; INPUT_LIMIT];
-    let mut i = 0;
-    while i < INPUT_LIMIT {
-        inputs[i] = u16_at(block, at + 4 + 2 * i) as u16;
-        i += 1;
-    }
-    inputs
-}
-
-// Every attribute place of the record that starts at `at`.
-fn read_attributes(block: &[u8], at: usize) -> [u32; ATTRIBUTE_LIMIT]
-    requires { ⌜ at + slotBytes ≤ length (now block) ⌝ }
-    ensures { λ r. ⌜ r ≡ attributesAt (now (block .entry)) at ⌝ }
-{
-    let mut attributes = [0u32; ATTRIBUTE_LIMIT];
-    let mut i = 0;
-    while i < ATTRIBUTE_LIMIT {
-        attributes[i] = u32_at(block, at + 16 + 4 * i) as u32;
-        i += 1;
-    }
-    attributes
-}
-
-// The record of a slot whose 48 bytes start at `at`: every place as it stands, the unused ones too, so that a record that is
-// read and written again has the bytes that it was read from, and a clear tail.
-pub fn read_record(block: &[u8], at: usize) -> Record
-    requires { ⌜ at + slotBytes ≤ length (now block) ⌝ }
-    ensures { λ r. ⌜ (length (r .inputs) ≡ inputLimit) × (length (r .attributes) ≡ attributeLimit) ⌝ }
-    ensures { λ r. ⌜ recordBytes r ≡ fieldsAt (now (block .entry)) at ++ slotTail ⌝ }
-{
-    let kind = byte_at(block, at);
-    let operator = byte_at(block, at + 1);
-    let n = byte_at(block, at + 2);
-    let m = byte_at(block, at + 3);
-    let inputs = read_inputs(block, at);
-    let attributes = read_attributes(block, at);
-    Record {
-        kind: kind as u8,
-        operator: operator as u8,
-        n: n as u8,
-        m: m as u8,
-        inputs,
-        attributes,
-    }
-}
-
-// ---- the header
-
-// Writes a graph block's header into its 24 bytes: `outputs` has every output place, of which `count` are used.
-pub fn write_header(part: &mut [u8], slots: u16, count: u16, outputs: &[u16; OUTPUT_LIMIT])
-    requires { ⌜ length (now part) ≡ headerBytes ⌝ }
-    requires { ⌜ length (now outputs) ≡ outputLimit ⌝ }
-    ensures { λ r. ⌜ now (part .exit) ≡ headerWith slots count (now (outputs .entry)) ⌝ }
-{
-    part[0] = 76;
-    part[1] = 71;
-    part[2] = GRAPH_LETTER as u8;
-    part[3] = 0;
-    let numbers = [GRAPH_VERSION as u16, slots, count];
-    put_u16s(&mut part[4..10], &numbers);
-    put_u16s(&mut part[10..18], outputs);
-    clear(&mut part[18..24]);
 }

@@ -15,8 +15,8 @@ use Rattle.definitions.specs.Match.{readAttribute}
 use Rattle.laws.proofs.Rule.{source-attributes-at}
 use Rattle.fields.specs.Integer.{integerOf}
 use Rattle.numbers.specs.Value.{valueOf}
-use Rattle.attributes.specs.Memo.{nodeResult}
-use Rattle.attributes.proofs.Laws.{any-agrees, result-agrees}
+use Rattle.match_values.specs.Memo.{nodeResult}
+use Rattle.attributes.proofs.Laws.{of-nodes, any-agrees, result-agrees}
 use Rattle.attributes.proofs.attribute_agrees.Statement.{statement}
 use Rattle.attributes.proofs.attribute_agrees.Tie as tie
 
@@ -28,12 +28,12 @@ inside : (c : tie.After-source-attribute) → c .source-attribute .result < node
 inside c =
     let s = start c in
     let rule = s .args .rule .now in
-    let j = s .pre .1 .1 .1 .1 .0 in
+    let j = s .pre .1 .vertex in
     omega (
       arith,
       c .source-attribute .ensures .1,
-      s .pre .1 .1 .0 .uses (s .args .j) (s .args .i) (omega (arith, j))
-          (omega (arith, s .pre .1 .1 .1 .1 .1 .0, source-attributes-at rule (s .args .j) j)),
+      s .pre .0 .evaluable .uses (s .args .j) (s .args .i) (omega (arith, j))
+          (omega (arith, s .pre .1 .place, source-attributes-at rule (s .args .j) j)),
     )
 
 -- where the node is not any, what it gives decides
@@ -52,13 +52,13 @@ by-result d x e =
     (getD (sourceOf (ruleOf (s .args .rule .now)) (s .args .j) .attributes) (s .args .i) anything)
     (signed (getD (slotOf graph (s .args .v) .attributes) (s .args .i) 0)) (a .source-attribute .ensures .0)
     x (integerOf (d .attribute-at .result)) e (d .attribute-at .ensures)
-    (s .pre .1 .1 .0 .nodes (a .source-attribute .result) (inside a)) (λ z. d .before .if1 .left (f .node-form .ensures .0 ∙ z))
+    (s .pre .0 .evaluable .nodes (a .source-attribute .result) (inside a)) (λ z. d .before .if1 .left (f .node-form .ensures .0 ∙ z))
 
 source-attribute-requires : tie.Need-source-attribute-requires
 source-attribute-requires c κs = search needs
 
 node-form-requires : tie.Need-node-form-requires
-node-form-requires c κs = (start c .pre .1 .0 .whole, inside c)
+node-form-requires c κs = (start c .pre .0 .patterns .whole, inside c)
 
 returns : tie.Need-returns
 returns c =
@@ -77,22 +77,8 @@ attribute-at-requires c κs = search needs
 leaf-value-requires : tie.Need-leaf-value-requires
 leaf-value-requires c κs =
     let f = c .before .before .before in
-    let s = start (f .before) in (
-      s .pre .0,
-      (
-        s .pre .1 .0 .whole,
-        (
-          s .pre .1 .1 .0,
-          (
-            s .pre .1 .1 .1 .0,
-            (
-              inside (f .before),
-              omega (arith, f .node-form .ensures .0, c .if2 .taken),
-            ),
-          ),
-        ),
-      ),
-    )
+    let s = start (f .before) in
+    (of-nodes (s .pre .0), record { inside = inside (f .before); form = omega (arith, f .node-form .ensures .0, c .if2 .taken) })
 
 gives-requires : tie.Need-gives-requires
 gives-requires c κs = search needs
@@ -106,8 +92,7 @@ returns-2 c =
 operation-value-requires : tie.Need-operation-value-requires
 operation-value-requires c κs =
     let f = c .before .before .before in
-    let s = start (f .before) in
-    (s .pre .0, (s .pre .1 .0 .whole, (s .pre .1 .1 .0, (s .pre .1 .1 .1 .0, inside (f .before)))))
+    (of-nodes (start (f .before) .pre .0), inside (f .before))
 
 gives-requires-2 : tie.Need-gives-requires-2
 gives-requires-2 c κs = search needs

@@ -42,7 +42,7 @@ left : (c : tie.In-loop Inv-loop μ-loop) → c .before .loop .i < length (patte
 left c = omega (arith, c .loop-test .taken, c .before .before .source-attribute-count .ensures .0)
 
 source-attribute-count-requires : tie.Need-source-attribute-count-requires Inv-loop μ-loop
-source-attribute-count-requires c κs = let s = c .before .before in (s .pre .1 .0, s .pre .1 .1 .1 .1 .0)
+source-attribute-count-requires c κs = let s = c .before .before in (s .pre .0 .patterns, s .pre .1 .vertex)
 
 loop-holds : tie.Need-loop-holds Inv-loop μ-loop
 unfolding allBelow
@@ -52,22 +52,12 @@ attribute-agrees-requires : tie.Need-attribute-agrees-requires Inv-loop μ-loop
 attribute-agrees-requires c κs =
     let s = start (c .before) in (
       s .pre .0,
-      (
-        s .pre .1 .0,
-        (
-          s .pre .1 .1 .0,
-          (
-            s .pre .1 .1 .1 .0,
-            (
-              s .pre .1 .1 .1 .1 .0,
-              (
-                left c,
-                (s .pre .1 .1 .1 .1 .1 .0, omega (arith, left c, s .pre .1 .1 .1 .1 .1 .1)),
-              ),
-            ),
-          ),
-        ),
-      ),
+      record {
+        vertex = s .pre .1 .vertex;
+        place = left c;
+        slot = s .pre .1 .slot;
+        slotPlace = omega (arith, left c, s .pre .1 .enough);
+      },
     )
 
 returns : tie.Need-returns Inv-loop μ-loop

@@ -14,8 +14,9 @@ use Rattle.definitions.specs.Attributes.{result}
 use Rattle.definitions.specs.Match.{readAttribute}
 use Rattle.laws.proofs.Rule.{target-attributes-at}
 use Rattle.numbers.specs.Value.{valueOf, bounded}
-use Rattle.attributes.specs.Memo.{nodeResult}
-use Rattle.attributes.proofs.Laws.{node-bounded}
+use Rattle.match_values.specs.Memo.{nodeResult}
+use Rattle.match_values.proofs.Laws.{node-bounded}
+use Rattle.attributes.proofs.Laws.{of-nodes}
 use Rattle.attributes.proofs.target_value.Statement.{statement}
 use Rattle.attributes.proofs.target_value.Tie as tie
 
@@ -27,12 +28,12 @@ inside : (c : tie.After-target-attribute) → c .target-attribute .result < node
 inside c =
     let s = start c in
     let rule = s .args .rule .now in
-    let t = s .pre .1 .1 .1 .1 .0 in
+    let t = s .pre .1 .vertex in
     omega (
       arith,
       c .target-attribute .ensures .1,
-      s .pre .1 .1 .0 .uses (sourceCount rule + s .args .t) (s .args .i) (omega (arith, t))
-          (omega (arith, s .pre .1 .1 .1 .1 .1, target-attributes-at rule (s .args .t) t)),
+      s .pre .0 .evaluable .uses (sourceCount rule + s .args .t) (s .args .i) (omega (arith, t))
+          (omega (arith, s .pre .1 .place, target-attributes-at rule (s .args .t) t)),
     )
 
 -- what the node gives is the attribute's result
@@ -48,34 +49,20 @@ by-node c x e =
     let images = s .args .images .now in
     let k = c .target-attribute .result in (
       e ∙ ap (λ (f : Expression). result (readAttribute (graphOf graph) images) f) (c .target-attribute .ensures .0),
-      rw e (node-bounded graph rule images k (inside c) (s .pre .1 .1 .0 .nodes k (inside c))),
+      rw e (node-bounded graph rule images k (inside c) (s .pre .0 .evaluable .nodes k (inside c))),
     )
 
 target-attribute-requires : tie.Need-target-attribute-requires
 target-attribute-requires c κs = search needs
 
 node-form-requires : tie.Need-node-form-requires
-node-form-requires c κs = (start c .pre .1 .0 .whole, inside c)
+node-form-requires c κs = (start c .pre .0 .patterns .whole, inside c)
 
 leaf-value-requires : tie.Need-leaf-value-requires
 leaf-value-requires c κs =
     let f = c .before in
-    let s = start (f .before) in (
-      s .pre .0,
-      (
-        s .pre .1 .0 .whole,
-        (
-          s .pre .1 .1 .0,
-          (
-            s .pre .1 .1 .1 .0,
-            (
-              inside (f .before),
-              omega (arith, f .node-form .ensures .0, c .if1 .taken),
-            ),
-          ),
-        ),
-      ),
-    )
+    let s = start (f .before) in
+    (of-nodes (s .pre .0), record { inside = inside (f .before); form = omega (arith, f .node-form .ensures .0, c .if1 .taken) })
 
 returns : tie.Need-returns
 returns c = by-node (c .before .before .before) (valueOf (c .leaf-value .result)) (c .leaf-value .ensures)
@@ -83,8 +70,7 @@ returns c = by-node (c .before .before .before) (valueOf (c .leaf-value .result)
 operation-value-requires : tie.Need-operation-value-requires
 operation-value-requires c κs =
     let a = c .before .before in
-    let s = start a in
-    (s .pre .0, (s .pre .1 .0 .whole, (s .pre .1 .1 .0, (s .pre .1 .1 .1 .0, inside a))))
+    (of-nodes (start a .pre .0), inside a)
 
 returns-2 : tie.Need-returns-2
 returns-2 c = by-node (c .before .before .before) (valueOf (c .operation-value .result)) (c .operation-value .ensures)

@@ -48,7 +48,7 @@ loop-holds c =
     let y = c .before .before .before in
     let s = start c in (
       omega arith,
-      written-header (s .args .graph .now) (s .args .table .now) (y .copy .last .0) (s .pre .0) (omega (arith, s .pre .1 .0 .size))
+      written-header (s .args .graph .now) (s .args .table .now) (y .copy .last .0) (s .pre .0) (omega (arith, s .pre .1 .size))
           (y .copy .ensures),
     )
 
@@ -57,7 +57,7 @@ commit-slot-requires c κs =
     let l = c .before .before in
     let s = start (l .before) in
     let inside : l .loop .k < slotCount (s .args .table .now) = omega (arith, l .before .slot-count .ensures .0) in
-    (s .pre .1 .0, (s .pre .1 .1, (inside, l .loop .inv .1)))
+    (s .pre .1, (inside, l .loop .inv .1))
 
 add-k : tie.Need-add-k Inv-loop μ-loop
 add-k c = omega arith
@@ -76,7 +76,7 @@ returns c =
     let l = c .before in
     let s = start (l .before) in
     committed-all (recordAt (l .loop .k)) (l .loop .graph) (s .args .table .now) (l .loop .inv .1)
-    (omega (arith, s .pre .1 .0 .size, l .before .slot-count .ensures .0))
+    (omega (arith, s .pre .1 .size, l .before .slot-count .ensures .0))
 
 pub commit-spec : {M : Type 1} → statement M
 commit-spec =

@@ -1,13 +1,15 @@
--- A record that stays is the table's already. One that is read from the table and written has the bytes of its fields and a clear tail, as the
--- table's record has.
+-- A record that stays is the table's already. One that is read from the table and written has the bytes of its fields, and the table's tail.
 -- Assumes nothing.
-use mathlib.Core.Path.{ap, _∙_}
-use Prim.Native.Nat.{_+_, _≤_}
+use mathlib.Core.Path.{_≡_, ap, _∙_}
+use mathlib.Core.List.{_++_}
+use Prim.Native.Nat.{_+_, _-_, _≤_}
 use native.Mathlib.Omega.{arith}
-use lib.ListN.{length}
-use Rattle.definitions.specs.Graph.{slotBytes, recordAt}
-use Rattle.writing.proofs.Laws.{record-length}
-use Rattle.commit.proofs.Laws.{clear-record, kept-slot, written-slot}
+use lib.ListN.{length, take, drop, length-drop}
+use lib.Seq.{length-take-le}
+use Rattle.definitions.specs.Graph.{slotBytes, tailOffset, tailBytes, recordAt}
+use Rattle.graph_records.specs.Records.{recordBytes}
+use Rattle.graph_records.proofs.Laws.{record-length}
+use Rattle.commit.proofs.Laws.{whole-record, kept-slot, written-slot}
 use borrow.Author.Needs.{needs}
 use Rattle.commit.proofs.commit_slot.Statement.{statement}
 use Rattle.commit.proofs.commit_slot.Tie as tie
@@ -27,13 +29,16 @@ same-length c = search needs
 returns : tie.Need-returns
 returns c =
     let s = c .before .before .before .before .before in
-    kept-slot (s .args .graph .now) (s .args .table .now) (s .args .k) (s .pre .1 .1 .1) (c .before .same-record .ensures (c .if1 .taken))
+    kept-slot (s .args .graph .now) (s .args .table .now) (s .args .k) (s .pre .1 .1) (c .before .same-record .ensures (c .if1 .taken))
 
 read-record-requires : tie.Need-read-record-requires
 read-record-requires c κs = search needs
 
 add-end : tie.Need-add-end
 add-end c = search needs
+
+add-tail : tie.Need-add-tail
+add-tail c = search needs
 
 sub-write-record : tie.Need-sub-write-record
 sub-write-record c = search needs
@@ -44,6 +49,15 @@ part-write-record-start c = search needs
 part-write-record-end : tie.Need-part-write-record-end
 part-write-record-end c = search needs
 
+sub-write-record-2 : tie.Need-sub-write-record-2
+sub-write-record-2 c = search needs
+
+part-write-record-start-2 : tie.Need-part-write-record-start-2
+part-write-record-start-2 c = search needs
+
+part-write-record-end-2 : tie.Need-part-write-record-end-2
+part-write-record-end-2 c = search needs
+
 write-record-requires : tie.Need-write-record-requires
 write-record-requires c κs = search needs
 
@@ -53,16 +67,21 @@ same-length-2 c = search needs
 returns-2 : tie.Need-returns-2
 returns-2 c =
     let w = c .before .before in
-    let r = w .before .before in
+    let r = w .before .before .before in
     let s = r .before .before .before .before .before .before in
     let table = s .args .table .now in
     let k = s .args .k in
-    let whole = s .pre .0 in
-    let fits : recordAt k + slotBytes ≤ length table = omega (arith, whole .size, s .pre .1 .1 .0) in
+    let at = recordAt k in
+    let tail = take tailBytes (drop (at + tailOffset) table) in
+    let fits : at + slotBytes ≤ length table = omega (arith, s .pre .0 .size, s .pre .1 .0) in
+    let given : at + slotBytes - (at + tailOffset) ≡ tailBytes = omega arith in
     let size = r .read-record .ensures .0 in
-    written-slot (s .args .graph .now) table k (s .pre .1 .1 .1) (w .write-record .last .0) fits
-    (ap length (w .write-record .ensures) ∙ record-length (r .read-record .result) (size .0) (size .1))
-    (w .write-record .ensures ∙ r .read-record .ensures .1 ∙ clear-record table (recordAt k) fits (s .pre .1 .0 .clear k (s .pre .1 .1 .0)))
+    let bytes : w .write-record .last .0 ≡ recordBytes tail (r .read-record .result) = rw given at (w .write-record .ensures) in
+    written-slot (s .args .graph .now) table k (s .pre .1 .1) (w .write-record .last .0) fits
+    (ap length bytes
+    ∙ record-length tail (r .read-record .result) (length-take-le tailBytes (drop (at + tailOffset) table) (simp length-drop (omega arith)))
+    (size .0) (size .1))
+    (bytes ∙ ap (λ fields. fields ++ tail) (r .read-record .ensures .1) ∙ whole-record table at)
 
 pub commit-slot-spec : {M : Type 1} → statement M
 commit-slot-spec =
@@ -75,9 +94,13 @@ commit-slot-spec =
     returns
     read-record-requires
     add-end
+    add-tail
     sub-write-record
     part-write-record-start
     part-write-record-end
+    sub-write-record-2
+    part-write-record-start-2
+    part-write-record-end-2
     write-record-requires
     same-length-2
     returns-2)

@@ -1,24 +1,22 @@
 -- The loop's invariant: the bytes from `from` up to `at` hold the value, and `at` has not passed both ends.
 -- Assumes nothing.
 use mathlib.Core.Path.{_≡_, sym, _∙_}
-use mathlib.Core.Bool.{true}
-use Prim.Native.Nat.{_-_, _≤_, max}
+use Prim.Native.Nat.{ℕ, _-_, _<_, _≤_, max}
 use native.Mathlib.Omega.{arith}
-use Rattle.definitions.specs.Fields.{filled}
-use Rattle.fields.proofs.Laws.{filled-none, filled-more, filled-fails, ended}
+use borrow.Author.Count.{below-more}
+use Rattle.definitions.specs.Fields.{byteAt}
+use Rattle.fields.proofs.Laws.{filled-each, filled-fails}
 use Rattle.fields.proofs.is_filled.Statement.{statement}
 use Rattle.fields.proofs.is_filled.Tie as tie
 
 abbrev Inv-loop : tie.InvT-loop
-Inv-loop block from to value at₀ at = (from ≤ at) × (at ≤ max from to) × (filled block from at value ≡ true)
+Inv-loop block from to value at₀ at = (from ≤ at) × (at ≤ max from to) × ((k : ℕ) → k < at → from ≤ k → byteAt block k ≡ value)
 
 abbrev μ-loop : tie.MeasureT-loop
 μ-loop block from to value at₀ at = to - at
 
 loop-holds : tie.Need-loop-holds Inv-loop μ-loop
-loop-holds c =
-    let a = c .before .args in
-    (omega arith, omega arith, filled-none (a .block .now) (a .from) (a .value) (a .from) (omega arith))
+loop-holds c = (omega arith, omega arith, λ k l a. absurd (omega arith))
 
 byte-at-requires : tie.Need-byte-at-requires Inv-loop μ-loop
 byte-at-requires c κs = omega arith
@@ -26,7 +24,7 @@ byte-at-requires c κs = omega arith
 returns : tie.Need-returns Inv-loop μ-loop
 returns c =
     let a = c .before .before .before .before .before .args in
-    sym (filled-fails (a .block .now) (a .from) (a .value) (c .before .before .before .loop .at) (a .to) (omega arith) (omega arith)
+    sym (filled-fails (a .block .now) (a .value) (a .from) (a .to) (c .before .before .before .loop .at) (omega arith) (omega arith)
     (λ e. c .if1 .taken (c .before .byte-at .ensures .0 ∙ e)))
 
 add-at : tie.Need-add-at Inv-loop μ-loop
@@ -37,17 +35,19 @@ loop-less c = omega arith
 
 loop-again : tie.Need-loop-again Inv-loop μ-loop
 loop-again c =
-    let a = c .before .before .before .before .before .args in (
+    let l = c .before .before .before in
+    let a = l .before .before .args in (
       omega arith,
       omega arith,
-      filled-more (a .block .now) (a .from) (a .value) (c .before .before .before .loop .at) (omega arith)
-          (c .before .before .before .loop .inv .2) (sym (c .before .byte-at .ensures .0) ∙ c .if1 .left),
+      below-more (λ (k : ℕ). a .from ≤ k → byteAt (a .block .now) k ≡ a .value) (l .loop .at) (l .loop .inv .2)
+          (λ h. sym (c .before .byte-at .ensures .0) ∙ c .if1 .left),
     )
 
 returns-2 : tie.Need-returns-2 Inv-loop μ-loop
 returns-2 c =
-    let a = c .before .before .before .args in
-    sym (ended (a .block .now) (a .from) (a .to) (a .value) (c .before .loop .at) (omega arith) (omega arith) (omega arith) (c .before .loop .inv .2))
+    let l = c .before in
+    let a = l .before .before .args in
+    sym (filled-each (a .block .now) (a .value) (a .from) (a .to) (λ k low high. l .loop .inv .2 k (omega arith) low))
 
 pub is-filled-spec : {M : Type 1} → statement M
 is-filled-spec =

@@ -1,68 +1,70 @@
--- The tests are the definition's, in order: those passed so far, and the one that fails or is the last. A block shorter than its
--- header cannot have the right length.
+-- The tests are the definition's, in order; a block shorter than its header cannot have the right length.
 -- Assumes nothing.
-use borrow.Author.Needs.{needs}
-use borrow.Author.Tests.{le-leb, lt-leb, eq-eqb, ne-eqb, not-true, not-false}
-use mathlib.Core.Path.{_≡_}
-use mathlib.Core.Bool.{true, _&&_}
-use mathlib.Core.List.{List}
+use mathlib.Core.Path.{_≡_, refl}
+use mathlib.Core.Bool.{Bool}
+use mathlib.Core.List.{List, [], _∷_}
 use Prim.Native.Nat.{ℕ}
 use native.Mathlib.Omega.{arith}
+use borrow.Author.Needs.{needs}
+use borrow.Author.Tests.{eq-eqb, ne-eqb}
 use lib.Dec.{eqb}
-use lib.ListN.{length}
+use lib.ListN.{length, drop}
 use Rattle.definitions.specs.Lists.{within}
-use Rattle.definitions.specs.Fields.{u16At, markFits}
-use Rattle.definitions.specs.Graph.{graphLetter, graphVersion, slotLimit, slotCount, recordAt, headerFits}
+use Rattle.definitions.specs.Fields.{u16At, filled, markFits}
+use Rattle.definitions.specs.Graph.{headerBytes, slotLimit, graphLetter, graphVersion, slotCount, recordAt, outputPlacesFit, headerFits}
+use Rattle.laws.proofs.Tests.{allOf, conjunction, Remains, failed, held, refused, passed, answered, within-below, within-above, within-both}
 use Rattle.graph_faults.proofs.header_fits.Statement.{statement}
 use Rattle.graph_faults.proofs.header_fits.Tie as tie
 
--- ---- the tests passed
+-- ---- what is left after each test
 
-abbrev block : tie.Else2 → List ℕ
-block c = c .before .before .before .before .args .graph .now
+abbrev tests : List ℕ → List Bool
+tests block =
+    eqb (length block) (recordAt (slotCount block))
+    ∷ markFits block graphLetter
+    ∷ eqb (u16At block 4) graphVersion
+    ∷ within 1 (slotCount block) slotLimit
+    ∷ outputPlacesFit block
+    ∷ filled block 18 headerBytes 0
+    ∷ []
 
-sized : (c : tie.Else2) → eqb (length (block c)) (recordAt (slotCount (block c))) ≡ true
-sized c = rw (← c .before .slot-count .ensures .0) (eq-eqb _ _ (c .if2 .left))
+abbrev Left : tie.Start → ℕ → Type 0
+Left s k = Remains (headerFits (s .args .graph .now)) (drop k (tests (s .args .graph .now)))
 
-abbrev at₃ : tie.Else3 → tie.Else2
-at₃ c = c .before .before
+begun : (s : tie.Start) → Left s 0
+unfolding headerFits conjunction allOf
+begun s = record { same = refl }
 
-marked : (c : tie.Else3)
-    → let b = block (at₃ c) in (eqb (length b) (recordAt (slotCount b)) && markFits b graphLetter) ≡ true
-marked c = simp (sized (at₃ c), ← c .before .has-mark .ensures, not-false (c .before .has-mark .result) (c .if3 .left))
+abbrev start₂ : tie.Else2 → tie.Start
+start₂ c = c .before .before .before .before
 
-abbrev at₄ : tie.Else4 → tie.Else3
-at₄ c = c .before .before
+after-length : (c : tie.Else2) → Left (start₂ c) 1
+after-length c = held (begun (start₂ c)) (rw (← c .before .slot-count .ensures .0) (eq-eqb _ _ (c .if2 .left)))
 
-versioned : (c : tie.Else4)
-    → let b = block (at₃ (at₄ c)) in
-    (eqb (length b) (recordAt (slotCount b)) && markFits b graphLetter && eqb (u16At b 4) graphVersion) ≡ true
-versioned c = simp (marked (at₄ c), ← c .before .u16-at .ensures .0, eq-eqb _ 1 (c .if4 .left))
+abbrev start₃ : tie.Else3 → tie.Start
+start₃ c = start₂ (c .before .before)
 
-abbrev at₆ : tie.Else6 → tie.Else4
-at₆ c = c .before .before
+after-mark : (c : tie.Else3) → Left (start₃ c) 2
+after-mark c = passed (after-length (c .before .before)) (c .before .has-mark .ensures) (c .if3 .left)
 
-counted : (c : tie.Else6)
-    → let b = block (at₃ (at₄ (at₆ c))) in
-    (eqb (length b) (recordAt (slotCount b)) && markFits b graphLetter && eqb (u16At b 4) graphVersion
-    && within 1 (slotCount b) slotLimit)
-    ≡ true
-counted c =
-    simp (
-      versioned (at₆ c),
-      ← at₃ (at₄ (at₆ c)) .before .slot-count .ensures .0,
-      le-leb 1 _ (c .before .if5 .left),
-      le-leb _ 512 (c .if6 .left),
-    )
+abbrev counted : tie.Else4 → tie.Else2
+counted c = c .before .before .before .before
+
+after-version : (c : tie.Else4) → Left (start₂ (counted c)) 3
+after-version c = held (after-mark (c .before .before)) (rw (← c .before .u16-at .ensures .0) (eq-eqb _ _ (c .if4 .left)))
+
+after-slots : (c : tie.Else6) → Left (start₂ (counted (c .before .before))) 4
+after-slots c =
+    let e = c .before .before in
+    held (after-version e) (rw (← counted e .before .slot-count .ensures .0) (within-both 1 _ _ (c .before .if5 .left) (c .if6 .left)))
 
 -- ---- the needs
 
 returns : tie.Need-returns
-unfolding headerFits
 returns c =
-    let b = c .before .before .args .graph .now in
-    let short : length b ≡ recordAt (slotCount b) → ⊥ = λ e. omega arith in
-    simp (ne-eqb (length b) (recordAt (slotCount b)) short)
+    let block = c .before .before .args .graph .now in
+    let short : length block ≡ recordAt (slotCount block) → ⊥ = λ e. omega arith in
+    failed (begun (c .before .before)) (ne-eqb _ _ short)
 
 slot-count-requires : tie.Need-slot-count-requires
 slot-count-requires c κs = search needs
@@ -74,60 +76,44 @@ add-if2 : tie.Need-add-if2
 add-if2 c = search needs
 
 returns-2 : tie.Need-returns-2
-unfolding headerFits
-returns-2 c = simp (← c .before .slot-count .ensures .0, ne-eqb _ _ (c .if2 .taken))
+returns-2 c =
+    failed (begun (c .before .before .before .before)) (rw (← c .before .slot-count .ensures .0) (ne-eqb _ _ (c .if2 .taken)))
 
 has-mark-requires : tie.Need-has-mark-requires
 has-mark-requires c κs = search needs
 
 returns-3 : tie.Need-returns-3
-unfolding headerFits
-returns-3 c =
-    simp (sized (c .before .before), ← c .before .has-mark .ensures, not-true (c .before .has-mark .result) (c .if3 .taken))
+returns-3 c = refused (after-length (c .before .before)) (c .before .has-mark .ensures) (c .if3 .taken)
 
 u16-at-requires : tie.Need-u16-at-requires
 u16-at-requires c κs = search needs
 
 returns-4 : tie.Need-returns-4
-unfolding headerFits
-returns-4 c = simp (marked (c .before .before), ← c .before .u16-at .ensures .0, ne-eqb _ 1 (c .if4 .taken))
+returns-4 c = failed (after-mark (c .before .before)) (rw (← c .before .u16-at .ensures .0) (ne-eqb _ _ (c .if4 .taken)))
 
 returns-5 : tie.Need-returns-5
-unfolding headerFits
 returns-5 c =
     let e = c .before in
-    simp (versioned e, ← at₃ (at₄ e) .before .slot-count .ensures .0, lt-leb 1 _ (c .if5 .taken))
+    failed (after-version e) (rw (← counted e .before .slot-count .ensures .0) (within-below 1 _ _ (c .if5 .taken)))
 
 returns-6 : tie.Need-returns-6
-unfolding headerFits
 returns-6 c =
     let e = c .before .before in
-    simp (versioned e, ← at₃ (at₄ e) .before .slot-count .ensures .0, le-leb 1 _ (c .before .if5 .left), lt-leb _ 512 (c .if6 .taken))
+    failed (after-version e) (rw (← counted e .before .slot-count .ensures .0) (within-above 1 _ _ (c .before .if5 .left) (c .if6 .taken)))
 
 output-places-fit-requires : tie.Need-output-places-fit-requires
 output-places-fit-requires c κs = search needs
 
 returns-7 : tie.Need-returns-7
-unfolding headerFits
-returns-7 c =
-    simp (
-      counted (c .before .before),
-      ← c .before .output-places-fit .ensures,
-      not-true (c .before .output-places-fit .result) (c .if7 .taken),
-    )
+returns-7 c = refused (after-slots (c .before .before)) (c .before .output-places-fit .ensures) (c .if7 .taken)
 
 is-filled-requires : tie.Need-is-filled-requires
 is-filled-requires c κs = search needs
 
 returns-8 : tie.Need-returns-8
-unfolding headerFits
 returns-8 c =
     let e = c .before in
-    simp (
-      counted (e .before .before),
-      ← e .before .output-places-fit .ensures,
-      not-false (e .before .output-places-fit .result) (e .if7 .left),
-    ) (c .is-filled .ensures)
+    answered (passed (after-slots (e .before .before)) (e .before .output-places-fit .ensures) (e .if7 .left)) (c .is-filled .ensures)
 
 pub header-fits-spec : {M : Type 1} → statement M
 header-fits-spec =

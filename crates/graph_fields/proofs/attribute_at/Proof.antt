@@ -11,36 +11,32 @@ use borrow.Author.Needs.{needs}
 use Rattle.graph_fields.proofs.attribute_at.Statement.{statement}
 use Rattle.graph_fields.proofs.attribute_at.Tie as tie
 
-mul-i32-at : tie.Need-mul-i32-at
-mul-i32-at c = search needs
+record-at-requires : tie.Need-record-at-requires
+record-at-requires c κs = search needs
 
 add-i32-at : tie.Need-add-i32-at
 add-i32-at c = search needs
 
+mul-i32-at : tie.Need-mul-i32-at
+mul-i32-at c = let s = c .before .before in omega (arith, s .pre .0 .attributes (s .args .k) (s .pre .1 .0))
+
 add-i32-at-2 : tie.Need-add-i32-at-2
-add-i32-at-2 c = search needs
-
-mul-i32-at-2 : tie.Need-mul-i32-at-2
-mul-i32-at-2 c = omega (arith, c .before .pre .0 .attributes (c .before .args .k) (c .before .pre .1 .0))
-
-add-i32-at-3 : tie.Need-add-i32-at-3
-add-i32-at-3 c = omega (arith, c .before .pre .0 .attributes (c .before .args .k) (c .before .pre .1 .0))
+add-i32-at-2 c = let s = c .before .before in omega (arith, s .pre .0 .attributes (s .args .k) (s .pre .1 .0))
 
 i32-at-requires : tie.Need-i32-at-requires
-i32-at-requires c κs = omega (arith, c .before .pre .0 .attributes (c .before .args .k) (c .before .pre .1 .0), c .before .pre .0 .whole .size)
+i32-at-requires c κs = let s = c .before .before in omega (arith, s .pre .0 .attributes (s .args .k) (s .pre .1 .0), c .record-at .ensures .1)
 
 returns : tie.Need-returns
 returns c =
-    let a = c .before .before .args in
+    let s = c .before .before .before in
+    let a = s .args in
     let block = a .graph .now in
-    let slot = slot-of block (a .k) (c .before .before .pre .1 .0) in
+    let slot = slot-of block (a .k) (s .pre .1 .0) in
     let counted : length (slotOf (graphOf block) (a .k) .attributes) ≡ byteAt block (recordAt (a .k) + 3) =
-    ap (λ (s : Slot). length (s .attributes)) slot ∙ length-attributes block (recordAt (a .k)) in
-    let word = ap (λ (s : Slot). getD (s .attributes) (a .i) 0) slot
-    ∙ attribute-of block (recordAt (a .k)) (a .i) 0 (omega (arith, counted, c .before .before .pre .1 .1)) in
-    c .i32-at .ensures ∙ sym (ap signed word)
+    ap (λ (x : Slot). length (x .attributes)) slot ∙ length-attributes block (recordAt (a .k)) in
+    let word = ap (λ (x : Slot). getD (x .attributes) (a .i) 0) slot
+    ∙ attribute-of block (recordAt (a .k)) (a .i) 0 (omega (arith, counted, s .pre .1 .1)) in
+    (rw (c .before .record-at .ensures .0) at (c .i32-at .ensures)) ∙ sym (ap signed word)
 
 pub attribute-at-spec : {M : Type 1} → statement M
-attribute-at-spec =
-    tie.close
-    (tie.spec mul-i32-at add-i32-at add-i32-at-2 mul-i32-at-2 add-i32-at-3 i32-at-requires returns)
+attribute-at-spec = tie.close (tie.spec record-at-requires add-i32-at mul-i32-at add-i32-at-2 i32-at-requires returns)

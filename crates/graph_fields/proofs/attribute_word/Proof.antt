@@ -11,36 +11,32 @@ use borrow.Author.Needs.{needs}
 use Rattle.graph_fields.proofs.attribute_word.Statement.{statement}
 use Rattle.graph_fields.proofs.attribute_word.Tie as tie
 
-mul-u32-at : tie.Need-mul-u32-at
-mul-u32-at c = search needs
+record-at-requires : tie.Need-record-at-requires
+record-at-requires c κs = search needs
 
 add-u32-at : tie.Need-add-u32-at
 add-u32-at c = search needs
 
+mul-u32-at : tie.Need-mul-u32-at
+mul-u32-at c = let s = c .before .before in omega (arith, s .pre .0 .attributes (s .args .k) (s .pre .1 .0))
+
 add-u32-at-2 : tie.Need-add-u32-at-2
-add-u32-at-2 c = search needs
-
-mul-u32-at-2 : tie.Need-mul-u32-at-2
-mul-u32-at-2 c = omega (arith, c .before .pre .0 .attributes (c .before .args .k) (c .before .pre .1 .0))
-
-add-u32-at-3 : tie.Need-add-u32-at-3
-add-u32-at-3 c = omega (arith, c .before .pre .0 .attributes (c .before .args .k) (c .before .pre .1 .0))
+add-u32-at-2 c = let s = c .before .before in omega (arith, s .pre .0 .attributes (s .args .k) (s .pre .1 .0))
 
 u32-at-requires : tie.Need-u32-at-requires
-u32-at-requires c κs = omega (arith, c .before .pre .0 .attributes (c .before .args .k) (c .before .pre .1 .0), c .before .pre .0 .whole .size)
+u32-at-requires c κs = let s = c .before .before in omega (arith, s .pre .0 .attributes (s .args .k) (s .pre .1 .0), c .record-at .ensures .1)
 
 returns : tie.Need-returns
 returns c =
-    let a = c .before .before .args in
+    let s = c .before .before .before in
+    let a = s .args in
     let block = a .graph .now in
-    let slot = slot-of block (a .k) (c .before .before .pre .1 .0) in
+    let slot = slot-of block (a .k) (s .pre .1 .0) in
     let counted : length (slotOf (graphOf block) (a .k) .attributes) ≡ byteAt block (recordAt (a .k) + 3) =
-    ap (λ (s : Slot). length (s .attributes)) slot ∙ length-attributes block (recordAt (a .k)) in
-    let word = ap (λ (s : Slot). getD (s .attributes) (a .i) 0) slot
-    ∙ attribute-of block (recordAt (a .k)) (a .i) 0 (omega (arith, counted, c .before .before .pre .1 .1)) in
-    (c .u32-at .ensures .0 ∙ sym word, c .u32-at .ensures .1)
+    ap (λ (x : Slot). length (x .attributes)) slot ∙ length-attributes block (recordAt (a .k)) in
+    let word = ap (λ (x : Slot). getD (x .attributes) (a .i) 0) slot
+    ∙ attribute-of block (recordAt (a .k)) (a .i) 0 (omega (arith, counted, s .pre .1 .1)) in
+    ((rw (c .before .record-at .ensures .0) at (c .u32-at .ensures .0)) ∙ sym word, c .u32-at .ensures .1)
 
 pub attribute-word-spec : {M : Type 1} → statement M
-attribute-word-spec =
-    tie.close
-    (tie.spec mul-u32-at add-u32-at add-u32-at-2 mul-u32-at-2 add-u32-at-3 u32-at-requires returns)
+attribute-word-spec = tie.close (tie.spec record-at-requires add-u32-at mul-u32-at add-u32-at-2 u32-at-requires returns)

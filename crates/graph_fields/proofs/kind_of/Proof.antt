@@ -1,18 +1,14 @@
 -- The kind of a slot is the first byte of its record.
 -- Assumes nothing.
 use mathlib.Core.Path.{_∙_, sym, ap}
-use native.Mathlib.Omega.{arith}
 use Rattle.definitions.specs.Graph.{Slot, slotFrom}
 use Rattle.laws.proofs.Graph.{slot-of}
 use borrow.Author.Needs.{needs}
 use Rattle.graph_fields.proofs.kind_of.Statement.{statement}
 use Rattle.graph_fields.proofs.kind_of.Tie as tie
 
-mul-byte-at : tie.Need-mul-byte-at
-mul-byte-at c = search needs
-
-add-byte-at : tie.Need-add-byte-at
-add-byte-at c = search needs
+record-at-requires : tie.Need-record-at-requires
+record-at-requires c κs = search needs
 
 byte-at-requires : tie.Need-byte-at-requires
 byte-at-requires c κs = search needs
@@ -20,8 +16,10 @@ byte-at-requires c κs = search needs
 returns : tie.Need-returns
 unfolding slotFrom
 returns c =
-    let a = c .before .before .args in
-    (c .byte-at .ensures .0 ∙ sym (ap (λ (s : Slot). s .kind) (slot-of (a .graph .now) (a .k) (c .before .before .pre .1))), omega arith)
+    let s = c .before .before .before in
+    let a = s .args in
+    let byte = rw (c .before .record-at .ensures .0) at (c .byte-at .ensures .0) in
+    (byte ∙ sym (ap (λ (slot : Slot). slot .kind) (slot-of (a .graph .now) (a .k) (s .pre .1))), c .byte-at .ensures .1)
 
 pub kind-of-spec : {M : Type 1} → statement M
-kind-of-spec = tie.close (tie.spec mul-byte-at add-byte-at byte-at-requires returns)
+kind-of-spec = tie.close (tie.spec record-at-requires byte-at-requires returns)

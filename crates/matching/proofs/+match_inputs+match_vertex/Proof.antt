@@ -13,8 +13,8 @@ use Rattle.definitions.specs.Rule.{sideCapacity, ruleOf, sourceInputs}
 use Rattle.laws.proofs.Rule.{length-source}
 use Rattle.rule_order.specs.InOrder.{visitedAfter}
 use Rattle.rule_order.proofs.InOrder.{in-order-inputs, in-order-here}
-use Rattle.matching.specs.Candidate.{isCandidate}
-use Rattle.matching.proofs.Candidates.{Formed, formed, candidate-inputs}
+use Rattle.match_look.specs.Candidate.{isCandidate}
+use Rattle.match_look.proofs.Candidates.{Formed, formed, candidate-inputs}
 use Rattle.laws.proofs.Match.{image-at}
 use Rattle.matching.proofs.Steps.{mapped, no-candidate, inputs-fail, inputs-pass, inputs-done, input-in-order, others-in-order, input-fails, input-passes}
 use Rattle.matching.proofs.match_inputs.Reads as match-inputs
@@ -24,7 +24,7 @@ use Rattle.matching.proofs.match_vertex.Reads as match-vertex
 use Rattle.matching.proofs.match_vertex.Kinds as match-vertex-kinds
 use Rattle.matching.proofs.+match_inputs+match_vertex.Lts-match_vertex as match-vertex-lts
 use Rattle.graph_fields.proofs.input_at.Reads as input-at-reads
-use Rattle.matching.proofs.is_candidate.Reads as is-candidate-reads
+use Rattle.match_look.proofs.is_candidate.Reads as is-candidate-reads
 use Rattle.matching.proofs.is_image.Reads as is-image-reads
 use Rattle.matching.proofs.settle.Reads as settle-reads
 use Rattle.fields.proofs.greater.Reads as greater-reads
@@ -98,7 +98,7 @@ match-vertex-calls t = (
 -- where there is an input left
 left : (t : ℕ) (c : match-inputs-lts.Else1 (match-inputs-calls t) (match-inputs-at t) match-inputs.Post)
     → let a = c .before .before .before .before .args in a .i < length (sourceInputs (ruleOf (a .rule .now)) (a .j))
-left t c = omega (arith, c .before .source-input-count .ensures .0, c .if1 .left, c .before .before .before .before .pre .1 .1 .1 .1 .0)
+left t c = omega (arith, c .before .source-input-count .ensures .0, c .if1 .left, c .before .before .before .before .pre .1 .place)
 
 -- it is lower than its vertex
 lower : (t : ℕ) (c : match-inputs-lts.After-source-input (match-inputs-calls t) (match-inputs-at t) match-inputs.Post)
@@ -106,12 +106,12 @@ lower : (t : ℕ) (c : match-inputs-lts.After-source-input (match-inputs-calls t
 lower t c =
     let s = c .before .before .before .before .before in
     rw (c .source-input .ensures .0)
-    (s .pre .1 .0 .matchable .layered .lower (s .args .j) (s .args .i) (s .pre .1 .1 .0) (left t (c .before)))
+    (s .pre .1 .setting .matchable .layered .lower (s .args .j) (s .args .i) (s .pre .1 .vertex) (left t (c .before)))
 
 -- and the slot has an input in the same place
 also : (t : ℕ) (c : match-inputs-lts.Else1 (match-inputs-calls t) (match-inputs-at t) match-inputs.Post)
     → let a = c .before .before .before .before .args in a .i < length (inputsOf (graphOf (a .graph .now)) (a .v))
-also t c = omega (arith, left t c, c .before .before .before .before .pre .1 .1 .1 .1 .1 .0)
+also t c = omega (arith, left t c, c .before .before .before .before .pre .1 .counts)
 
 few : (t : ℕ) (c : match-inputs-lts.Else1 (match-inputs-calls t) (match-inputs-at t) match-inputs.Post)
     → c .before .before .before .before .args .i < 6
@@ -122,32 +122,32 @@ named : (t : ℕ) (c : match-inputs-lts.After-input-at (match-inputs-calls t) (m
 named t c =
     let e = c .before .before in
     let s = e .before .before .before .before in
-    rw (c .input-at .ensures .0) (s .pre .1 .0 .closed .named (s .args .v) (s .args .i) (s .pre .1 .1 .1 .0) (also t e))
+    rw (c .input-at .ensures .0) (s .pre .1 .setting .closed .named (s .args .v) (s .args .i) (s .pre .1 .slot) (also t e))
 
 match-inputs-source-input-count-requires : (t : ℕ)
     → match-inputs-lts.Need-source-input-count-requires (match-inputs-calls t) (match-inputs-at t) match-inputs.Post
 match-inputs-source-input-count-requires t c κs =
     let s = c .before .before in
-    (s .pre .1 .0 .matchable .readable, s .pre .1 .1 .0)
+    (s .pre .1 .setting .matchable .readable, s .pre .1 .vertex)
 
 match-inputs-returns : (t : ℕ) → match-inputs-lts.Need-returns (match-inputs-calls t) (match-inputs-at t) match-inputs.Post
 match-inputs-returns t c =
     let d = c .before in
     let s = d .before .before .before in
     inputs-done (graphOf (s .args .graph .now)) (ruleOf (s .args .rule .now)) (s .args .j) (s .args .v) (s .args .i)
-    (omega (arith, d .source-input-count .ensures .0, c .if1 .taken)) (s .pre .1 .1 .1 .1 .1 .1 .0)
+    (omega (arith, d .source-input-count .ensures .0, c .if1 .taken)) (s .pre .1 .partial)
 
 match-inputs-source-input-requires : (t : ℕ)
     → match-inputs-lts.Need-source-input-requires (match-inputs-calls t) (match-inputs-at t) match-inputs.Post
 match-inputs-source-input-requires t c κs =
     let s = c .before .before .before .before in
-    (s .pre .1 .0 .matchable .readable, (s .pre .1 .1 .0, left t c))
+    (s .pre .1 .setting .matchable .readable, (s .pre .1 .vertex, left t c))
 
 match-inputs-input-at-requires : (t : ℕ)
     → match-inputs-lts.Need-input-at-requires (match-inputs-calls t) (match-inputs-at t) match-inputs.Post
 match-inputs-input-at-requires t c κs =
     let s = c .before .before .before .before .before in
-    (s .pre .1 .0 .readable, (s .pre .1 .1 .1 .0, also t (c .before)))
+    (s .pre .1 .setting .readable, (s .pre .1 .slot, also t (c .before)))
 
 match-inputs-match-vertex-requires : (t : ℕ)
     → match-inputs-lts.Need-match-vertex-requires (match-inputs-calls t) (match-inputs-at t) match-inputs.Post
@@ -158,9 +158,11 @@ match-inputs-match-vertex-requires t c κs =
     let down = lower t e in
     let order = input-in-order (graphOf (s .args .graph .now)) (ruleOf (s .args .rule .now)) (s .args .j) (s .args .v) (s .args .i)
     (e .source-input .result) (n .input-at .result) (left t (e .before)) (e .source-input .ensures .0) (n .input-at .ensures .0)
-    (s .args .next) (s .pre .1 .1 .1 .1 .1 .1 .1) in
-    let falls = few t (e .before) in
-    (omega arith, (s .pre .1 .0, (omega arith, (named t n, (s .pre .1 .1 .1 .1 .1 .1 .0, order)))))
+    (s .args .next) (s .pre .1 .order) in
+    let falls = few t (e .before) in (
+      omega arith,
+      record { setting = s .pre .1 .setting; vertex = omega arith; slot = named t n; partial = s .pre .1 .partial; order = order },
+    )
 
 match-inputs-returns-2 : (t : ℕ) → match-inputs-lts.Need-returns-2 (match-inputs-calls t) (match-inputs-at t) match-inputs.Post
 match-inputs-returns-2 t c =
@@ -177,7 +179,7 @@ match-inputs-add-greater : (t : ℕ)
 match-inputs-add-greater t c =
     let e = c .before .before .before .before in
     let s = e .before .before .before .before .before in
-    omega (arith, lower t e, s .pre .1 .1 .0, s .pre .1 .0 .matchable .readable .whole .source)
+    omega (arith, lower t e, s .pre .1 .vertex, s .pre .1 .setting .matchable .readable .whole .source)
 
 match-inputs-greater-requires : (t : ℕ)
     → match-inputs-lts.Need-greater-requires (match-inputs-calls t) (match-inputs-at t) match-inputs.Post
@@ -203,11 +205,21 @@ match-inputs-match-inputs-requires t c κs =
     let s = e .before .before .before .before .before in
     let order = others-in-order (graphOf (s .args .graph .now)) (ruleOf (s .args .rule .now)) (s .args .j) (s .args .v) (s .args .i)
     (e .source-input .result) (n .input-at .result) (left t (e .before)) (e .source-input .ensures .0) (n .input-at .ensures .0)
-    (s .args .next) (x .greater .result) (s .pre .1 .1 .1 .1 .1 .1 .1) (reached t x) in
+    (s .args .next) (x .greater .result) (s .pre .1 .order) (reached t x) in
     let made = d .match-vertex .ensures .partial (not-false _ (x .before .if2 .left)) in
     let falls = few t (e .before) in
-    let more = left t (e .before) in
-    (omega arith, (s .pre .1 .0, (s .pre .1 .1 .0, (s .pre .1 .1 .1 .0, (omega arith, (s .pre .1 .1 .1 .1 .1 .0, (rw (reached t x) made, order)))))))
+    let more = left t (e .before) in (
+      omega arith,
+      record {
+        setting = s .pre .1 .setting;
+        vertex = s .pre .1 .vertex;
+        slot = s .pre .1 .slot;
+        place = omega arith;
+        counts = s .pre .1 .counts;
+        partial = rw (reached t x) made;
+        order = order;
+      },
+    )
 
 match-inputs-returns-3 : (t : ℕ) → match-inputs-lts.Need-returns-3 (match-inputs-calls t) (match-inputs-at t) match-inputs.Post
 match-inputs-returns-3 t c =
@@ -226,13 +238,13 @@ abbrev VertexStart : ℕ → Type 0
 VertexStart t = match-vertex-lts.Start (match-vertex-calls t) (match-vertex-at t) match-vertex.Post
 
 well : (t : ℕ) (s : VertexStart t) → Formed (ruleOf (s .args .rule .now))
-well t s = formed (s .args .rule .now) (s .pre .1 .0 .matchable)
+well t s = formed (s .args .rule .now) (s .pre .1 .setting .matchable)
 
 inside : (t : ℕ) (s : VertexStart t) → s .args .j < length (ruleOf (s .args .rule .now) .source)
-inside t s = rw (length-source (s .args .rule .now)) (s .pre .1 .1 .0)
+inside t s = rw (length-source (s .args .rule .now)) (s .pre .1 .vertex)
 
 place : (t : ℕ) (s : VertexStart t) → s .args .j < sideCapacity
-place t s = omega (arith, s .pre .1 .1 .0, s .pre .1 .0 .matchable .readable .whole .source)
+place t s = omega (arith, s .pre .1 .vertex, s .pre .1 .setting .matchable .readable .whole .source)
 
 candidate : (t : ℕ) (c : match-vertex-lts.Else2 (match-vertex-calls t) (match-vertex-at t) match-vertex.Post)
     → let a = c .before .before .before .before .before .args in
@@ -244,20 +256,20 @@ next-is : (t : ℕ) (e : match-vertex-lts.Else1 (match-vertex-calls t) (match-ve
     → let a = e .before .before .before .args in visitedAfter (a .next) (sourceInputs (ruleOf (a .rule .now)) (a .j)) ≡ a .j
 next-is t e =
     let s = e .before .before .before in
-    in-order-here (ruleOf (s .args .rule .now)) (s .args .next) (s .args .j) (well t s .lower (s .args .j)) (s .pre .1 .1 .1 .1 .1)
+    in-order-here (ruleOf (s .args .rule .now)) (s .args .next) (s .args .j) (well t s .lower (s .args .j)) (s .pre .1 .order)
     (e .if1 .left)
 
 match-vertex-is-image-requires : (t : ℕ)
     → match-vertex-lts.Need-is-image-requires (match-vertex-calls t) (match-vertex-at t) match-vertex.Post
 match-vertex-is-image-requires t c κs =
     let s = c .before .before .before .before in
-    (place t s, s .pre .1 .1 .1 .1 .0 .size)
+    (place t s, s .pre .1 .partial .size)
 
 match-vertex-returns : (t : ℕ) → match-vertex-lts.Need-returns (match-vertex-calls t) (match-vertex-at t) match-vertex.Post
 match-vertex-returns t c =
     let d = c .before .before in
     let s = d .before .before .before in
-    let p = s .pre .1 .1 .1 .1 .0 in
+    let p = s .pre .1 .partial in
     let images = s .args .images .now in
     let j = s .args .j in
     rw (c .is-image .ensures)
@@ -268,14 +280,14 @@ match-vertex-is-candidate-requires : (t : ℕ)
     → match-vertex-lts.Need-is-candidate-requires (match-vertex-calls t) (match-vertex-at t) match-vertex.Post
 match-vertex-is-candidate-requires t c κs =
     let s = c .before .before .before in
-    (s .pre .1 .0, (s .pre .1 .1 .0, s .pre .1 .1 .1 .0))
+    record { setting = s .pre .1 .setting; vertex = s .pre .1 .vertex; slot = s .pre .1 .slot }
 
 match-vertex-returns-2 : (t : ℕ) → match-vertex-lts.Need-returns-2 (match-vertex-calls t) (match-vertex-at t) match-vertex.Post
 match-vertex-returns-2 t c =
     let d = c .before in
     let s = d .before .before .before .before in
     no-candidate (graphOf (s .args .graph .now)) (ruleOf (s .args .rule .now)) (well t s) (s .args .j) (s .args .v) (inside t s)
-    (s .pre .1 .1 .1 .1 .0 .size) (sym (d .is-candidate .ensures) ∙ not-true _ (c .if2 .taken))
+    (s .pre .1 .partial .size) (sym (d .is-candidate .ensures) ∙ not-true _ (c .if2 .taken))
 
 match-vertex-match-inputs-requires : (t : ℕ)
     → match-vertex-lts.Need-match-inputs-requires (match-vertex-calls t) (match-vertex-at t) match-vertex.Post
@@ -285,8 +297,18 @@ match-vertex-match-inputs-requires t c κs =
     let counts = candidate-inputs (graphOf (s .args .graph .now)) (ruleOf (s .args .rule .now)) (well t s) (s .args .j) (s .args .v)
     (inside t s) (candidate t (c .before)) in
     let order = in-order-inputs (ruleOf (s .args .rule .now)) (s .args .next) (s .args .j) (well t s .lower (s .args .j))
-    (s .pre .1 .1 .1 .1 .1) (e .if1 .left) in
-    (omega arith, (s .pre .1 .0, (s .pre .1 .1 .0, (s .pre .1 .1 .1 .0, (omega arith, (counts, (s .pre .1 .1 .1 .1 .0, order)))))))
+    (s .pre .1 .order) (e .if1 .left) in (
+      omega arith,
+      record {
+        setting = s .pre .1 .setting;
+        vertex = s .pre .1 .vertex;
+        slot = s .pre .1 .slot;
+        place = omega arith;
+        counts = counts;
+        partial = s .pre .1 .partial;
+        order = order;
+      },
+    )
 
 match-vertex-returns-3 : (t : ℕ) → match-vertex-lts.Need-returns-3 (match-vertex-calls t) (match-vertex-at t) match-vertex.Post
 match-vertex-returns-3 t c =
@@ -306,8 +328,16 @@ match-vertex-settle-requires t c κs =
     let inputs = d .match-inputs .ensures in
     let passed = not-false _ (b .if3 .left) in
     let below = rw (next-is t e) at (inputs .partial passed) in
-    let set = s .pre .1 .0 in
-    (set .readable, (set .matchable, (s .pre .1 .1 .0, (s .pre .1 .1 .1 .0, (candidate t look, (below, inputs .meets passed))))))
+    let set = s .pre .1 .setting in
+    record {
+      readable = set .readable;
+      matchable = set .matchable;
+      vertex = s .pre .1 .vertex;
+      slot = s .pre .1 .slot;
+      candidate = candidate t look;
+      partial = below;
+      inputs = inputs .meets passed;
+    }
 
 match-vertex-returns-4 : (t : ℕ) → match-vertex-lts.Need-returns-4 (match-vertex-calls t) (match-vertex-at t) match-vertex.Post
 match-vertex-returns-4 t c =

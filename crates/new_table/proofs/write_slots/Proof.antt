@@ -9,14 +9,16 @@ use native.Mathlib.Omega.{arith}
 use lib.ListN.{length, getD, take}
 use lib.Seq.{take-all}
 use Rattle.definitions.specs.Lists.{filter, range, tabulate, concatMap}
-use Rattle.definitions.specs.Graph.{headerBytes, slotBytes, slotCount, graphOf, slotBlock}
+use Rattle.definitions.specs.Graph.{headerBytes, slotBytes, slotCount, graphOf, recordBlock, recordsBlock}
 use Rattle.definitions.specs.Rule.{ruleOf}
-use Rattle.definitions.specs.Rewriting.{stays, newSlot, newGraph}
+use Rattle.definitions.specs.Rewriting.{stays}
 use Rattle.laws.proofs.Lists.{bit}
 use Rattle.laws.proofs.Filtered.{filtered-count}
 use Rattle.laws.proofs.Pieces.{pieces-more}
 use Rattle.laws.proofs.Graph.{length-slots}
-use Rattle.new_table.specs.Slots.{valuesOf, fitResults, newTable}
+use Rattle.new_records.specs.Slots.{valuesOf, fitResults}
+use Rattle.new_table.specs.Table.{newTable}
+use Rattle.laws.proofs.Rewriting.{new-length}
 use borrow.Author.Needs.{needs}
 use Rattle.new_table.proofs.write_slots.Statement.{statement}
 use Rattle.new_table.proofs.write_slots.Tie as tie
@@ -27,8 +29,7 @@ freeBelow graph rule images k = length (filter (λ i. not (stays (graphOf graph)
 
 -- the first k slots of the new table, as bytes
 abbrev slotsBelow : List ℕ → List ℕ → List ℕ → ℕ → List ℕ
-slotsBelow graph rule images k =
-    concatMap slotBlock (tabulate k (newSlot (graphOf graph) (ruleOf rule) images (valuesOf (fitResults graph rule images))))
+slotsBelow graph rule images k = recordsBlock (newTable graph rule images) k
 
 abbrev Inv-loop : tie.InvT-loop
 Inv-loop graph rule images places way free table₀ slots next₀ k₀ table next k =
@@ -94,15 +95,15 @@ loop-again c =
     let isFree = getD (s .args .free .now) k false in
     let more : freeBelow graph rule images (k + 1) ≡ freeBelow graph rule images k + cond isFree 1 0 =
     rw (s .pre .1 .1 .0 .each k inside, add-one) (filtered-count (λ i. not (stays (graphOf graph) (ruleOf rule) images i)) k) in
-    let slot = newSlot (graphOf graph) (ruleOf rule) images (valuesOf (fitResults graph rule images)) in (
+    let made = recordBlock (newTable graph rule images) in (
       omega arith,
       c .before .before .table .given ∙ l .loop .inv .1,
       omega (arith, c .counted .ensures, l .loop .inv .2, more),
       omega (arith, c .counted .ensures, bit isFree, l .loop .inv .3),
       w .write-slot .ensures
-          ∙ ap (λ bytes. bytes ++ slotBlock (slot k)) (l .loop .inv .4)
-          ∙ append-assoc (take headerBytes (s .args .table .now)) (slotsBelow graph rule images k) (slotBlock (slot k))
-          ∙ ap (λ bytes. take headerBytes (s .args .table .now) ++ bytes) (sym (pieces-more slotBlock k slot)),
+          ∙ ap (λ bytes. bytes ++ made k) (l .loop .inv .4)
+          ∙ append-assoc (take headerBytes (s .args .table .now)) (slotsBelow graph rule images k) (made k)
+          ∙ ap (λ bytes. take headerBytes (s .args .table .now) ++ bytes) (sym (pieces-more made k (λ i. i))),
     )
 
 same-length : tie.Need-same-length Inv-loop μ-loop
@@ -112,16 +113,20 @@ same-length c =
     l .loop .inv .1 ∙ ap (λ n. headerBytes + slotBytes * n) (l .before .slot-count .ensures .0) ∙ sym (s .pre .1 .1 .1 ∙ s .pre .0 .oldTable .whole .size)
 
 returns : tie.Need-returns Inv-loop μ-loop
-unfolding newTable newGraph
+unfolding newTable
 returns c =
     let l = c .before in
     let s = l .before .before .before .before .before in
     let graph = s .args .graph .now in
     let last : l .loop .k ≡ l .before .slot-count .result = omega (arith, l .loop .inv .0) in
-    let all : l .loop .k ≡ length (graphOf graph .slots) = last ∙ l .before .slot-count .ensures .0 ∙ sym (length-slots graph) in
+    let rule = s .args .rule .now in
+    let images = s .args .images .now in
+    let all : l .loop .k ≡ length (newTable graph rule images .slots) =
+    last ∙ l .before .slot-count .ensures .0 ∙ sym (length-slots graph)
+    ∙ sym (new-length (graphOf graph) (ruleOf rule) images (valuesOf (fitResults graph rule images))) in
     sym (take-all (headerBytes + slotBytes * l .loop .k) (l .loop .table) (omega (arith, l .loop .inv .1)))
     ∙ l .loop .inv .4
-    ∙ ap (λ n. take headerBytes (s .args .table .now) ++ slotsBelow graph (s .args .rule .now) (s .args .images .now) n) all
+    ∙ ap (λ n. take headerBytes (s .args .table .now) ++ slotsBelow graph rule images n) all
 
 pub write-slots-spec : {M : Type 1} → statement M
 write-slots-spec =

@@ -5,19 +5,20 @@ use mathlib.Core.List.{List, [], _++_, map}
 use Prim.Native.Nat.{ℕ}
 use native.Mathlib.Omega.{arith}
 use lib.ListN.{length, length-map}
-use Rattle.definitions.specs.Lists.{padded, concatMap}
-use Rattle.definitions.specs.Graph.{headerBytes, outputLimit, unusedPlace, slotCount, outputCount, graphOf, slotBlock, headerBlock, graphBlock}
+use Rattle.definitions.specs.Lists.{padded}
+use Rattle.definitions.specs.Graph.{headerBytes, outputLimit, unusedPlace, slotCount, outputCount, graphOf, recordsBlock, headerBlock, graphBlock}
 use Rattle.definitions.specs.Rule.{ruleOf}
 use Rattle.definitions.specs.Rewriting.{redirect, newSlot, newGraph}
 use Rattle.laws.proofs.Lists.{length-tabulate, map-same}
 use Rattle.laws.proofs.Parts.{part-more}
 use Rattle.laws.proofs.Graph.{length-slots, length-outputs}
-use Rattle.writing.specs.Records.{headerWith}
-use Rattle.writing.proofs.Laws.{header-bytes}
+use Rattle.graph_records.specs.Records.{headerWith}
+use Rattle.graph_records.proofs.Laws.{header-bytes}
 use Rattle.redirection.specs.declared.Redirection.{Redirection}
 use Rattle.redirection.specs.Moves.{moved}
 use Rattle.redirection.proofs.Laws.{redirect-same}
-use Rattle.new_table.specs.Slots.{valuesOf, fitResults, newTable, Redirects}
+use Rattle.new_records.specs.Slots.{valuesOf, fitResults, Redirects}
+use Rattle.new_table.specs.Table.{newTable}
 use borrow.Author.Needs.{needs}
 use Rattle.new_table.proofs.write_table.Statement.{statement}
 use Rattle.new_table.proofs.write_table.Tie as tie
@@ -50,13 +51,12 @@ module _ (c : tie.After-redirection-of) where
   ways v =
       c .redirection-of .ensures v
       ∙ redirect-same (graphOf (start .args .graph .now)) (start .args .rule .now) (start .args .images .now) (start .args .places .now)
-      (start .pre .0 .resolvable) (start .pre .0 .placed) v
+      (start .pre .0 .moves .resolvable) (start .pre .0 .placed) v
 
 redirection-of-requires : tie.Need-redirection-of-requires
 redirection-of-requires c κs =
     let s = c .before .before .before in
-    let ready = s .pre .0 in
-    (ready .patterns .whole, (ready .layered, (ready .resolvable, (s .pre .1 .0, (ready .imageSize, ready .placeSize)))))
+    (s .pre .0 .moves, s .pre .1 .0)
 
 slot-count-requires : tie.Need-slot-count-requires
 slot-count-requires c κs = search needs
@@ -115,7 +115,7 @@ returns c =
     let front = part-more 0 headerBytes table header (omega arith)
     (w .before .before .before .table .given .0 ∙ h .before .before .write-header-arg .given .2) [] (omega arith) refl in
     w .write-slots .ensures
-    ∙ ap (λ l. l ++ concatMap slotBlock (newTable graph rule images .slots)) (front ∙ written)
+    ∙ ap (λ l. l ++ recordsBlock (newTable graph rule images) (length (newTable graph rule images .slots))) (front ∙ written)
 
 pub write-table-spec : {M : Type 1} → statement M
 write-table-spec =

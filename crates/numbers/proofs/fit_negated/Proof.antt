@@ -1,25 +1,19 @@
--- Zero has no sign; another number is that of its magnitude.
+-- The number -n, if it is in range.
 -- Assumes nothing.
-use Rattle.numbers.proofs.Laws.{negated}
+use mathlib.Core.Path.{ap, _∙_}
 use borrow.Author.Needs.{needs}
+use Rattle.definitions.specs.Attributes.{fit}
 use Rattle.numbers.proofs.fit_negated.Statement.{statement}
 use Rattle.numbers.proofs.fit_negated.Tie as tie
 
-fit-plus-requires : tie.Need-fit-plus-requires
-fit-plus-requires c κs = search needs
+negated-requires : tie.Need-negated-requires
+negated-requires c κs = search needs
+
+fit-number-requires : tie.Need-fit-number-requires
+fit-number-requires c κs = search needs
 
 returns : tie.Need-returns
-returns c = rw (c .before .if1 .taken) (c .fit-plus .ensures)
-
-sub-fit-minus : tie.Need-sub-fit-minus
-sub-fit-minus c = search needs
-
-fit-minus-requires : tie.Need-fit-minus-requires
-fit-minus-requires c κs = search needs
-
-returns-2 : tie.Need-returns-2
-returns-2 c = rw (negated (c .before .before .args .n) (c .before .if1 .left)) (c .fit-minus .ensures)
+returns c = c .fit-number .ensures ∙ ap fit (c .before .negated .ensures)
 
 pub fit-negated-spec : {M : Type 1} → statement M
-fit-negated-spec =
-    tie.close (tie.spec fit-plus-requires returns sub-fit-minus fit-minus-requires returns-2)
+fit-negated-spec = tie.close (tie.spec negated-requires fit-number-requires returns)

@@ -17,11 +17,17 @@ returns-2 c = simp (le-leb 1 _ (c .before .if1 .left), lt-leb _ 14 (c .if2 .take
 counts-of-requires : tie.Need-counts-of-requires
 counts-of-requires c κs = search needs
 
+cast-if3 : tie.Need-cast-if3
+cast-if3 c = search needs
+
 returns-3 : tie.Need-returns-3
 unfolding shapeFits
 returns-3 c =
     let d = c .before .before .before in
     simp (le-leb 1 _ (d .before .if1 .left), le-leb _ 14 (d .if2 .left), ← c .before .before .counts-of .ensures .0, ne-eqb _ _ (c .if3 .taken))
+
+cast-if4 : tie.Need-cast-if4
+cast-if4 c = search needs
 
 returns-4 : tie.Need-returns-4
 unfolding shapeFits
@@ -39,4 +45,4 @@ returns-5 c =
 
 pub call-fits-spec : {M : Type 1} → statement M
 call-fits-spec =
-    tie.close (tie.spec returns returns-2 counts-of-requires returns-3 returns-4 returns-5)
+    tie.close (tie.spec returns returns-2 counts-of-requires cast-if3 returns-3 cast-if4 returns-4 returns-5)

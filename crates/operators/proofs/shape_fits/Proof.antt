@@ -24,12 +24,18 @@ returns-3 c = simp (ne-eqb _ 3 (c .before .before .if1 .left), le-leb _ 5 (c .be
 row-of-requires : tie.Need-row-of-requires
 row-of-requires c κs = search needs
 
+cast-if4 : tie.Need-cast-if4
+cast-if4 c = search needs
+
 returns-4 : tie.Need-returns-4
 unfolding shapeFits
 returns-4 c =
     let e = c .before .before .before in
     let row = c .before .before .row-of .ensures in
     simp (ne-eqb _ 3 (e .before .before .if1 .left), le-leb _ 5 (e .before .if2 .left), eq-eqb _ 0 (e .if3 .left), ← row .0, lt-leb _ _ (c .if4 .taken))
+
+cast-if5 : tie.Need-cast-if5
+cast-if5 c = search needs
 
 returns-5 : tie.Need-returns-5
 unfolding shapeFits
@@ -38,6 +44,9 @@ returns-5 c =
     let e = d .before .before .before in
     let row = d .before .before .row-of .ensures in
     simp (ne-eqb _ 3 (e .before .before .if1 .left), le-leb _ 5 (e .before .if2 .left), eq-eqb _ 0 (e .if3 .left), ← row .0, le-leb _ _ (d .if4 .left), ← row .1, lt-leb _ _ (c .if5 .taken))
+
+cast-if6 : tie.Need-cast-if6
+cast-if6 c = search needs
 
 returns-6 : tie.Need-returns-6
 unfolding shapeFits
@@ -66,7 +75,10 @@ shape-fits-spec =
     returns-2
     returns-3
     row-of-requires
+    cast-if4
     returns-4
+    cast-if5
     returns-5
+    cast-if6
     returns-6
     returns-7)

@@ -15,7 +15,7 @@ use Rattle.redirection.proofs.move_of.Tie as tie
 output-below : (c : tie.After-source-output) → c .source-output .result < sideCapacity
 output-below c =
     let s = c .before .before in
-    omega (arith, s .pre .1 .0 .outputs (s .args .i) (s .pre .1 .1 .1 .1 .1), s .pre .0 .source, c .source-output .ensures .0)
+    omega (arith, s .pre .0 .layered .outputs (s .args .i) (s .pre .1), s .pre .0 .whole .source, c .source-output .ensures .0)
 
 source-output-requires : tie.Need-source-output-requires
 source-output-requires c κs = search needs
@@ -33,10 +33,8 @@ place-of-requires : tie.Need-place-of-requires
 place-of-requires c κs =
     let s = c .before .before .before .before in
     let named = c .before .target-output in
-    let outputs = s .pre .1 .1 .0 .outputs (s .args .i) (s .pre .1 .1 .1 .1 .1) in (
-      s .pre .1 .1 .1 .0,
-      (s .pre .1 .1 .1 .1 .0, inside-place (named .result) (ap originInside (named .ensures .0) ∙ outputs)),
-    )
+    let outputs = s .pre .0 .resolvable .outputs (s .args .i) (s .pre .1) in
+    (s .pre .0 .arrays, inside-place (named .result) (ap originInside (named .ensures .0) ∙ outputs))
 
 returns : tie.Need-returns
 unfolding moveOf
@@ -45,7 +43,7 @@ returns c =
     let s = o .before .before in
     let images = s .args .images .now in
     let places = s .args .places .now in
-    let from = sym (image-at images (o .source-output .result) (omega (arith, output-below o, s .pre .1 .1 .1 .0)))
+    let from = sym (image-at images (o .source-output .result) (omega (arith, output-below o, s .pre .0 .arrays .imageSize)))
     ∙ ap (imageOf images) (o .source-output .ensures .0) in
     let to = c .place-of .ensures ∙ ap (resolveIn images places) (c .before .before .target-output .ensures .0) in
     simp (from, to)

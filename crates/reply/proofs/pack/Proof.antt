@@ -1,6 +1,6 @@
 -- Each case has the definition's number; a value of 24 bits fits above the place.
 -- Assumes nothing.
-use mathlib.Core.Path.{_≡_, ap, _∙_}
+use mathlib.Core.Path.{_≡_}
 use Prim.Native.Nat.{ℕ, _<_}
 use native.Mathlib.Omega.{arith}
 use Rattle.definitions.specs.declared.Refusal.{Refusal}

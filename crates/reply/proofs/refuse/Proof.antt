@@ -1,7 +1,7 @@
 -- The refusal is built as the definition has it.
 -- Assumes nothing.
 use mathlib.Core.Path.{refl}
-use Rattle.definitions.specs.Reply.{refusal, refused, noPlace}
+use Rattle.definitions.specs.Reply.{refusal, noPlace}
 use Rattle.reply.proofs.refuse.Statement.{statement}
 use Rattle.reply.proofs.refuse.Tie as tie
 

@@ -6,15 +6,13 @@ use Prim.Native.Nat.{ℕ, _-_, _≤_}
 use native.Mathlib.Omega.{arith}
 use lib.ListN.{length, take, length-append}
 use lib.Seq.{take-append-seam}
-use Rattle.definitions.specs.declared.Reply.the-variants.{Done, Refused}
+use Rattle.definitions.specs.declared.Reply.the-variants.{Refused}
 use Rattle.definitions.specs.Reply.{done}
 use Rattle.definitions.specs.Graph.{slotLimit, recordAt, SoundGraph}
 use Rattle.graph_fields.specs.Layout.{WholeGraph}
-use Rattle.search.proofs.Sound.{graph-readable}
+use Rattle.graph_check.proofs.Readable.{graph-readable}
 use Rattle.encoding.proofs.Blocks.{block-readable}
-use Rattle.commit.specs.Tables.{ClearTails}
-use Rattle.commit.proofs.Blocks.{clear-tails}
-use Rattle.rewriting.proofs.Replies.{not-both}
+use Rattle.new_plan.proofs.Replies.{not-both}
 use borrow.Author.Needs.{needs}
 use Rattle.rewriting.proofs.replace.Statement.{statement}
 use Rattle.rewriting.proofs.replace.Tie as tie
@@ -47,12 +45,12 @@ part-table-start : tie.Need-part-table-start
 part-table-start c = search needs
 
 part-table-end : tie.Need-part-table-end
-part-table-end c = let s = c .before .before .before .before in omega (arith, short (s .args .graph .now) (s .pre .0), c .before .blank .ensures)
+part-table-end c = let s = c .before .before .before .before in omega (arith, short (s .args .graph .now) (s .pre .soundGraph), c .before .blank .ensures)
 
 plan-requires : tie.Need-plan-requires
 plan-requires c κs =
     let s = c .before .before .before .before .before in
-    (s .pre .0, (s .pre .1 .0, (s .pre .1 .1, c .table .given .2 ∙ omega arith)))
+    (s .pre, c .table .given .2 ∙ omega arith)
 
 enum-known-why : tie.Need-enum-known-why
 enum-known-why c = search needs
@@ -91,13 +89,8 @@ commit-requires c κs =
     let t = z .before .before in
     let p = t .before in
     let made = p .plan .ensures .done _ (z .enum-told .given .1) in
-    let same = front _ (p .plan .last .1 .1 .1 .0) _ (filled t) ∙ made .3 in (
-      search needs,
-      (
-        subst WholeGraph (sym same) (block-readable (made .0) (made .1) .whole),
-        subst ClearTails (sym same) (clear-tails (made .0) (made .1)),
-      ),
-    )
+    let same = front _ (p .plan .last .1 .1 .1 .0) _ (filled t) ∙ made .3 in
+    (search needs, subst WholeGraph (sym same) (block-readable (made .0) (made .1) .whole))
 
 same-length-2 : tie.Need-same-length-2
 same-length-2 c = search needs

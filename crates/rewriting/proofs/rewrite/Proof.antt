@@ -98,14 +98,9 @@ replace-requires : tie.Need-replace-requires
 replace-requires c κs =
     let e = c .before .before .before in
     let b = begun e in
-    let sound = blocks-done (graph b) (rule b) (map b) (good b) in (
-      sound .1,
-      (
-        sound .2,
-        matched (graph b) (rule b) (start b .args .start) (searched e .least-match .result .ok) (images e) (sound .2)
-            (searched e .least-match .ensures) (success e),
-      ),
-    )
+    let sound = blocks-done (graph b) (rule b) (map b) (good b) in
+    matched (graph b) (rule b) (start b .args .start) (searched e .least-match .result .ok) (images e) (sound .1) (sound .2)
+    (searched e .least-match .ensures) (success e)
 
 enum-known-refusal-2 : tie.Need-enum-known-refusal-2
 enum-known-refusal-2 c = search needs

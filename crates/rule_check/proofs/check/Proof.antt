@@ -9,7 +9,7 @@ use Prim.Native.Nat.{ℕ, _+_, _≤_}
 use native.Mathlib.Omega.{arith}
 use Rattle.definitions.specs.Lists.{lowest}
 use Rattle.definitions.specs.Rule.{sideLimit, sourceCount, targetCount, nodeCount, ruleOf, ruleHeaderFits, badVertex, inVisitingOrder, outputsFit, badNode}
-use Rattle.rule_fields.specs.Layout.{WholeRule, ReadableRule, Layered}
+use Rattle.rule_fields.specs.Layout.{WholeRule, ReadableRule, LayeredRule}
 use Rattle.rule_check.proofs.Laws.{whole, readable, layered, refused-header, refused-vertex, refused-order, refused-outputs, refused-node, refused-use, sound}
 use Rattle.rule_check.proofs.check.Statement.{statement}
 use Rattle.rule_check.proofs.check.Tie as tie
@@ -40,8 +40,8 @@ vertices c =
 read : (c : tie.Else2) → ReadableRule (block₂ c)
 read c = readable (block₂ c) (vertices c) (laid-out (to₁ c))
 
-layers : (c : tie.Else2) → Layered (block₂ c)
-layers c = layered (block₂ c) (vertices c) (header (to₁ c))
+layers : (c : tie.Else2) → LayeredRule (block₂ c)
+layers c = record { readable = read c; layered = layered (block₂ c) (vertices c) (header (to₁ c)) }
 
 abbrev to₂ : tie.Else3 → tie.Else2
 to₂ c = c .before .before
@@ -102,7 +102,7 @@ returns-2 c =
     (omega (arith, call .bad-vertex .ensures, counts .target-count .ensures .0, counts .before .source-count .ensures .0))
 
 in-visiting-order-requires : tie.Need-in-visiting-order-requires
-in-visiting-order-requires c κs = (read c, layers c)
+in-visiting-order-requires c κs = layers c
 
 bad-rule-requires-3 : tie.Need-bad-rule-requires-3
 bad-rule-requires-3 c κs = search needs
@@ -116,7 +116,7 @@ returns-3 c =
     (sym (call .in-visiting-order .ensures) ∙ not-true (call .in-visiting-order .result) (c .before .if3 .taken))
 
 outputs-fit-requires : tie.Need-outputs-fit-requires
-outputs-fit-requires c κs = (read (to₂ c), layers (to₂ c))
+outputs-fit-requires c κs = layers (to₂ c)
 
 bad-rule-requires-4 : tie.Need-bad-rule-requires-4
 bad-rule-requires-4 c κs = search needs

@@ -7,13 +7,14 @@ use native.Mathlib.Omega.{arith}
 use lib.ListN.{replicate}
 use borrow.Author.Needs.{needs}
 use Rattle.definitions.specs.Lists.{build}
+use Rattle.definitions.specs.Rule.{nodeLimit}
 use Rattle.rule_expressions.specs.Access.{topFrom}
 use Rattle.rule_expressions.proofs.Laws.{tops-more, tops-all, all-fit}
 use Rattle.rule_expressions.proofs.access_tops.Statement.{statement}
 use Rattle.rule_expressions.proofs.access_tops.Tie as tie
 
 abbrev Inv-loop : tie.InvT-loop
-Inv-loop rule nodes tops₀ k₀ tops k = (k ≤ nodes) × (tops ≡ build (topFrom rule) k ++ replicate (64 - k) 0)
+Inv-loop rule nodes tops₀ k₀ tops k = (k ≤ nodes) × (tops ≡ build (topFrom rule) k ++ replicate (nodeLimit - k) 0)
 
 abbrev μ-loop : tie.MeasureT-loop
 μ-loop rule nodes tops₀ k₀ tops k = nodes - k

@@ -1,7 +1,7 @@
 -- The tests are the definition's, in order, on the bytes that were read.
 -- Assumes nothing.
 use mathlib.Core.Path.{_≡_}
-use mathlib.Core.Bool.{cond, _&&_}
+use mathlib.Core.Bool.{Bool, cond, _&&_}
 use mathlib.Core.List.{List}
 use Prim.Native.Nat.{ℕ, _+_}
 use lib.Dec.{eqb, ltb, leb}
@@ -9,7 +9,7 @@ use borrow.Author.Tests.{eq-eqb, ne-eqb, not-true, not-false}
 use Rattle.definitions.specs.Lists.{within}
 use Rattle.definitions.specs.Fields.{filled}
 use Rattle.definitions.specs.Graph.{attributeLimit}
-use Rattle.definitions.specs.Rule.{sourceCount, nodeAt, operandFits, nodeFits}
+use Rattle.definitions.specs.Rule.{sourceCount, nodeAt, formAny, formConstant, formAccess, formRemainder, operandFits, nodeFits}
 use borrow.Author.Needs.{needs}
 use Rattle.rule_expressions.proofs.node_fits.Statement.{statement}
 use Rattle.rule_expressions.proofs.node_fits.Tie as tie
@@ -29,19 +29,36 @@ left d = d .before .before .node-byte .result
 abbrev right : tie.After-node-byte3 → ℕ
 right d = d .before .node-byte2 .result
 
+-- the tests of a node that is no constant and has no number
+abbrev rest : tie.After-node-byte3 → Bool
+rest d =
+    cond (eqb (form d) formAny) (eqb (left d) 0 && eqb (right d) 0)
+    (cond (eqb (form d) formAccess) (ltb (left d) (sourceCount (block d)) && within 1 (right d) attributeLimit)
+    (leb (form d) formRemainder && operandFits (block d) (k d) (left d) && operandFits (block d) (k d) (right d)))
+
 -- the definition, on those bytes
 tests : (d : tie.After-node-byte3) → nodeFits (block d) (k d) ≡ (
     eqb (d .node-byte3 .result) 0
-    && cond (eqb (form d) 1) (eqb (left d) 0 && eqb (right d) 0)
-    (filled (block d) (nodeAt (block d) (k d) + 4) (nodeAt (block d) (k d) + 8) 0
-    && cond (eqb (form d) 0) (eqb (left d) 0 && eqb (right d) 0)
-    (cond (eqb (form d) 2) (ltb (left d) (sourceCount (block d)) && within 1 (right d) attributeLimit)
-    (leb (form d) 7 && operandFits (block d) (k d) (left d) && operandFits (block d) (k d) (right d)))))
+    && cond (eqb (form d) formConstant) (eqb (left d) 0 && eqb (right d) 0)
+    (filled (block d) (nodeAt (block d) (k d) + 4) (nodeAt (block d) (k d) + 8) 0 && rest d))
 unfolding nodeFits
 tests d =
     let r = d .before in
     let l = r .before in
     simp (← l .before .node-form .ensures .0, ← l .node-byte .ensures .0, ← r .node-byte2 .ensures .0, ← d .node-byte3 .ensures .0)
+
+-- and once its first tests are passed
+passed : (e : tie.Else3) → let d = e .before .before .before .before in nodeFits (block d) (k d) ≡ rest d
+passed e =
+    let n = e .before in
+    let e2 = n .before in
+    let e1 = e2 .before in
+    rw (tests (e1 .before)) (simp (
+      eq-eqb _ 0 (e1 .if1 .left),
+      ne-eqb _ 1 (e2 .if2 .left),
+      ← n .number-unused .ensures,
+      not-false (n .number-unused .result) (e .if3 .left),
+    ))
 
 node-form-requires : tie.Need-node-form-requires
 node-form-requires c κs = search needs
@@ -88,17 +105,7 @@ operands-unused-requires-2 c κs = search needs
 returns-4 : tie.Need-returns-4
 returns-4 c =
     let t4 = c .before in
-    let e3 = t4 .before in
-    let n = e3 .before in
-    let e2 = n .before in
-    let e1 = e2 .before in
-    rw (tests (e1 .before)) (simp (
-      eq-eqb _ 0 (e1 .if1 .left),
-      ne-eqb _ 1 (e2 .if2 .left),
-      ← n .number-unused .ensures,
-      not-false (n .number-unused .result) (e3 .if3 .left),
-      eq-eqb _ 0 (t4 .if4 .taken),
-    ) (c .operands-unused2 .ensures))
+    rw (passed (t4 .before)) (simp (eq-eqb _ 0 (t4 .if4 .taken)) (c .operands-unused2 .ensures))
 
 access-fits-requires : tie.Need-access-fits-requires
 access-fits-requires c κs = search needs
@@ -107,18 +114,7 @@ returns-5 : tie.Need-returns-5
 returns-5 c =
     let t5 = c .before in
     let e4 = t5 .before in
-    let e3 = e4 .before in
-    let n = e3 .before in
-    let e2 = n .before in
-    let e1 = e2 .before in
-    rw (tests (e1 .before)) (simp (
-      eq-eqb _ 0 (e1 .if1 .left),
-      ne-eqb _ 1 (e2 .if2 .left),
-      ← n .number-unused .ensures,
-      not-false (n .number-unused .result) (e3 .if3 .left),
-      ne-eqb _ 0 (e4 .if4 .left),
-      eq-eqb _ 2 (t5 .if5 .taken),
-    ) (c .access-fits .ensures))
+    rw (passed (e4 .before)) (simp (ne-eqb _ 0 (e4 .if4 .left), eq-eqb _ 2 (t5 .if5 .taken)) (c .access-fits .ensures))
 
 operation-fits-requires : tie.Need-operation-fits-requires
 operation-fits-requires c κs = search needs
@@ -127,18 +123,7 @@ returns-6 : tie.Need-returns-6
 returns-6 c =
     let e5 = c .before in
     let e4 = e5 .before in
-    let e3 = e4 .before in
-    let n = e3 .before in
-    let e2 = n .before in
-    let e1 = e2 .before in
-    rw (tests (e1 .before)) (simp (
-      eq-eqb _ 0 (e1 .if1 .left),
-      ne-eqb _ 1 (e2 .if2 .left),
-      ← n .number-unused .ensures,
-      not-false (n .number-unused .result) (e3 .if3 .left),
-      ne-eqb _ 0 (e4 .if4 .left),
-      ne-eqb _ 2 (e5 .if5 .left),
-    ) (c .operation-fits .ensures))
+    rw (passed (e4 .before)) (simp (ne-eqb _ 0 (e4 .if4 .left), ne-eqb _ 2 (e5 .if5 .left)) (c .operation-fits .ensures))
 
 pub node-fits-spec : {M : Type 1} → statement M
 node-fits-spec =

@@ -3,7 +3,7 @@
 use Prim.Native.Nat.{_<_}
 use native.Mathlib.Omega.{arith}
 use borrow.Author.Tests.{lt-ltb, le-ltb, eq-eqb, ne-eqb}
-use Rattle.definitions.specs.Rule.{nodeForm}
+use Rattle.definitions.specs.Rule.{formAccess, nodeForm}
 use Rattle.rule_expressions.specs.Access.{topFrom}
 use Rattle.rule_expressions.proofs.Laws.{left-earlier, right-earlier}
 use borrow.Author.Needs.{needs}
@@ -13,7 +13,7 @@ use Rattle.rule_expressions.proofs.node_top.Tie as tie
 abbrev start : tie.Else2 → tie.Start
 start c = c .before .before .before .before .before .before
 
-operation : (c : tie.Else2) → 2 < nodeForm (start c .args .rule .now) (start c .args .k)
+operation : (c : tie.Else2) → formAccess < nodeForm (start c .args .rule .now) (start c .args .k)
 operation c = omega (arith, c .before .before .before .before .node-form .ensures .0, c .before .if1 .left, c .if2 .left)
 
 node-form-requires : tie.Need-node-form-requires

@@ -65,18 +65,18 @@ visit-inputs-calls t = (
 visit-returns : (t : ℕ) → visit-lts.Need-returns (visit-calls t) (visit-at t) visit.Post
 visit-returns t c =
     let s = c .before .before in
-    visited-before (s .args .rule .now) (s .args .v) (s .args .next) (s .pre .1 .1 .1 .1) (c .if1 .taken)
+    visited-before (s .args .rule .now) (s .args .v) (s .args .next) (s .pre .1 .count) (c .if1 .taken)
 
 visit-visit-inputs-requires : (t : ℕ) → visit-lts.Need-visit-inputs-requires (visit-calls t) (visit-at t) visit.Post
 visit-visit-inputs-requires t c κs =
     let s = c .before .before in
-    (omega arith, (s .pre .1 .0, (s .pre .1 .1 .0, (s .pre .1 .1 .1 .0, (omega arith, s .pre .1 .1 .1 .1)))))
+    (omega arith, (s .pre .1, omega arith))
 
 visit-returns-2 : (t : ℕ) → visit-lts.Need-returns-2 (visit-calls t) (visit-at t) visit.Post
 visit-returns-2 t c =
     let d = c .before .before in
     let s = d .before .before .before in
-    inputs-wrong (s .args .rule .now) (s .args .v) (s .args .next) (s .pre .1 .1 .1 .1) (d .before .if1 .left)
+    inputs-wrong (s .args .rule .now) (s .args .v) (s .args .next) (s .pre .1 .count) (d .before .if1 .left)
     (d .visit-inputs .ensures) (not-true _ (c .if2 .taken))
 
 visit-returns-3 : (t : ℕ) → visit-lts.Need-returns-3 (visit-calls t) (visit-at t) visit.Post
@@ -84,21 +84,21 @@ visit-returns-3 t c =
     let b = c .before .before in
     let d = b .before .before in
     let s = d .before .before .before in
-    not-next (s .args .rule .now) (s .args .v) (s .args .next) (s .pre .1 .1 .1 .1) (d .before .if1 .left)
+    not-next (s .args .rule .now) (s .args .v) (s .args .next) (s .pre .1 .count) (d .before .if1 .left)
     (d .visit-inputs .ensures) (not-false _ (b .if2 .left)) (c .if3 .taken)
 
 visit-add-t6 : (t : ℕ) → visit-lts.Need-add-t6 (visit-calls t) (visit-at t) visit.Post
 visit-add-t6 t c =
     let d = c .before .before .before .before .before in
-    omega (arith, d .visit-inputs .ensures .small, d .before .before .before .pre .1 .0 .whole .source)
+    omega (arith, d .visit-inputs .ensures .small, d .before .before .before .pre .1 .layout .readable .whole .source)
 
 visit-returns-4 : (t : ℕ) → visit-lts.Need-returns-4 (visit-calls t) (visit-at t) visit.Post
 visit-returns-4 t c =
     let b = c .before .before .before in
     let d = b .before .before in
     let s = d .before .before .before in
-    is-next (s .args .rule .now) (s .args .v) (s .args .next) (s .pre .1 .1 .1 .1) (d .before .if1 .left)
-    (d .visit-inputs .ensures) (not-false _ (b .if2 .left)) (c .before .if3 .left) (s .pre .1 .1 .1 .0)
+    is-next (s .args .rule .now) (s .args .v) (s .args .next) (s .pre .1 .count) (d .before .if1 .left)
+    (d .visit-inputs .ensures) (not-false _ (b .if2 .left)) (c .before .if3 .left) (s .pre .1 .vertex)
 
 -- ---- visit_inputs
 
@@ -111,29 +111,29 @@ lower : (t : ℕ) (c : visit-inputs-lts.After-source-input (visit-inputs-calls t
     → c .source-input .result < c .before .before .before .before .args .v
 lower t c =
     let s = c .before .before .before .before in
-    rw (c .source-input .ensures .0) (s .pre .1 .1 .0 .lower (s .args .v) (s .args .i) (s .pre .1 .1 .1 .0) (left t (c .before)))
+    rw (c .source-input .ensures .0) (s .pre .1 .0 .layout .layered .lower (s .args .v) (s .args .i) (s .pre .1 .0 .vertex) (left t (c .before)))
 
 visit-inputs-source-input-count-requires : (t : ℕ)
     → visit-inputs-lts.Need-source-input-count-requires (visit-inputs-calls t) (visit-inputs-at t) visit-inputs.Post
-visit-inputs-source-input-count-requires t c κs = (c .before .pre .1 .0, c .before .pre .1 .1 .1 .0)
+visit-inputs-source-input-count-requires t c κs = (c .before .pre .1 .0 .layout .readable, c .before .pre .1 .0 .vertex)
 
 visit-inputs-returns : (t : ℕ) → visit-inputs-lts.Need-returns (visit-inputs-calls t) (visit-inputs-at t) visit-inputs.Post
 visit-inputs-returns t c =
     let s = c .before .before .before in
-    inputs-done (s .args .rule .now) (s .args .v) (s .args .i) (s .args .next) (omega arith) (s .pre .1 .1 .1 .1 .1)
+    inputs-done (s .args .rule .now) (s .args .v) (s .args .i) (s .args .next) (omega arith) (s .pre .1 .0 .count)
 
 visit-inputs-source-input-requires : (t : ℕ)
     → visit-inputs-lts.Need-source-input-requires (visit-inputs-calls t) (visit-inputs-at t) visit-inputs.Post
 visit-inputs-source-input-requires t c κs =
     let s = c .before .before .before in
-    (s .pre .1 .0, (s .pre .1 .1 .1 .0, left t c))
+    (s .pre .1 .0 .layout .readable, (s .pre .1 .0 .vertex, left t c))
 
 visit-inputs-visit-requires : (t : ℕ)
     → visit-inputs-lts.Need-visit-requires (visit-inputs-calls t) (visit-inputs-at t) visit-inputs.Post
 visit-inputs-visit-requires t c κs =
     let s = c .before .before .before .before in
     let down = lower t c in
-    (omega arith, (s .pre .1 .0, (s .pre .1 .1 .0, (omega arith, s .pre .1 .1 .1 .1 .1))))
+    (omega arith, record { layout = s .pre .1 .0 .layout; vertex = omega arith; count = s .pre .1 .0 .count })
 
 visit-inputs-returns-2 : (t : ℕ) → visit-inputs-lts.Need-returns-2 (visit-inputs-calls t) (visit-inputs-at t) visit-inputs.Post
 visit-inputs-returns-2 t c =
@@ -152,7 +152,7 @@ visit-inputs-visit-inputs-requires : (t : ℕ)
 visit-inputs-visit-inputs-requires t c κs =
     let d = c .before .before in
     let s = d .before .before .before .before .before in
-    (omega arith, (s .pre .1 .0, (s .pre .1 .1 .0, (s .pre .1 .1 .1 .0, (omega arith, d .visit .ensures .small)))))
+    (omega arith, (record { layout = s .pre .1 .0 .layout; vertex = s .pre .1 .0 .vertex; count = d .visit .ensures .small }, omega arith))
 
 visit-inputs-returns-3 : (t : ℕ) → visit-inputs-lts.Need-returns-3 (visit-inputs-calls t) (visit-inputs-at t) visit-inputs.Post
 visit-inputs-returns-3 t c =

@@ -20,7 +20,7 @@ place c = omega (arith, c .before .before .output-count .ensures .0)
 
 inside : (c : tie.After-source-output Inv-loop μ-loop)
     → c .source-output .result < sourceCount (c .before .before .before .before .before .args .rule .now)
-inside c = rw (c .source-output .ensures .0) (c .before .before .before .before .before .pre .1 .outputs (c .before .before .loop .i) (place (c .before)))
+inside c = rw (c .source-output .ensures .0) (c .before .before .before .before .before .pre .layered .outputs (c .before .before .loop .i) (place (c .before)))
 
 output-count-requires : tie.Need-output-count-requires Inv-loop μ-loop
 output-count-requires c κs = search needs
@@ -29,12 +29,11 @@ loop-holds : tie.Need-loop-holds Inv-loop μ-loop
 loop-holds c = (omega arith, omega arith, outputs-begin (c .before .before .args .rule .now))
 
 source-output-requires : tie.Need-source-output-requires Inv-loop μ-loop
-source-output-requires c κs = (c .before .before .before .before .pre .0 .whole, place c)
+source-output-requires c κs = (c .before .before .before .before .pre .readable .whole, place c)
 
 visit-requires : tie.Need-visit-requires Inv-loop μ-loop
 visit-requires c κs =
-    let s = c .before .before .before .before .before in
-    (s .pre .0, (s .pre .1, (inside c, c .before .before .loop .inv .1)))
+    record { layout = c .before .before .before .before .before .pre; vertex = inside c; count = c .before .before .loop .inv .1 }
 
 returns : tie.Need-returns Inv-loop μ-loop
 returns c =

@@ -9,14 +9,14 @@ use Rattle.definitions.specs.Lists.{all}
 use Rattle.definitions.specs.Rule.{ruleOf}
 use Rattle.laws.proofs.Rule.{length-source-outputs}
 use Rattle.laws.proofs.Walks.{all-failed, all-turn, all-ends}
-use Rattle.rule_outputs.proofs.Laws.{mayBe}
+use Rattle.rule_outputs.specs.Outputs.{mayBeOutput}
 use Rattle.rule_outputs.proofs.may_all_be_outputs.Statement.{statement}
 use Rattle.rule_outputs.proofs.may_all_be_outputs.Tie as tie
 
 abbrev Inv-loop : tie.InvT-loop
 Inv-loop rule count i₀ i =
     let xs = ruleOf rule .sourceOutputs in
-    all (mayBe (ruleOf rule)) xs ≡ all (mayBe (ruleOf rule)) (drop i xs)
+    all (mayBeOutput (ruleOf rule)) xs ≡ all (mayBeOutput (ruleOf rule)) (drop i xs)
 
 abbrev μ-loop : tie.MeasureT-loop
 μ-loop rule count i₀ i = count - i
@@ -34,7 +34,7 @@ may-be-output-requires : tie.Need-may-be-output-requires Inv-loop μ-loop
 may-be-output-requires c κs =
     let h = c .before .before in
     let s = h .before .before .before in
-    (s .pre .0, omega (arith, s .pre .1 .outputs (h .loop .i) (omega arith)))
+    (s .pre .readable, omega (arith, s .pre .layered .outputs (h .loop .i) (omega arith)))
 
 add-i : tie.Need-add-i Inv-loop μ-loop
 add-i c = omega arith
@@ -48,9 +48,9 @@ loop-again c =
     let h = d .before .before in
     let a = h .before .before .before .args in
     let r = ruleOf (a .rule .now) in
-    all-turn (mayBe r) (r .sourceOutputs) (h .loop .i) 255 (h .loop .inv)
+    all-turn (mayBeOutput r) (r .sourceOutputs) (h .loop .i) 255 (h .loop .inv)
     (omega (arith, length-source-outputs (a .rule .now)))
-    (ap (mayBe r) (sym (d .source-output .ensures .0)) ∙ sym (c .before .may-be-output .ensures) ∙ c .if1 .taken)
+    (ap (mayBeOutput r) (sym (d .source-output .ensures .0)) ∙ sym (c .before .may-be-output .ensures) ∙ c .if1 .taken)
 
 returns : tie.Need-returns Inv-loop μ-loop
 returns c =
@@ -58,16 +58,16 @@ returns c =
     let h = d .before .before in
     let a = h .before .before .before .args in
     let r = ruleOf (a .rule .now) in
-    sym (all-failed (mayBe r) (r .sourceOutputs) (h .loop .i) 255 (h .loop .inv)
+    sym (all-failed (mayBeOutput r) (r .sourceOutputs) (h .loop .i) 255 (h .loop .inv)
     (omega (arith, length-source-outputs (a .rule .now)))
-    (ap (mayBe r) (sym (d .source-output .ensures .0)) ∙ sym (c .before .may-be-output .ensures) ∙ c .if1 .left))
+    (ap (mayBeOutput r) (sym (d .source-output .ensures .0)) ∙ sym (c .before .may-be-output .ensures) ∙ c .if1 .left))
 
 returns-2 : tie.Need-returns-2 Inv-loop μ-loop
 returns-2 c =
     let h = c .before in
     let a = h .before .before .before .args in
     let r = ruleOf (a .rule .now) in
-    sym (all-ends (mayBe r) (r .sourceOutputs) (h .loop .i) (h .loop .inv) (omega (arith, length-source-outputs (a .rule .now))))
+    sym (all-ends (mayBeOutput r) (r .sourceOutputs) (h .loop .i) (h .loop .inv) (omega (arith, length-source-outputs (a .rule .now))))
 
 pub may-all-be-outputs-spec : {M : Type 1} → statement M
 may-all-be-outputs-spec =

@@ -1,19 +1,26 @@
 -- The counts are what the nested search asks for.
 -- Assumes nothing.
+use Rattle.graph_check.proofs.Readable.{graph-readable, graph-closed, graph-outputs}
+use Rattle.rule_check.proofs.Readable.{rule-readable, rule-layered}
+use Rattle.matching.proofs.Sound.{rule-matchable}
 use Rattle.search.proofs.least_match.Statement.{statement}
 use Rattle.search.proofs.least_match.Tie as tie
-use Rattle.search.proofs.Sound.{graph-readable, graph-closed, graph-outputs, rule-readable, rule-layered, rule-matchable}
 
 count-uses-requires : tie.Need-count-uses-requires
 count-uses-requires c κs =
     let s = c .before .before in
     let block = s .args .graph .now in
-    (graph-readable block (s .pre .0), (graph-closed block (s .pre .0), graph-outputs block (s .pre .0)))
+    record {
+      readable = graph-readable block (s .pre .0);
+      closed = graph-closed block (s .pre .0);
+      outputs = graph-outputs block (s .pre .0);
+    }
 
 count-demands-requires : tie.Need-count-demands-requires
 count-demands-requires c κs =
     let s = c .before .before .before in
-    (rule-readable (s .args .rule .now) (s .pre .1), rule-layered (s .args .rule .now) (s .pre .1))
+    let block = s .args .rule .now in
+    record { readable = rule-readable block (s .pre .1); layered = rule-layered block (s .pre .1) }
 
 search-requires : tie.Need-search-requires
 search-requires c κs =

@@ -10,10 +10,11 @@ use Rattle.definitions.specs.Graph.{slotCount, Graph, graphOf}
 use Rattle.definitions.specs.Rule.{sourceCount, ruleOutputCount, Rule, ruleOf}
 use Rattle.laws.proofs.Graph.{length-slots}
 use Rattle.laws.proofs.Rule.{length-source}
-use Rattle.matching.proofs.Candidates.{Formed, formed}
+use Rattle.graph_check.proofs.Readable.{graph-readable}
+use Rattle.rule_check.proofs.Readable.{rule-readable, rule-layered, output-counts}
+use Rattle.match_look.proofs.Candidates.{Formed, formed}
 use Rattle.search.proofs.search.Statement.{statement}
 use Rattle.search.proofs.search.Tie as tie
-use Rattle.search.proofs.Sound.{graph-readable, rule-readable, rule-layered, output-counts}
 use Rattle.search.proofs.Steps.{Outputs, outputs-read, Passed, PassedSecond, passed-start, second-start, Blank, blank-start, blank-after, Rooted, rooted-after, root-fails, root-made, second-fails, seconds-passed, nothing-mapped, first-in-order, second-in-order, nothing-found, one-found, two-found}
 
 abbrev Inv-loop : tie.InvT-loop
@@ -139,19 +140,14 @@ search-holds c = (passed-start (g c) (r c) (o c) (start c .args .start), blank-s
 match-vertex-requires : tie.Need-match-vertex-requires Inv-loop μ-loop Inv-search μ-search
 match-vertex-requires c κs =
     let a = c .before .before in
-    let b = a .before in (
-      start b .pre .1 .1,
-      (
-        first-inside b,
-        (
-          omega (arith, c .before .search-test .taken, all-slots b),
-          (
-            nothing-mapped (g b) (r b) (a .search .images) (a .search .inv .1),
-            first-in-order (graphBlock b) (ruleBlock b) (start b .pre .1 .0) (outputs b) (o b) (q b) (known b),
-          ),
-        ),
-      ),
-    )
+    let b = a .before in
+    record {
+      setting = start b .pre .1 .1;
+      vertex = first-inside b;
+      slot = omega (arith, c .before .search-test .taken, all-slots b);
+      partial = nothing-mapped (g b) (r b) (a .search .images) (a .search .inv .1);
+      order = first-in-order (graphBlock b) (ruleBlock b) (start b .pre .1 .0) (outputs b) (o b) (q b) (known b);
+    }
 
 -- ---- the second output's image
 
@@ -177,19 +173,14 @@ match-vertex-requires-2 : tie.Need-match-vertex-requires-2 Inv-loop μ-loop Inv-
 match-vertex-requires-2 c κs =
     let l = c .before .before in
     let e = l .before in
-    let b = ready e in (
-      start b .pre .1 .1,
-      (
-        last-inside b,
-        (
-          omega (arith, c .before .loop-test .taken, all-slots b),
-          (
-            l .loop .inv .1 .partial,
-            second-in-order (graphBlock b) (ruleBlock b) (start b .pre .1 .0) (outputs b) (o b) (q b) (known b) (e .if2 .left),
-          ),
-        ),
-      ),
-    )
+    let b = ready e in
+    record {
+      setting = start b .pre .1 .1;
+      vertex = last-inside b;
+      slot = omega (arith, c .before .loop-test .taken, all-slots b);
+      partial = l .loop .inv .1 .partial;
+      order = second-in-order (graphBlock b) (ruleBlock b) (start b .pre .1 .0) (outputs b) (o b) (q b) (known b) (e .if2 .left);
+    }
 
 add-second : tie.Need-add-second Inv-loop μ-loop Inv-search μ-search
 add-second c =

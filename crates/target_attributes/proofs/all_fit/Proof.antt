@@ -1,11 +1,11 @@
 -- The loop's invariant: the first t target vertices have fit results.
 -- Assumes nothing.
-use mathlib.Core.Path.{_≡_, refl, _∙_}
+use mathlib.Core.Path.{_≡_, refl, ap, _∙_}
 use mathlib.Core.Bool.{true}
 use mathlib.Core.Option.{Option}
 use Prim.Native.Nat.{ℕ, _-_, _<_, _≤_}
 use native.Mathlib.Omega.{arith}
-use borrow.Author.Tests.{not-true, not-false}
+use borrow.Author.Needs.{needs}
 use lib.IntN.{ℤ}
 use lib.ListN.{length}
 use Rattle.definitions.specs.Lists.{allBelow}
@@ -15,7 +15,8 @@ use Rattle.definitions.specs.Match.{readAttribute}
 use Rattle.definitions.specs.Rewriting.{vertexResults}
 use Rattle.laws.proofs.Lists.{allBelow-step}
 use Rattle.laws.proofs.Rule.{length-target}
-use Rattle.target_attributes.proofs.Laws.{vertexGiven, told-given, target-lacks, target-found}
+use Rattle.target_attributes.specs.Fitness.{vertexGiven, isFit, targetFitness}
+use Rattle.target_attributes.proofs.Laws.{told-given, unfit-first, none-unfit}
 use Rattle.target_attributes.proofs.all_fit.Statement.{statement}
 use Rattle.target_attributes.proofs.all_fit.Tie as tie
 
@@ -48,15 +49,15 @@ left c =
 -- what is told of the vertex says whether it has fit results
 tested : (c : tie.After-vertex-words Inv-loop μ-loop)
     → let a = c .before .before in
-    vertexGiven (reads (start a)) (decoded (start a)) (a .loop .t) ≡ c .vertex-words .result .ok
+    vertexGiven (reads (start a)) (decoded (start a)) (a .loop .t) ≡ isFit (c .vertex-words .result .fitness)
 tested c =
     let a = c .before .before in
     let s = start a in
-    told-given (vertexResults (reads s) (targetOf (decoded s) (a .loop .t))) (c .vertex-words .result .ok)
-    (c .vertex-words .result .words) (c .vertex-words .ensures)
+    told-given (vertexResults (reads s) (targetOf (decoded s) (a .loop .t))) (isFit (c .vertex-words .result .fitness))
+    (c .vertex-words .result .words) (c .vertex-words .ensures .given)
 
 target-count-requires : tie.Need-target-count-requires Inv-loop μ-loop
-target-count-requires c κs = let s = c .before .before in omega (arith, s .pre .1 .0 .whole .size)
+target-count-requires c κs = let s = c .before .before in omega (arith, s .pre .patterns .whole .size)
 
 loop-holds : tie.Need-loop-holds Inv-loop μ-loop
 unfolding allBelow
@@ -64,26 +65,22 @@ loop-holds c = (omega arith, refl)
 
 vertex-words-requires : tie.Need-vertex-words-requires Inv-loop μ-loop
 vertex-words-requires c κs =
-    let s = start (c .before) in (
-      s .pre .0,
-      (
-        s .pre .1 .0,
-        (
-          s .pre .1 .1 .0,
-          (
-            s .pre .1 .1 .1,
-            omega (arith, c .loop-test .taken, c .before .before .target-count .ensures .0),
-          ),
-        ),
-      ),
-    )
+    (start (c .before) .pre, omega (arith, c .loop-test .taken, c .before .before .target-count .ensures .0))
+
+enum-told : tie.Need-enum-told Inv-loop μ-loop
+enum-told c = search needs
 
 returns : tie.Need-returns Inv-loop μ-loop
+unfolding isFit targetFitness
 returns c =
     let d = c .before .before in
     let a = d .before .before in
     let s = start a in
-    target-lacks (reads s) (decoded s) (a .loop .t) (left (d .before)) (tested d ∙ not-true _ (c .if1 .taken))
+    unfit-first (vertexGiven (reads s) (decoded s)) (length (decoded s .target)) (a .loop .t) (left (d .before)) (a .loop .inv .1)
+    (tested d ∙ ap isFit (c .enum-told .given .1))
+
+enum-told-2 : tie.Need-enum-told-2 Inv-loop μ-loop
+enum-told-2 c = search needs
 
 add-t : tie.Need-add-t Inv-loop μ-loop
 add-t c = omega arith
@@ -92,19 +89,21 @@ loop-less : tie.Need-loop-less Inv-loop μ-loop
 loop-less c = omega arith
 
 loop-again : tie.Need-loop-again Inv-loop μ-loop
+unfolding isFit
 loop-again c =
     let d = c .before .before in
     let a = d .before .before in
     let s = start a in (
       omega arith,
-      allBelow-step (vertexGiven (reads s) (decoded s)) (a .loop .t) (a .loop .inv .1) (tested d ∙ not-false _ (c .if1 .left)),
+      allBelow-step (vertexGiven (reads s) (decoded s)) (a .loop .t) (a .loop .inv .1) (tested d ∙ ap isFit (c .enum-told2 .given .1)),
     )
 
 returns-2 : tie.Need-returns-2 Inv-loop μ-loop
+unfolding targetFitness
 returns-2 c =
     let a = c .before in
     let s = start a in
-    target-found (reads s) (decoded s) (a .loop .t)
+    none-unfit (vertexGiven (reads s) (decoded s)) (length (decoded s .target)) (a .loop .t)
     (omega (arith, c .loop-test .left, a .before .target-count .ensures .0, length-target (s .args .rule .now))) (a .loop .inv .1)
 
 pub all-fit-spec : {M : Type 1} → statement M
@@ -116,7 +115,9 @@ all-fit-spec =
     target-count-requires
     loop-holds
     vertex-words-requires
+    enum-told
     returns
+    enum-told-2
     add-t
     loop-less
     loop-again

@@ -14,7 +14,8 @@ use Rattle.definitions.specs.Graph.{attributeLimit, graphOf}
 use Rattle.definitions.specs.Rule.{Origin, Pattern, ruleOf, targetOf}
 use Rattle.definitions.specs.Match.{readAttribute}
 use Rattle.laws.proofs.Lists.{allBelow-step}
-use Rattle.target_attributes.proofs.Laws.{fitAt, fit-tested, wordsTo, words-more, vertex-lacks, vertex-found}
+use Rattle.target_attributes.specs.Fitness.{fitAt}
+use Rattle.target_attributes.proofs.Laws.{fit-tested, wordsTo, words-more, told-unfit, told-fit}
 use Rattle.target_attributes.proofs.vertex_words.Statement.{statement}
 use Rattle.target_attributes.proofs.vertex_words.Tie as tie
 
@@ -55,10 +56,10 @@ tested c =
     (a .before .before .target-kind .ensures .0) (c .before .target-value .ensures .0) (c .is-fit .ensures)
 
 target-kind-requires : tie.Need-target-kind-requires Inv-loop μ-loop
-target-kind-requires c κs = let s = c .before .before in (s .pre .1 .0 .whole, s .pre .1 .1 .1 .1)
+target-kind-requires c κs = let s = c .before .before in (s .pre .0 .patterns .whole, s .pre .1)
 
 target-attribute-count-requires : tie.Need-target-attribute-count-requires Inv-loop μ-loop
-target-attribute-count-requires c κs = let s = c .before .before .before in (s .pre .1 .0, s .pre .1 .1 .1 .1)
+target-attribute-count-requires c κs = let s = c .before .before .before in (s .pre .0 .patterns, s .pre .1)
 
 loop-holds : tie.Need-loop-holds Inv-loop μ-loop
 unfolding allBelow padded
@@ -67,7 +68,7 @@ loop-holds c = (omega arith, refl, refl)
 target-value-requires : tie.Need-target-value-requires Inv-loop μ-loop
 target-value-requires c κs =
     let s = start (c .before) in
-    (s .pre .0, (s .pre .1 .0, (s .pre .1 .1 .0, (s .pre .1 .1 .1 .0, (s .pre .1 .1 .1 .1, left c)))))
+    (s .pre .0, record { vertex = s .pre .1; place = omega (arith, left c) })
 
 is-fit-requires : tie.Need-is-fit-requires Inv-loop μ-loop
 is-fit-requires c κs = search needs
@@ -76,7 +77,7 @@ returns : tie.Need-returns Inv-loop μ-loop
 returns c =
     let d = c .before in
     let a = d .before .before .before in
-    vertex-lacks (reads (start a)) (vertex (start a)) (a .loop .i) (a .loop .words) (left (d .before .before))
+    told-unfit (reads (start a)) (vertex (start a)) (a .loop .i) (a .loop .words) (left (d .before .before)) (a .loop .inv .1)
     (sym (tested d) ∙ not-true _ (c .if1 .taken))
 
 word-of-requires : tie.Need-word-of-requires Inv-loop μ-loop
@@ -115,7 +116,7 @@ returns-2 : tie.Need-returns-2 Inv-loop μ-loop
 returns-2 c =
     let a = c .before in
     let s = start a in
-    vertex-found (reads s) (vertex s) (a .loop .i) (a .loop .words)
+    told-fit (reads s) (vertex s) (a .loop .i) (a .loop .words)
     (omega (arith, c .loop-test .left, a .before .target-attribute-count .ensures .0)) (a .loop .inv .1) (a .loop .inv .2)
 
 pub vertex-words-spec : {M : Type 1} → statement M

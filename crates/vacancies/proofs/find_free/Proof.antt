@@ -28,7 +28,7 @@ abbrev start : tie.At-loop Inv-loop μ-loop → tie.Start Inv-loop μ-loop
 start a = a .before .before .before .before .before
 
 inside : (c : tie.In-loop Inv-loop μ-loop) → c .before .loop .j < sideCapacity
-inside c = omega (arith, start (c .before) .pre .1 .0 .source)
+inside c = omega (arith, start (c .before) .pre .patterns .source)
 
 -- what is read for source vertex j is its image, which is a slot
 read : (c : tie.In-loop Inv-loop μ-loop)
@@ -36,12 +36,12 @@ read : (c : tie.In-loop Inv-loop μ-loop)
     ≡ imageOf (start (c .before) .args .images .now) (c .before .loop .j)
 read c =
     let s = start (c .before) in
-    sym (image-at (s .args .images .now) (c .before .loop .j) (omega (arith, inside c, s .pre .1 .1 .0)))
+    sym (image-at (s .args .images .now) (c .before .loop .j) (omega (arith, inside c, s .pre .imageSize)))
 
 slot : (c : tie.In-loop Inv-loop μ-loop) → imageOf (start (c .before) .args .images .now) (c .before .loop .j) < 512
 slot c =
     let s = start (c .before) in
-    omega (arith, s .pre .1 .1 .1 (c .before .loop .j) (omega arith), s .pre .0 .slots)
+    omega (arith, s .pre .slots (c .before .loop .j) (omega arith), s .pre .table .slots)
 
 source-count-requires : tie.Need-source-count-requires Inv-loop μ-loop
 source-count-requires c κs = search needs

@@ -1,0 +1,34 @@
+-- What is looked at before a candidate's inputs are entered.
+-- Assumes nothing.
+use mathlib.Core.Bool.{Bool, cond, not, _&&_, _||_}
+use Prim.Native.Nat.{ℕ, suc}
+use lib.Dec.{eqb}
+use lib.ListN.{length}
+use Rattle.definitions.specs.Operators.{kindEmpty}
+use Rattle.definitions.specs.Graph.{Slot, Graph, slotOf, usesOf}
+use Rattle.definitions.specs.Rule.{Pattern, Rule, sourceOf}
+use Rattle.rule_uses.specs.Demands.{demandOf}
+use Rattle.match_look.specs.declared.Head.{Head}
+
+unfoldable pub slotHead : Slot → Head
+slotHead s = record { kind = s .kind; operator = s .operator; inputs = length (s .inputs); attributes = length (s .attributes) }
+
+unfoldable pub patternHead : Pattern ℕ → Head
+patternHead p = record { kind = p .kind; operator = p .operator; inputs = length (p .inputs); attributes = length (p .attributes) }
+
+-- A wildcard takes any slot that is not Empty; another pattern one of its kind, operator and counts.
+unfoldable pub headFits : Head → Head → Bool
+headFits pattern slot =
+    cond (eqb (pattern .kind) kindEmpty) (not (eqb (slot .kind) kindEmpty))
+    (eqb (slot .kind) (pattern .kind)
+    && eqb (slot .operator) (pattern .operator)
+    && eqb (slot .inputs) (pattern .inputs)
+    && eqb (slot .attributes) (pattern .attributes))
+
+-- a demand of 0 is none; another is one more than the uses that it allows
+unfoldable pub usesFit : ℕ → ℕ → Bool
+usesFit demand uses = eqb demand 0 || eqb demand (suc uses)
+
+-- slot v passes the look for source vertex j
+unfoldable pub isCandidate : Graph → Rule → ℕ → ℕ → Bool
+isCandidate g r j v = headFits (patternHead (sourceOf r j)) (slotHead (slotOf g v)) && usesFit (demandOf r j) (usesOf g v)

@@ -1,0 +1,2 @@
+pub mod Candidate
+pub mod Setting

@@ -1,0 +1,151 @@
+// What a node of an attribute expression gives for a map: a number of the old table or of the rule, or what an operation makes of its
+// operands' results.
+use arithmetic::combine;
+use definitions::FORM_ADD;
+use definitions::FORM_ANY;
+use definitions::FORM_CONSTANT;
+use definitions::NODE_LIMIT;
+use definitions::SIDE_CAPACITY;
+use fields::widened;
+use graph_fields::attribute_at;
+use graph_fields::attribute_count;
+use graph_fields::slot_count;
+use numbers::Value;
+use numbers::number;
+use rule_nodes::node_byte;
+use rule_nodes::node_form;
+use rule_nodes::node_number;
+ghost use mathlib.Core.Path.{_≡_};
+ghost use Prim.Native.Nat.{_<_};
+ghost use lib.ListN.{length};
+ghost use Rattle.definitions.specs.Graph.{graphOf};
+ghost use Rattle.definitions.specs.Rule.{sideCapacity, nodeCount};
+ghost use Rattle.definitions.specs.Match.{readAttribute};
+ghost use Rattle.numbers.specs.Value.{valueOf};
+ghost use Rattle.graph_fields.specs.Layout.{ReadableGraph};
+ghost use Rattle.match_values.specs.Evaluable.{NodeEvaluation, Leaf};
+ghost use Rattle.match_values.specs.Memo.{nodeResult, stateOf, magnitudeOf, remembered, Memo};
+
+// ---- results
+
+// Attribute place b, counted from 1, of the image of source vertex v; past the image's last there is none.
+fn read_attribute(graph: &[u8], images: &[u16; SIDE_CAPACITY], v: usize, b: usize) -> Value
+    requires { ⌜ ReadableGraph (now graph) ⌝ }
+    requires { ⌜ length (now images) ≡ sideCapacity ⌝ }
+    requires { ⌜ v < sideCapacity ⌝ }
+    ensures { λ r. ⌜ valueOf r ≡ readAttribute (graphOf (now (graph .entry))) (now (images .entry)) v b ⌝ }
+{
+    let image = widened(images[v]);
+    if slot_count(graph) <= image {
+        return Value::Nothing;
+    }
+    if b < 1 {
+        return Value::Nothing;
+    }
+    if attribute_count(graph, image) < b {
+        return Value::Nothing;
+    }
+    number(attribute_at(graph, image, b - 1))
+}
+
+// What node k gives where it is no operation.
+pub fn leaf_value(graph: &[u8], rule: &[u8], images: &[u16; SIDE_CAPACITY], k: usize) -> Value
+    requires { ⌜ NodeEvaluation (now graph) (now rule) (now images) ⌝ }
+    requires { ⌜ Leaf (now rule) k ⌝ }
+    ensures { λ r. ⌜ valueOf r ≡ nodeResult (now (graph .entry)) (now (rule .entry)) (now (images .entry)) k ⌝ }
+{
+    let form = node_form(rule, k);
+    if form == FORM_ANY {
+        return Value::Nothing;
+    }
+    if form == FORM_CONSTANT {
+        return number(node_number(rule, k));
+    }
+    let vertex = node_byte(rule, k, 1);
+    let place = node_byte(rule, k, 2);
+    read_attribute(graph, images, vertex, place)
+}
+
+// ---- results that are known
+
+// The result with that state and magnitude, which is known.
+fn recalled(state: u8, magnitude: u64) -> Value
+    ensures { λ r. ⌜ valueOf r ≡ remembered state magnitude ⌝ }
+{
+    if state == 1 {
+        return Value::Nothing;
+    }
+    if state == 2 {
+        return Value::Plus(magnitude);
+    }
+    Value::Minus(magnitude)
+}
+
+fn state_of(value: Value) -> u8
+    ensures { λ r. ⌜ r ≡ stateOf value ⌝ }
+{
+    match value {
+        Value::Nothing => 1,
+        Value::Plus(_) => 2,
+        Value::Minus(_) => 3,
+    }
+}
+
+fn magnitude_of(value: Value) -> u64
+    ensures { λ r. ⌜ r ≡ magnitudeOf value ⌝ }
+{
+    match value {
+        Value::Nothing => 0,
+        Value::Plus(n) => n,
+        Value::Minus(n) => n,
+    }
+}
+
+// ---- expressions
+
+// What node k gives. An operation's result is remembered, so that each operation is worked out once, however many nodes name it:
+// without that, the time could double with every node. A state of 0 says that the node's result is not known.
+fn node_value(
+    graph: &[u8],
+    rule: &[u8],
+    images: &[u16; SIDE_CAPACITY],
+    k: usize,
+    states: &mut [u8; NODE_LIMIT],
+    magnitudes: &mut [u64; NODE_LIMIT],
+) -> Value
+    requires { ⌜ NodeEvaluation (now graph) (now rule) (now images) ⌝ }
+    requires { ⌜ k < nodeCount (now rule) ⌝ }
+    requires { ⌜ Memo (now graph) (now rule) (now images) (now states) (now magnitudes) ⌝ }
+    ensures { λ r. ⌜ valueOf r ≡ nodeResult (now (graph .entry)) (now (rule .entry)) (now (images .entry)) k ⌝ }
+    ensures { λ r. ⌜ Memo (now (graph .entry)) (now (rule .entry)) (now (images .entry)) (now (states .exit)) (now (magnitudes .exit)) ⌝ }
+{
+    if states[k] != 0 {
+        return recalled(states[k], magnitudes[k]);
+    }
+    let form = node_form(rule, k);
+    if form < FORM_ADD {
+        return leaf_value(graph, rule, images, k);
+    }
+    let left = node_byte(rule, k, 1);
+    let right = node_byte(rule, k, 2);
+    let first = node_value(graph, rule, images, left, states, magnitudes);
+    let second = node_value(graph, rule, images, right, states, magnitudes);
+    let value = combine(form, first, second);
+    let state = state_of(value);
+    let magnitude = magnitude_of(value);
+    states[k] = state;
+    magnitudes[k] = magnitude;
+    // Not `value` itself, which was measured to be slower (docs/PERFORMANCE.md, "What changed it").
+    recalled(state, magnitude)
+}
+
+// What node k gives where it is an operation: nothing is known before.
+pub fn operation_value(graph: &[u8], rule: &[u8], images: &[u16; SIDE_CAPACITY], k: usize) -> Value
+    requires { ⌜ NodeEvaluation (now graph) (now rule) (now images) ⌝ }
+    requires { ⌜ k < nodeCount (now rule) ⌝ }
+    ensures { λ r. ⌜ valueOf r ≡ nodeResult (now (graph .entry)) (now (rule .entry)) (now (images .entry)) k ⌝ }
+{
+    let mut states = [0u8; NODE_LIMIT];
+    let mut magnitudes = [0u64; NODE_LIMIT];
+    node_value(graph, rule, images, k, &mut states, &mut magnitudes)
+}

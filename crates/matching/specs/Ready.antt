@@ -1,0 +1,43 @@
+-- What each function of the walk asks of the lent blocks and of the images so far.
+-- Assumes nothing.
+use mathlib.Core.Path.{_≡_}
+use mathlib.Core.Bool.{true}
+use mathlib.Core.List.{List, [], _∷_}
+use Prim.Native.Nat.{ℕ, _<_, _≤_}
+use lib.ListN.{length, drop}
+use Rattle.definitions.specs.Graph.{slotCount, graphOf, inputsOf}
+use Rattle.definitions.specs.Rule.{sourceCount, ruleOf, sourceInputs}
+use Rattle.graph_fields.specs.Layout.{ReadableGraph}
+use Rattle.rule_order.specs.InOrder.{InOrder}
+use Rattle.match_look.specs.Candidate.{isCandidate}
+use Rattle.match_look.specs.Setting.{Matchable, Setting}
+use Rattle.matching.specs.Partial.{Partial, SendsInputs}
+
+-- source vertex j is the next, its inputs have the inputs of slot v as their images, and v passed the look
+pub record SettleReady (graph rule : List ℕ) (j v : ℕ) (images : List ℕ) : Type 0 where
+  pub readable : ReadableGraph graph
+  pub matchable : Matchable rule
+  pub vertex : j < sourceCount rule
+  pub slot : v < slotCount graph
+  pub candidate : isCandidate (graphOf graph) (ruleOf rule) j v ≡ true
+  pub partial : Partial (graphOf graph) (ruleOf rule) j images
+  pub inputs : SendsInputs (graphOf graph) (ruleOf rule) j v 0 images
+
+-- the first `next` source vertices have their images, and the traversal goes on with vertex j
+pub record VertexReady (graph rule used demanded : List ℕ) (j v next : ℕ) (images : List ℕ) : Type 0 where
+  pub setting : Setting graph rule used demanded
+  pub vertex : j < sourceCount rule
+  pub slot : v < slotCount graph
+  pub partial : Partial (graphOf graph) (ruleOf rule) next images
+  pub order : InOrder (ruleOf rule) next (j ∷ [])
+
+-- the first `next` source vertices have their images, and the traversal goes on with the inputs of vertex j from place i on; slot v
+-- has an input for each of them
+pub record InputsReady (graph rule used demanded : List ℕ) (j v i next : ℕ) (images : List ℕ) : Type 0 where
+  pub setting : Setting graph rule used demanded
+  pub vertex : j < sourceCount rule
+  pub slot : v < slotCount graph
+  pub place : i ≤ length (sourceInputs (ruleOf rule) j)
+  pub counts : length (sourceInputs (ruleOf rule) j) ≤ length (inputsOf (graphOf graph) v)
+  pub partial : Partial (graphOf graph) (ruleOf rule) next images
+  pub order : InOrder (ruleOf rule) next (drop i (sourceInputs (ruleOf rule) j))

@@ -1,0 +1,3 @@
+pub mod Same
+pub mod Stages
+pub mod Replies

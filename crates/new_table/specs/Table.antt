@@ -1,0 +1,12 @@
+-- The table that is written.
+-- Assumes nothing.
+use mathlib.Core.List.{List}
+use Prim.Native.Nat.{ℕ}
+use Rattle.definitions.specs.Graph.{Graph, graphOf}
+use Rattle.definitions.specs.Rule.{ruleOf}
+use Rattle.definitions.specs.Rewriting.{newGraph}
+use Rattle.new_records.specs.Slots.{valuesOf, fitResults}
+
+-- the table that a rewriting of the block would leave
+unfoldable pub newTable : List ℕ → List ℕ → List ℕ → Graph
+newTable graph rule images = newGraph (graphOf graph) (ruleOf rule) images (valuesOf (fitResults graph rule images))

@@ -1,3 +1,0 @@
-pub mod Values
-pub mod Slots
-pub mod Sound

@@ -1,3 +1,0 @@
-pub mod Sums
-pub mod Laws
-pub mod Inside
