@@ -3,18 +3,24 @@
 use mathlib.Core.Path.{_≡_, subst}
 use mathlib.Core.List.{List}
 use Prim.Native.Nat.{ℕ}
-use Rattle.definitions.specs.Reply.{numberIn}
+use native.Mathlib.Omega.{arith}
+use Rattle.definitions.specs.Reply.{numberIn, placeIn, valueIn}
 use Rattle.definitions.specs.Graph.{graphOf}
 use Rattle.definitions.specs.Rule.{sourceCount, ruleOf}
 use Rattle.definitions.specs.Results.{Meaning}
 use Rattle.answers.specs.Written.{imagesIn}
 use Rattle.answers.specs.Rewritten.{Due}
-use Rattle.answers.specs.Statements.{CheckedGraph, CheckedRule, Searched, Rewrote, GraphVerdict, RuleVerdict, MatchReplies, Yields, RewriteReplies, Demand3}
+use Rattle.answers.specs.Statements.{WithoutPlace, CheckedGraph, CheckedRule, Searched, Rewrote, GraphVerdict, RuleVerdict, MatchReplies, Yields, RewriteReplies, Demand3}
 use Rattle.answers.proofs.Blocks.{graph-verdict, rule-verdict}
 use Rattle.answers.proofs.Matching.{match-replies}
 use Rattle.answers.proofs.Rewriting.{block-replies, due, replied, one-of-eight, refusal-keeps, written}
 use Rattle.answers.proofs.Demands.{yields-sound, yields-table, demand-3}
 use Rattle.answers.proofs.Unchanged.{keeps-record}
+
+-- A reply without a place and a value is its number, so what is said of `numberIn reply` is said of all that the C side gets.
+pub whole-word : (reply : ℕ) → WithoutPlace reply → reply ≡ numberIn reply
+unfolding numberIn placeIn valueIn
+whole-word reply plain = omega (arith, plain .place, plain .value)
 
 -- lg_check_graph
 pub checked-graph : (graph : List ℕ) (reply : ℕ) → CheckedGraph graph reply → GraphVerdict graph reply
