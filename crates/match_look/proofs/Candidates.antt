@@ -21,7 +21,7 @@ use Rattle.laws.proofs.Rule.{source-reader, length-source}
 use Rattle.rule_uses.specs.Demands.{demandOf}
 use Rattle.theory.proofs.Inside.{private-uses}
 use Rattle.match_look.specs.declared.Head.{Head}
-use Rattle.match_look.specs.Candidate.{slotHead, patternHead, headFits, usesFit, isCandidate}
+use Rattle.match_look.specs.Candidate.{slotHead, patternHead, headFits, usesFit, passesLook, isCandidate}
 use Rattle.match_look.specs.Setting.{Matchable}
 
 -- ---- the four numbers
@@ -101,19 +101,23 @@ demand-left demand uses h = ⊎-elim
 
 -- ---- the look, from the numbers that the code reads
 
-module _ (g : Graph) (r : Rule) (j v : ℕ) (p s : Head) (fit : Bool) (ep : p ≡ patternHead (sourceOf r j))
-    (es : s ≡ slotHead (slotOf g v)) (ef : fit ≡ headFits p s) where
-  looked : headFits (patternHead (sourceOf r j)) (slotHead (slotOf g v)) ≡ fit
-  looked = rw (ef, ep, es)
+module _ (g : Graph) (v : ℕ) (p s : Head) (demand : ℕ) (fit : Bool) (es : s ≡ slotHead (slotOf g v)) (ef : fit ≡ headFits p s) where
+  looked : headFits p (slotHead (slotOf g v)) ≡ fit
+  looked = rw (ef, es)
 
-  pub look-fails : fit ≡ false → false ≡ isCandidate g r j v
-  unfolding isCandidate
+  pub look-fails : fit ≡ false → false ≡ passesLook p demand g v
+  unfolding passesLook
   look-fails f = simp (looked, f)
 
-  pub look-passes : fit ≡ true → (b : Bool) (demand uses : ℕ) → b ≡ usesFit demand uses → demand ≡ demandOf r j → uses ≡ usesOf g v
-      → b ≡ isCandidate g r j v
-  unfolding isCandidate
-  look-passes t b demand uses e d u = rw (looked, t, ← d, ← u) e
+  pub look-passes : fit ≡ true → (b : Bool) (uses : ℕ) → b ≡ usesFit demand uses → uses ≡ usesOf g v → b ≡ passesLook p demand g v
+  unfolding passesLook
+  look-passes t b uses e u = rw (looked, t, ← u) e
+
+-- the look for source vertex j, by its head and its demand
+pub candidate-look : (g : Graph) (r : Rule) (j v : ℕ) (head : Head) (demand : ℕ) → head ≡ patternHead (sourceOf r j)
+    → demand ≡ demandOf r j → passesLook head demand g v ≡ isCandidate g r j v
+unfolding isCandidate
+candidate-look g r j v head demand h d = rw (h, d)
 
 -- ---- a rule that can be matched
 
@@ -148,11 +152,11 @@ wild-input r j l e = simp (lt-ltb j (length (r .source)) l, eq-eqb (sourceOf r j
 
 module _ (g : Graph) (r : Rule) (j v : ℕ) (fits : isCandidate g r j v ≡ true) where
   head : headFits (patternHead (sourceOf r j)) (slotHead (slotOf g v)) ≡ true
-  unfolding isCandidate
+  unfolding isCandidate passesLook
   head = and-left (headFits (patternHead (sourceOf r j)) (slotHead (slotOf g v))) (usesFit (demandOf r j) (usesOf g v)) fits
 
   uses : usesFit (demandOf r j) (usesOf g v) ≡ true
-  unfolding isCandidate
+  unfolding isCandidate passesLook
   uses = and-right (headFits (patternHead (sourceOf r j)) (slotHead (slotOf g v))) (usesFit (demandOf r j) (usesOf g v)) fits
 
   pub candidate-same : (sourceOf r j .kind ≡ kindEmpty → ⊥) → SameHead (patternHead (sourceOf r j)) (slotHead (slotOf g v))
@@ -229,5 +233,5 @@ module _ (g : Graph) (r : Rule) (f : Formed r) (whole : List ℕ) (m : Match g r
         (decided (isInterior r j))
 
     pub match-candidate : (v : ℕ) → imageOf whole j ≡ v → isCandidate g r j v ≡ true
-    unfolding isCandidate
+    unfolding isCandidate passesLook
     match-candidate v e = rw (← e) (simp (match-head, match-uses))

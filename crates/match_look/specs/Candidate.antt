@@ -29,6 +29,10 @@ headFits pattern slot =
 unfoldable pub usesFit : ℕ → ℕ → Bool
 usesFit demand uses = eqb demand 0 || eqb demand (suc uses)
 
+-- slot v passes the look for a vertex with that head and that demand
+unfoldable pub passesLook : Head → ℕ → Graph → ℕ → Bool
+passesLook head demand g v = headFits head (slotHead (slotOf g v)) && usesFit demand (usesOf g v)
+
 -- slot v passes the look for source vertex j
 unfoldable pub isCandidate : Graph → Rule → ℕ → ℕ → Bool
-isCandidate g r j v = headFits (patternHead (sourceOf r j)) (slotHead (slotOf g v)) && usesFit (demandOf r j) (usesOf g v)
+isCandidate g r j v = passesLook (patternHead (sourceOf r j)) (demandOf r j) g v

@@ -24,15 +24,19 @@ pub record Matchable (block : List ℕ) : Type 0 where
   pub below : (j i : ℕ) → j < sourceCount block → i < length (sourceOf (ruleOf block) j .attributes)
       → accessesBelow j (getD (sourceOf (ruleOf block) j .attributes) i anything) ≡ true
 
+-- how often each slot is named
+abbrev pub UsesCounted : List ℕ → List ℕ → Type 0
+UsesCounted graph used = (length used ≡ slotLimit) × ((v : ℕ) → v < slotCount graph → getD used v 0 ≡ usesOf (graphOf graph) v)
+
 pub record Setting (graph rule used demanded : List ℕ) : Type 0 where
   pub readable : ReadableGraph graph
   pub closed : Closed graph
   pub matchable : Matchable rule
-  pub uses : (length used ≡ slotLimit) × ((v : ℕ) → v < slotCount graph → getD used v 0 ≡ usesOf (graphOf graph) v)
+  pub uses : UsesCounted graph used
   pub demands : (length demanded ≡ sideCapacity) × ((j : ℕ) → j < sourceCount rule → getD demanded j 0 ≡ demandOf (ruleOf rule) j)
 
--- a source vertex, and a slot that may be its image
-pub record PairReady (graph rule used demanded : List ℕ) (j v : ℕ) : Type 0 where
-  pub setting : Setting graph rule used demanded
-  pub vertex : j < sourceCount rule
+-- a slot that is looked at
+pub record LookReady (graph used : List ℕ) (v : ℕ) : Type 0 where
+  pub readable : ReadableGraph graph
+  pub uses : UsesCounted graph used
   pub slot : v < slotCount graph

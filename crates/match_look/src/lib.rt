@@ -1,7 +1,6 @@
 // The look at a candidate before its inputs are entered: what can be told from its own record and from how often it is named. It turns
 // away most candidates.
 use definitions::KIND_EMPTY;
-use definitions::SIDE_CAPACITY;
 use definitions::SLOT_LIMIT;
 use graph_fields::attribute_count;
 use graph_fields::input_count;
@@ -17,8 +16,8 @@ ghost use Rattle.definitions.specs.Graph.{slotCount, graphOf, slotOf};
 ghost use Rattle.definitions.specs.Rule.{sourceCount, ruleOf, sourceOf};
 ghost use Rattle.graph_fields.specs.Layout.{ReadableGraph};
 ghost use Rattle.rule_fields.specs.Layout.{ReadableRule};
-ghost use Rattle.match_look.specs.Candidate.{slotHead, patternHead, headFits, usesFit, isCandidate};
-ghost use Rattle.match_look.specs.Setting.{PairReady};
+ghost use Rattle.match_look.specs.Candidate.{slotHead, patternHead, headFits, usesFit, passesLook};
+ghost use Rattle.match_look.specs.Setting.{LookReady};
 
 // What a record says of itself in four numbers. A look at these is cheap, and turns away most candidates.
 pub struct Head {
@@ -85,20 +84,19 @@ fn uses_fit(demand: u16, uses: u16) -> bool
     demand - 1 == uses
 }
 
-// Whether slot v can be the image of source vertex j, by what can be told without entering its inputs.
-pub fn is_candidate(
+// Whether slot v can be the image of a source vertex with that head and that demand, by what can be told without entering its inputs.
+pub fn passes_look(
     graph: &[u8],
-    rule: &[u8],
     uses: &[u16; SLOT_LIMIT],
-    demands: &[u16; SIDE_CAPACITY],
-    j: usize,
+    head: Head,
+    demand: u16,
     v: usize,
 ) -> bool
-    requires { ⌜ PairReady (now graph) (now rule) (now uses) (now demands) j v ⌝ }
-    ensures { λ r. ⌜ r ≡ isCandidate (graphOf (now (graph .entry))) (ruleOf (now (rule .entry))) j v ⌝ }
+    requires { ⌜ LookReady (now graph) (now uses) v ⌝ }
+    ensures { λ r. ⌜ r ≡ passesLook head demand (graphOf (now (graph .entry))) v ⌝ }
 {
-    if !head_fits(pattern_head(rule, j), slot_head(graph, v)) {
+    if !head_fits(head, slot_head(graph, v)) {
         return false;
     }
-    uses_fit(demands[j], uses[v])
+    uses_fit(demand, uses[v])
 }

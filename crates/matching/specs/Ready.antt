@@ -6,10 +6,11 @@ use mathlib.Core.List.{List, [], _∷_}
 use Prim.Native.Nat.{ℕ, _<_, _≤_}
 use lib.ListN.{length, drop}
 use Rattle.definitions.specs.Graph.{slotCount, graphOf, inputsOf}
-use Rattle.definitions.specs.Rule.{sourceCount, ruleOf, sourceInputs}
+use Rattle.definitions.specs.Rule.{sourceCount, ruleOf, sourceOf, sourceInputs}
 use Rattle.graph_fields.specs.Layout.{ReadableGraph}
 use Rattle.rule_order.specs.InOrder.{InOrder}
-use Rattle.match_look.specs.Candidate.{isCandidate}
+use Rattle.match_look.specs.Candidate.{patternHead, isCandidate}
+use Rattle.match_look.specs.declared.Head.{Head}
 use Rattle.match_look.specs.Setting.{Matchable, Setting}
 use Rattle.matching.specs.Partial.{Partial, SendsInputs}
 
@@ -23,9 +24,10 @@ pub record SettleReady (graph rule : List ℕ) (j v : ℕ) (images : List ℕ) :
   pub partial : Partial (graphOf graph) (ruleOf rule) j images
   pub inputs : SendsInputs (graphOf graph) (ruleOf rule) j v 0 images
 
--- the first `next` source vertices have their images, and the traversal goes on with vertex j
-pub record VertexReady (graph rule used demanded : List ℕ) (j v next : ℕ) (images : List ℕ) : Type 0 where
+-- the first `next` source vertices have their images, and the traversal goes on with vertex j, whose head is read
+pub record VertexReady (graph rule used demanded : List ℕ) (head : Head) (j v next : ℕ) (images : List ℕ) : Type 0 where
   pub setting : Setting graph rule used demanded
+  pub read : head ≡ patternHead (sourceOf (ruleOf rule) j)
   pub vertex : j < sourceCount rule
   pub slot : v < slotCount graph
   pub partial : Partial (graphOf graph) (ruleOf rule) next images

@@ -6,7 +6,9 @@ use definitions::SLOT_LIMIT;
 use fields::greater;
 use fields::widened;
 use graph_fields::input_at;
-use match_look::is_candidate;
+use match_look::Head;
+use match_look::passes_look;
+use match_look::pattern_head;
 use rule_fields::source_input;
 use rule_fields::source_input_count;
 ghost use mathlib.Core.Path.{_≡_};
@@ -64,26 +66,27 @@ fn is_image(images: &[u16; SIDE_CAPACITY], j: usize, v: usize) -> bool
     widened(images[j]) == v
 }
 
-// Matches source vertex j with slot v, its inputs first. A vertex that has its image is compared, not entered again. Where it
-// succeeds, the images are those of the first `next` vertices and of all up to j.
+// Matches source vertex j, whose head is given, with slot v, its inputs first. A vertex that has its image is compared, not entered
+// again. Where it succeeds, the images are those of the first `next` vertices and of all up to j.
 pub fn match_vertex(
     graph: &[u8],
     rule: &[u8],
     uses: &[u16; SLOT_LIMIT],
     demands: &[u16; SIDE_CAPACITY],
+    head: Head,
     j: usize,
     v: usize,
     next: usize,
     images: &mut [u16; SIDE_CAPACITY],
 ) -> bool
-    requires { ⌜ VertexReady (now graph) (now rule) (now uses) (now demands) j v next (now images) ⌝ }
+    requires { ⌜ VertexReady (now graph) (now rule) (now uses) (now demands) head j v next (now images) ⌝ }
     ensures { λ r. ⌜ Step (graphOf (now (graph .entry))) (ruleOf (now (rule .entry))) next (now (images .entry)) (Sends j v)
         (max next (suc j)) r (now (images .exit)) ⌝ }
 {
     if j < next {
         return is_image(images, j, v);
     }
-    if !is_candidate(graph, rule, uses, demands, j, v) {
+    if !passes_look(graph, uses, head, demands[j], v) {
         return false;
     }
     if !match_inputs(graph, rule, uses, demands, j, v, 0, next, images) {
@@ -114,7 +117,8 @@ fn match_inputs(
     }
     let u = source_input(rule, j, i);
     let w = input_at(graph, v, i);
-    if !match_vertex(graph, rule, uses, demands, u, w, next, images) {
+    let head = pattern_head(rule, u);
+    if !match_vertex(graph, rule, uses, demands, head, u, w, next, images) {
         return false;
     }
     let reached = greater(next, u + 1);

@@ -5,6 +5,7 @@ use definitions::SLOT_LIMIT;
 use definitions::UNUSED_PLACE;
 use graph_fields::slot_count;
 use graph_uses::count_uses;
+use match_look::pattern_head;
 use matching::match_vertex;
 use rule_fields::output_count;
 use rule_fields::source_output;
@@ -40,19 +41,41 @@ fn search(
     let outputs = output_count(rule);
     let root = source_output(rule, 0);
     let last = source_output(rule, outputs - 1);
+    let root_head = pattern_head(rule, root);
+    let last_head = pattern_head(rule, last);
     let next = root + 1;
     let mut images = [UNUSED_PLACE; SIDE_CAPACITY];
     let mut found = false;
     let mut first = start;
     'search: while first < slots {
-        if match_vertex(graph, rule, uses, demands, root, first, 0, &mut images) {
+        if match_vertex(
+            graph,
+            rule,
+            uses,
+            demands,
+            root_head,
+            root,
+            first,
+            0,
+            &mut images,
+        ) {
             if outputs == 1 {
                 found = true;
                 break 'search;
             }
             let mut second = 0;
             while second < slots {
-                if match_vertex(graph, rule, uses, demands, last, second, next, &mut images) {
+                if match_vertex(
+                    graph,
+                    rule,
+                    uses,
+                    demands,
+                    last_head,
+                    last,
+                    second,
+                    next,
+                    &mut images,
+                ) {
                     found = true;
                     break 'search;
                 }

@@ -4,6 +4,7 @@ use mathlib.Core.Path.{_≡_, sym, _∙_}
 use mathlib.Core.Bool.{true}
 use Prim.Native.Nat.{ℕ, suc, _+_, _-_, _*_, _<_, max}
 use native.Mathlib.Omega.{arith}
+use borrow.Author.Needs.{needs}
 use borrow.Author.Tests.{not-true, not-false}
 use borrow.Fn.Kinds.{In}
 use borrow.Fn.PlainCycle.{Measures, is, falls, and}
@@ -14,7 +15,7 @@ use Rattle.laws.proofs.Rule.{length-source}
 use Rattle.rule_order.specs.InOrder.{visitedAfter}
 use Rattle.rule_order.proofs.InOrder.{in-order-inputs, in-order-here}
 use Rattle.match_look.specs.Candidate.{isCandidate}
-use Rattle.match_look.proofs.Candidates.{Formed, formed, candidate-inputs}
+use Rattle.match_look.proofs.Candidates.{Formed, formed, candidate-look, candidate-inputs}
 use Rattle.laws.proofs.Match.{image-at}
 use Rattle.matching.proofs.Steps.{mapped, no-candidate, inputs-fail, inputs-pass, inputs-done, input-in-order, others-in-order, input-fails, input-passes}
 use Rattle.matching.proofs.match_inputs.Reads as match-inputs
@@ -24,7 +25,8 @@ use Rattle.matching.proofs.match_vertex.Reads as match-vertex
 use Rattle.matching.proofs.match_vertex.Kinds as match-vertex-kinds
 use Rattle.matching.proofs.+match_inputs+match_vertex.Lts-match_vertex as match-vertex-lts
 use Rattle.graph_fields.proofs.input_at.Reads as input-at-reads
-use Rattle.match_look.proofs.is_candidate.Reads as is-candidate-reads
+use Rattle.match_look.proofs.passes_look.Reads as passes-look-reads
+use Rattle.match_look.proofs.pattern_head.Reads as pattern-head-reads
 use Rattle.matching.proofs.is_image.Reads as is-image-reads
 use Rattle.matching.proofs.settle.Reads as settle-reads
 use Rattle.fields.proofs.greater.Reads as greater-reads
@@ -37,7 +39,7 @@ abbrev μ-match-inputs : Measures 5 match-inputs-kinds.ps ℕ
 μ-match-inputs κs a = a .1 .1 .1 .1 .0 * 8 + (6 - a .1 .1 .1 .1 .1 .1 .0)
 
 abbrev μ-match-vertex : Measures 5 match-vertex-kinds.ps ℕ
-μ-match-vertex κs a = a .1 .1 .1 .1 .0 * 8 + 7
+μ-match-vertex κs a = a .1 .1 .1 .1 .1 .0 * 8 + 7
 
 -- what each is given at the measure t, and what a call of it asks below t
 abbrev match-inputs-at : ℕ → In 5 match-inputs-kinds.ps
@@ -73,6 +75,8 @@ match-inputs-calls t = (
   source-input-reads.Learnt,
   input-at-reads.Asked,
   input-at-reads.Learnt,
+  pattern-head-reads.Asked,
+  pattern-head-reads.Learnt,
   match-vertex-below t,
   match-vertex.Post,
   greater-reads.Asked,
@@ -85,8 +89,8 @@ abbrev match-vertex-calls : ℕ → match-vertex-lts.Claims
 match-vertex-calls t = (
   is-image-reads.Asked,
   is-image-reads.Learnt,
-  is-candidate-reads.Asked,
-  is-candidate-reads.Learnt,
+  passes-look-reads.Asked,
+  passes-look-reads.Learnt,
   match-inputs-below t,
   match-inputs.Post,
   settle-reads.Asked,
@@ -149,10 +153,17 @@ match-inputs-input-at-requires t c κs =
     let s = c .before .before .before .before .before in
     (s .pre .1 .setting .readable, (s .pre .1 .slot, also t (c .before)))
 
+match-inputs-pattern-head-requires : (t : ℕ)
+    → match-inputs-lts.Need-pattern-head-requires (match-inputs-calls t) (match-inputs-at t) match-inputs.Post
+match-inputs-pattern-head-requires t c κs =
+    let s = c .before .before .before .before .before .before in
+    (s .pre .1 .setting .matchable .readable, omega (arith, lower t (c .before), s .pre .1 .vertex))
+
 match-inputs-match-vertex-requires : (t : ℕ)
     → match-inputs-lts.Need-match-vertex-requires (match-inputs-calls t) (match-inputs-at t) match-inputs.Post
 match-inputs-match-vertex-requires t c κs =
-    let n = c .before in
+    let h = c .before in
+    let n = h .before in
     let e = n .before in
     let s = e .before .before .before .before .before in
     let down = lower t e in
@@ -161,13 +172,20 @@ match-inputs-match-vertex-requires t c κs =
     (s .args .next) (s .pre .1 .order) in
     let falls = few t (e .before) in (
       omega arith,
-      record { setting = s .pre .1 .setting; vertex = omega arith; slot = named t n; partial = s .pre .1 .partial; order = order },
+      record {
+        setting = s .pre .1 .setting;
+        read = h .pattern-head .ensures;
+        vertex = omega arith;
+        slot = named t n;
+        partial = s .pre .1 .partial;
+        order = order;
+      },
     )
 
 match-inputs-returns-2 : (t : ℕ) → match-inputs-lts.Need-returns-2 (match-inputs-calls t) (match-inputs-at t) match-inputs.Post
 match-inputs-returns-2 t c =
     let d = c .before in
-    let n = d .before .before in
+    let n = d .before .before .before in
     let e = n .before in
     let s = e .before .before .before .before .before in
     input-fails (graphOf (s .args .graph .now)) (ruleOf (s .args .rule .now)) (s .args .j) (s .args .v) (s .args .i)
@@ -177,7 +195,7 @@ match-inputs-returns-2 t c =
 match-inputs-add-greater : (t : ℕ)
     → match-inputs-lts.Need-add-greater (match-inputs-calls t) (match-inputs-at t) match-inputs.Post
 match-inputs-add-greater t c =
-    let e = c .before .before .before .before in
+    let e = c .before .before .before .before .before in
     let s = e .before .before .before .before .before in
     omega (arith, lower t e, s .pre .1 .vertex, s .pre .1 .setting .matchable .readable .whole .source)
 
@@ -187,20 +205,20 @@ match-inputs-greater-requires t c κs = tt
 
 -- how many images there are once the input is matched
 reached : (t : ℕ) (c : match-inputs-lts.After-greater (match-inputs-calls t) (match-inputs-at t) match-inputs.Post)
-    → let e = c .before .before .before .before .before in
+    → let e = c .before .before .before .before .before .before in
     c .greater .result ≡ max (e .before .before .before .before .before .args .next) (suc (e .source-input .result))
 reached t c = omega (arith, c .greater .ensures)
 
 match-inputs-add-match-inputs : (t : ℕ)
     → match-inputs-lts.Need-add-match-inputs (match-inputs-calls t) (match-inputs-at t) match-inputs.Post
-match-inputs-add-match-inputs t c = omega (arith, few t (c .before .before .before .before .before .before))
+match-inputs-add-match-inputs t c = omega (arith, few t (c .before .before .before .before .before .before .before))
 
 match-inputs-match-inputs-requires : (t : ℕ)
     → match-inputs-lts.Need-match-inputs-requires (match-inputs-calls t) (match-inputs-at t) match-inputs.Post
 match-inputs-match-inputs-requires t c κs =
     let x = c .before in
     let d = x .before .before in
-    let n = d .before .before in
+    let n = d .before .before .before in
     let e = n .before in
     let s = e .before .before .before .before .before in
     let order = others-in-order (graphOf (s .args .graph .now)) (ruleOf (s .args .rule .now)) (s .args .j) (s .args .v) (s .args .i)
@@ -225,7 +243,7 @@ match-inputs-returns-3 : (t : ℕ) → match-inputs-lts.Need-returns-3 (match-in
 match-inputs-returns-3 t c =
     let x = c .before .before in
     let d = x .before .before in
-    let n = d .before .before in
+    let n = d .before .before .before in
     let e = n .before in
     let s = e .before .before .before .before .before in
     input-passes (graphOf (s .args .graph .now)) (ruleOf (s .args .rule .now)) (s .args .j) (s .args .v) (s .args .i)
@@ -246,10 +264,20 @@ inside t s = rw (length-source (s .args .rule .now)) (s .pre .1 .vertex)
 place : (t : ℕ) (s : VertexStart t) → s .args .j < sideCapacity
 place t s = omega (arith, s .pre .1 .vertex, s .pre .1 .setting .matchable .readable .whole .source)
 
-candidate : (t : ℕ) (c : match-vertex-lts.Else2 (match-vertex-calls t) (match-vertex-at t) match-vertex.Post)
+-- what the look says, by the head and the demand of the source vertex
+looked : (t : ℕ) (c : match-vertex-lts.After-passes-look (match-vertex-calls t) (match-vertex-at t) match-vertex.Post)
     → let a = c .before .before .before .before .before .args in
+    c .passes-look .result ≡ isCandidate (graphOf (a .graph .now)) (ruleOf (a .rule .now)) (a .j) (a .v)
+looked t c =
+    let s = c .before .before .before .before .before in
+    c .passes-look .ensures ∙ candidate-look (graphOf (s .args .graph .now)) (ruleOf (s .args .rule .now)) (s .args .j) (s .args .v)
+    (s .args .head) (getD (s .args .demands .now) (s .args .j) 0) (s .pre .1 .read)
+    (s .pre .1 .setting .demands .1 (s .args .j) (s .pre .1 .vertex))
+
+candidate : (t : ℕ) (c : match-vertex-lts.Else2 (match-vertex-calls t) (match-vertex-at t) match-vertex.Post)
+    → let a = c .before .before .before .before .before .before .args in
     isCandidate (graphOf (a .graph .now)) (ruleOf (a .rule .now)) (a .j) (a .v) ≡ true
-candidate t c = sym (c .before .is-candidate .ensures) ∙ not-false _ (c .if2 .left)
+candidate t c = sym (looked t (c .before)) ∙ not-false _ (c .if2 .left)
 
 -- once the inputs are matched, the vertex itself is the next
 next-is : (t : ℕ) (e : match-vertex-lts.Else1 (match-vertex-calls t) (match-vertex-at t) match-vertex.Post)
@@ -276,23 +304,31 @@ match-vertex-returns t c =
     (mapped (graphOf (s .args .graph .now)) (ruleOf (s .args .rule .now)) (s .args .next) images p j (s .args .v) (getD images j 0)
     (image-at images j (omega (arith, p .size, place t s))) (d .if1 .taken))
 
-match-vertex-is-candidate-requires : (t : ℕ)
-    → match-vertex-lts.Need-is-candidate-requires (match-vertex-calls t) (match-vertex-at t) match-vertex.Post
-match-vertex-is-candidate-requires t c κs =
-    let s = c .before .before .before in
-    record { setting = s .pre .1 .setting; vertex = s .pre .1 .vertex; slot = s .pre .1 .slot }
+match-vertex-mul-passes-look : (t : ℕ)
+    → match-vertex-lts.Need-mul-passes-look (match-vertex-calls t) (match-vertex-at t) match-vertex.Post
+match-vertex-mul-passes-look t c = search needs
+
+match-vertex-element-copy-out-passes-look : (t : ℕ)
+    → match-vertex-lts.Need-element-copy-out-passes-look (match-vertex-calls t) (match-vertex-at t) match-vertex.Post
+match-vertex-element-copy-out-passes-look t c = search needs
+
+match-vertex-passes-look-requires : (t : ℕ)
+    → match-vertex-lts.Need-passes-look-requires (match-vertex-calls t) (match-vertex-at t) match-vertex.Post
+match-vertex-passes-look-requires t c κs =
+    let s = c .before .before .before .before in
+    record { readable = s .pre .1 .setting .readable; uses = s .pre .1 .setting .uses; slot = s .pre .1 .slot }
 
 match-vertex-returns-2 : (t : ℕ) → match-vertex-lts.Need-returns-2 (match-vertex-calls t) (match-vertex-at t) match-vertex.Post
 match-vertex-returns-2 t c =
     let d = c .before in
-    let s = d .before .before .before .before in
+    let s = d .before .before .before .before .before in
     no-candidate (graphOf (s .args .graph .now)) (ruleOf (s .args .rule .now)) (well t s) (s .args .j) (s .args .v) (inside t s)
-    (s .pre .1 .partial .size) (sym (d .is-candidate .ensures) ∙ not-true _ (c .if2 .taken))
+    (s .pre .1 .partial .size) (sym (looked t d) ∙ not-true _ (c .if2 .taken))
 
 match-vertex-match-inputs-requires : (t : ℕ)
     → match-vertex-lts.Need-match-inputs-requires (match-vertex-calls t) (match-vertex-at t) match-vertex.Post
 match-vertex-match-inputs-requires t c κs =
-    let e = c .before .before .before in
+    let e = c .before .before .before .before in
     let s = e .before .before .before in
     let counts = candidate-inputs (graphOf (s .args .graph .now)) (ruleOf (s .args .rule .now)) (well t s) (s .args .j) (s .args .v)
     (inside t s) (candidate t (c .before)) in
@@ -313,7 +349,7 @@ match-vertex-match-inputs-requires t c κs =
 match-vertex-returns-3 : (t : ℕ) → match-vertex-lts.Need-returns-3 (match-vertex-calls t) (match-vertex-at t) match-vertex.Post
 match-vertex-returns-3 t c =
     let d = c .before in
-    let s = d .before .before .before .before .before .before .before in
+    let s = d .before .before .before .before .before .before .before .before in
     inputs-fail (graphOf (s .args .graph .now)) (ruleOf (s .args .rule .now)) (well t s) (s .args .j) (s .args .v) (inside t s)
     (d .match-inputs .ensures) (not-true _ (c .if3 .taken))
 
@@ -323,7 +359,7 @@ match-vertex-settle-requires t c κs =
     let b = c .before in
     let d = b .before in
     let look = d .before .before in
-    let e = look .before .before in
+    let e = look .before .before .before in
     let s = e .before .before .before in
     let inputs = d .match-inputs .ensures in
     let passed = not-false _ (b .if3 .left) in
@@ -343,7 +379,7 @@ match-vertex-returns-4 : (t : ℕ) → match-vertex-lts.Need-returns-4 (match-ve
 match-vertex-returns-4 t c =
     let b = c .before .before in
     let d = b .before in
-    let e = d .before .before .before .before in
+    let e = d .before .before .before .before .before in
     let s = e .before .before .before in
     inputs-pass (graphOf (s .args .graph .now)) (ruleOf (s .args .rule .now)) (well t s) (s .args .j) (s .args .v) (inside t s)
     (d .match-inputs .ensures) (not-false _ (b .if3 .left)) (next-is t e) (e .if1 .left) (c .settle .ensures)
@@ -361,6 +397,7 @@ pub +match-inputs+match-vertex-spec : {M : Type 1} → statement M
     (match-inputs-returns t)
     (match-inputs-source-input-requires t)
     (match-inputs-input-at-requires t)
+    (match-inputs-pattern-head-requires t)
     (match-inputs-match-vertex-requires t)
     (match-inputs-returns-2 t)
     (match-inputs-add-greater t)
@@ -374,7 +411,9 @@ pub +match-inputs+match-vertex-spec : {M : Type 1} → statement M
     match-vertex.Post
     (match-vertex-is-image-requires t)
     (match-vertex-returns t)
-    (match-vertex-is-candidate-requires t)
+    (match-vertex-mul-passes-look t)
+    (match-vertex-element-copy-out-passes-look t)
+    (match-vertex-passes-look-requires t)
     (match-vertex-returns-2 t)
     (match-vertex-match-inputs-requires t)
     (match-vertex-returns-3 t)

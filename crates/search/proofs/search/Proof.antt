@@ -18,20 +18,20 @@ use Rattle.search.proofs.search.Tie as tie
 use Rattle.search.proofs.Steps.{Outputs, outputs-read, Passed, PassedSecond, passed-start, second-start, Blank, blank-start, blank-after, Rooted, rooted-after, root-fails, root-made, second-fails, seconds-passed, nothing-mapped, first-in-order, second-in-order, nothing-found, one-found, two-found}
 
 abbrev Inv-loop : tie.InvT-loop
-Inv-loop graph rule uses demands start slots outputs root last next images₀ found₀ first second₀ images found second =
+Inv-loop graph rule uses demands start slots outputs root last rootHead lastHead next images₀ found₀ first second₀ images found second =
     PassedSecond (graphOf graph) (ruleOf rule) root last first second
     × Rooted (graphOf graph) (ruleOf rule) root first images × Blank (ruleOf rule) images × (found ≡ false)
 
 abbrev μ-loop : tie.MeasureT-loop
-μ-loop graph rule uses demands start slots outputs root last next images₀ found₀ first second₀ images found second =
+μ-loop graph rule uses demands start slots outputs root last rootHead lastHead next images₀ found₀ first second₀ images found second =
     slots - second
 
 abbrev Inv-search : tie.InvT-search
-Inv-search graph rule uses demands start slots outputs root last next images₀ found₀ first₀ images found first =
+Inv-search graph rule uses demands start slots outputs root last rootHead lastHead next images₀ found₀ first₀ images found first =
     Passed (graphOf graph) (ruleOf rule) root start first × Blank (ruleOf rule) images × (found ≡ false)
 
 abbrev μ-search : tie.MeasureT-search
-μ-search graph rule uses demands start slots outputs root last next images₀ found₀ first₀ images found first =
+μ-search graph rule uses demands start slots outputs root last rootHead lastHead next images₀ found₀ first₀ images found first =
     slots - first
 
 -- ---- before the loops
@@ -129,19 +129,32 @@ last-inside c =
 well : (c : Ready) → Formed (r c)
 well c = formed (ruleBlock c) (start c .pre .1 .1 .matchable)
 
+pattern-head-requires : tie.Need-pattern-head-requires Inv-loop μ-loop Inv-search μ-search
+pattern-head-requires c κs = (rule-readable (ruleBlock c) (start c .pre .1 .0), first-inside c)
+
+pattern-head-requires-2 : tie.Need-pattern-head-requires-2 Inv-loop μ-loop Inv-search μ-search
+pattern-head-requires-2 c κs =
+    let b = c .before in
+    (rule-readable (ruleBlock b) (start b .pre .1 .0), last-inside b)
+
 add-next : tie.Need-add-next Inv-loop μ-loop Inv-search μ-search
-add-next c = omega (arith, first-inside c, rule-readable (ruleBlock c) (start c .pre .1 .0) .whole .source)
+add-next c =
+    let b = c .before .before in
+    omega (arith, first-inside b, rule-readable (ruleBlock b) (start b .pre .1 .0) .whole .source)
 
 search-holds : tie.Need-search-holds Inv-loop μ-loop Inv-search μ-search
-search-holds c = (passed-start (g c) (r c) (o c) (start c .args .start), blank-start (r c), refl)
+search-holds c =
+    let b = c .before .before in
+    (passed-start (g b) (r b) (o b) (start b .args .start), blank-start (r b), refl)
 
 -- ---- the first output's image
 
 match-vertex-requires : tie.Need-match-vertex-requires Inv-loop μ-loop Inv-search μ-search
 match-vertex-requires c κs =
     let a = c .before .before in
-    let b = a .before in
+    let b = a .before .before .before in
     record {
+      read = a .before .before .pattern-head .ensures;
       setting = start b .pre .1 .1;
       vertex = first-inside b;
       slot = omega (arith, c .before .search-test .taken, all-slots b);
@@ -155,8 +168,11 @@ match-vertex-requires c κs =
 abbrev Second : Type 0
 Second = tie.Else2 Inv-loop μ-loop Inv-search μ-search
 
+abbrev heads : Second → tie.After-pattern-head2 Inv-loop μ-loop Inv-search μ-search
+heads c = c .before .before .before .before .before .before
+
 abbrev ready : Second → Ready
-ready c = c .before .before .before .before .before .before
+ready c = heads c .before .before
 
 loop-holds : tie.Need-loop-holds Inv-loop μ-loop Inv-search μ-search
 loop-holds c =
@@ -175,6 +191,7 @@ match-vertex-requires-2 c κs =
     let e = l .before in
     let b = ready e in
     record {
+      read = heads e .pattern-head2 .ensures;
       setting = start b .pre .1 .1;
       vertex = last-inside b;
       slot = omega (arith, c .before .loop-test .taken, all-slots b);
@@ -209,7 +226,7 @@ loop-again c =
 add-first : tie.Need-add-first Inv-loop μ-loop Inv-search μ-search
 add-first c =
     let i = c .before .before .before in
-    omega (arith, i .search-test .taken, i .before .before .before .before .before .slot-count .ensures .1)
+    omega (arith, i .search-test .taken, i .before .before .before .before .before .before .before .slot-count .ensures .1)
 
 search-less : tie.Need-search-less Inv-loop μ-loop Inv-search μ-search
 search-less c = omega (arith, c .before .before .before .search-test .taken)
@@ -218,7 +235,7 @@ search-again : tie.Need-search-again Inv-loop μ-loop Inv-search μ-search
 search-again c =
     let v = c .before in
     let a = v .before .before .before in
-    let b = a .before in
+    let b = a .before .before .before in
     let s = start b .args .start in
     let first = a .search .first in
     ⊎-elim
@@ -241,7 +258,7 @@ search-again c =
 returns : tie.Need-returns Inv-loop μ-loop Inv-search μ-search
 returns c =
     let a = c .before in
-    let b = a .before in
+    let b = a .before .before .before in
     nothing-found (graphBlock b) (ruleBlock b) (start b .pre .1 .0) (outputs b) (o b) (q b) (known b)
     (start b .args .start) (a .search .first) (a .search .inv .0) (first-inside b) (omega (arith, c .search-test .left, all-slots b)) (a .search .inv .2)
 
@@ -249,7 +266,7 @@ returns-2 : tie.Need-returns-2 Inv-loop μ-loop Inv-search μ-search
 returns-2 c =
     let v = c .before .before in
     let a = v .before .before .before in
-    let b = a .before in
+    let b = a .before .before .before in
     let root = v .match-vertex .ensures in
     one-found (graphBlock b) (ruleBlock b) (start b .pre .1 .0) (outputs b) (o b) (q b) (known b)
     (start b .args .start) (a .search .first) (a .search .inv .0) (c .if2 .taken)
@@ -261,7 +278,7 @@ returns-3 c =
     let l = c .before .before .before .before in
     let e = l .before in
     let a = e .before .before .before .before .before in
-    let b = a .before in
+    let b = a .before .before .before in
     two-found (graphBlock b) (ruleBlock b) (start b .pre .1 .0) (outputs b) (o b) (q b) (known b)
     (start b .args .start) (a .search .first) (a .search .inv .0) (l .loop .second) (e .if2 .left) (l .loop .inv .0) (l .loop .inv .1)
     pair (c .if3 .taken) (blank-after pair (l .loop .inv .2))
@@ -279,6 +296,8 @@ search-spec =
     source-output-requires
     sub-source-output
     source-output-requires-2
+    pattern-head-requires
+    pattern-head-requires-2
     add-next
     search-holds
     match-vertex-requires
