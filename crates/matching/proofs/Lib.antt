@@ -1,3 +1,1 @@
-pub mod Maps
-pub mod Steps
 pub mod Sound

@@ -1,28 +1,16 @@
 -- What each function of the walk asks of the lent blocks and of the images so far.
 -- Assumes nothing.
 use mathlib.Core.Path.{_≡_}
-use mathlib.Core.Bool.{true}
 use mathlib.Core.List.{List, [], _∷_}
 use Prim.Native.Nat.{ℕ, _<_, _≤_}
 use lib.ListN.{length, drop}
 use Rattle.definitions.specs.Graph.{slotCount, graphOf, inputsOf}
 use Rattle.definitions.specs.Rule.{sourceCount, ruleOf, sourceOf, sourceInputs}
-use Rattle.graph_fields.specs.Layout.{ReadableGraph}
 use Rattle.rule_order.specs.InOrder.{InOrder}
-use Rattle.match_look.specs.Candidate.{patternHead, isCandidate}
+use Rattle.match_look.specs.Candidate.{patternHead}
 use Rattle.match_look.specs.declared.Head.{Head}
-use Rattle.match_look.specs.Setting.{Matchable, Setting}
-use Rattle.matching.specs.Partial.{Partial, SendsInputs}
-
--- source vertex j is the next, its inputs have the inputs of slot v as their images, and v passed the look
-pub record SettleReady (graph rule : List ℕ) (j v : ℕ) (images : List ℕ) : Type 0 where
-  pub readable : ReadableGraph graph
-  pub matchable : Matchable rule
-  pub vertex : j < sourceCount rule
-  pub slot : v < slotCount graph
-  pub candidate : isCandidate (graphOf graph) (ruleOf rule) j v ≡ true
-  pub partial : Partial (graphOf graph) (ruleOf rule) j images
-  pub inputs : SendsInputs (graphOf graph) (ruleOf rule) j v 0 images
+use Rattle.match_look.specs.Setting.{Setting}
+use Rattle.match_images.specs.Partial.{Partial}
 
 -- the first `next` source vertices have their images, and the traversal goes on with vertex j, whose head is read
 pub record VertexReady (graph rule used demanded : List ℕ) (head : Head) (j v next : ℕ) (images : List ℕ) : Type 0 where

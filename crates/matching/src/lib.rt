@@ -1,70 +1,23 @@
 // Matching a source vertex with a slot. The traversal that put the source vertices in order is followed: inputs first, left to right,
 // each vertex once, so the images found so far are those of the first `next` source vertices.
-use attributes::attributes_agree;
 use definitions::SIDE_CAPACITY;
 use definitions::SLOT_LIMIT;
 use fields::greater;
-use fields::widened;
 use graph_fields::input_at;
+use match_images::is_image;
+use match_images::settle;
 use match_look::Head;
 use match_look::passes_look;
 use match_look::pattern_head;
 use rule_fields::source_input;
 use rule_fields::source_input_count;
-ghost use mathlib.Core.Path.{_≡_};
-ghost use Prim.Native.Nat.{suc, _<_, _≤_, max};
-ghost use lib.Dec.{eqb};
-ghost use lib.ListN.{length, getD, drop};
-ghost use Rattle.definitions.specs.Lists.{anyBelow};
+ghost use Prim.Native.Nat.{suc, max};
+ghost use lib.ListN.{drop};
 ghost use Rattle.definitions.specs.Graph.{graphOf};
-ghost use Rattle.definitions.specs.Rule.{sideCapacity, ruleOf, sourceInputs};
-ghost use Rattle.definitions.specs.Match.{imageOf};
+ghost use Rattle.definitions.specs.Rule.{ruleOf, sourceInputs};
 ghost use Rattle.rule_order.specs.InOrder.{visitedAfter};
-ghost use Rattle.matching.specs.Partial.{Sends, SendsInputs, Step};
-ghost use Rattle.matching.specs.Ready.{SettleReady, VertexReady, InputsReady};
-
-// Whether v is the image of one of the first `next` source vertices.
-fn is_taken(images: &[u16; SIDE_CAPACITY], next: usize, v: usize) -> bool
-    requires { ⌜ next ≤ sideCapacity ⌝ }
-    requires { ⌜ length (now images) ≡ sideCapacity ⌝ }
-    ensures { λ r. ⌜ r ≡ anyBelow (λ i. eqb (imageOf (now (images .entry)) i) v) next ⌝ }
-{
-    let mut i = 0;
-    while i < next {
-        if widened(images[i]) == v {
-            return true;
-        }
-        i += 1;
-    }
-    false
-}
-
-// Gives source vertex j, a candidate whose inputs have their images, the image v: where v is no lower vertex's image, and the
-// attributes agree.
-fn settle(graph: &[u8], rule: &[u8], j: usize, v: usize, images: &mut [u16; SIDE_CAPACITY]) -> bool
-    requires { ⌜ SettleReady (now graph) (now rule) j v (now images) ⌝ }
-    ensures { λ r. ⌜ Step (graphOf (now (graph .entry))) (ruleOf (now (rule .entry))) j (now (images .entry)) (Sends j v) (suc j) r
-        (now (images .exit)) ⌝ }
-{
-    if is_taken(images, j, v) {
-        return false;
-    }
-    if !attributes_agree(graph, rule, images, j, v) {
-        return false;
-    }
-    images[j] = v as u16;
-    true
-}
-
-// Whether v is the image that source vertex j has. The slots are compared, and not what they hold: two Variables alike are still two
-// vertices.
-fn is_image(images: &[u16; SIDE_CAPACITY], j: usize, v: usize) -> bool
-    requires { ⌜ j < sideCapacity ⌝ }
-    requires { ⌜ length (now images) ≡ sideCapacity ⌝ }
-    ensures { λ r. ⌜ r ≡ eqb (getD (now (images .entry)) j 0) v ⌝ }
-{
-    widened(images[j]) == v
-}
+ghost use Rattle.match_images.specs.Partial.{Sends, SendsInputs, Step};
+ghost use Rattle.matching.specs.Ready.{VertexReady, InputsReady};
 
 // Matches source vertex j, whose head is given, with slot v, its inputs first. A vertex that has its image is compared, not entered
 // again. Where it succeeds, the images are those of the first `next` vertices and of all up to j.

@@ -17,9 +17,9 @@ use Rattle.laws.proofs.Graph.{vertex-inside}
 use Rattle.laws.proofs.Rule.{source-reader}
 use Rattle.laws.proofs.Padded.{taken-at}
 use Rattle.theory.proofs.Inside.{uses-private}
-use Rattle.matching.specs.Partial.{Partial}
+use Rattle.match_images.specs.Partial.{Partial}
 use Rattle.match_look.proofs.Candidates.{Formed, wild-input}
-use Rattle.matching.proofs.Maps.{takes-same}
+use Rattle.match_images.proofs.Maps.{takes-same}
 
 module _ (g : Graph) (r : Rule) (f : Formed r) (images : List ℕ) (p : Partial g r (length (r .source)) images)
     (rest : (i : ℕ) → length (r .source) ≤ i → imageOf images i ≡ unusedPlace) (fits : length (r .source) ≤ sideCapacity) where

@@ -17,7 +17,7 @@ use Rattle.rule_order.proofs.InOrder.{in-order-inputs, in-order-here}
 use Rattle.match_look.specs.Candidate.{isCandidate}
 use Rattle.match_look.proofs.Candidates.{Formed, formed, candidate-look, candidate-inputs}
 use Rattle.laws.proofs.Match.{image-at}
-use Rattle.matching.proofs.Steps.{mapped, no-candidate, inputs-fail, inputs-pass, inputs-done, input-in-order, others-in-order, input-fails, input-passes}
+use Rattle.match_images.proofs.Steps.{mapped, no-candidate, inputs-fail, inputs-pass, inputs-done, input-in-order, others-in-order, input-fails, input-passes}
 use Rattle.matching.proofs.match_inputs.Reads as match-inputs
 use Rattle.matching.proofs.match_inputs.Kinds as match-inputs-kinds
 use Rattle.matching.proofs.+match_inputs+match_vertex.Lts-match_inputs as match-inputs-lts
@@ -27,8 +27,8 @@ use Rattle.matching.proofs.+match_inputs+match_vertex.Lts-match_vertex 
 use Rattle.graph_fields.proofs.input_at.Reads as input-at-reads
 use Rattle.match_look.proofs.passes_look.Reads as passes-look-reads
 use Rattle.match_look.proofs.pattern_head.Reads as pattern-head-reads
-use Rattle.matching.proofs.is_image.Reads as is-image-reads
-use Rattle.matching.proofs.settle.Reads as settle-reads
+use Rattle.match_images.proofs.is_image.Reads as is-image-reads
+use Rattle.match_images.proofs.settle.Reads as settle-reads
 use Rattle.fields.proofs.greater.Reads as greater-reads
 use Rattle.rule_fields.proofs.source_input.Reads as source-input-reads
 use Rattle.rule_fields.proofs.source_input_count.Reads as source-input-count-reads

@@ -20,9 +20,9 @@ use Rattle.attributes.specs.Agreement.{agreeFirst}
 use Rattle.rule_order.specs.InOrder.{InOrder, visitedAfter}
 use Rattle.rule_order.proofs.InOrder.{in-order-first, in-order-rest}
 use Rattle.match_look.specs.Candidate.{isCandidate}
-use Rattle.matching.specs.Partial.{Partial, Extends, Sends, SendsInputs, Step}
+use Rattle.match_images.specs.Partial.{Partial, Extends, Sends, SendsInputs, Step}
 use Rattle.match_look.proofs.Candidates.{Formed, match-candidate}
-use Rattle.matching.proofs.Maps.{match-sends, match-agrees, match-free}
+use Rattle.match_images.proofs.Maps.{match-sends, match-agrees, match-free}
 
 module _ {g : Graph} {r : Rule} {next : ℕ} {images : List ℕ} {Asked : List ℕ → Type 0} {end : ℕ} where
   -- no match that has these images meets what is asked, and nothing is written

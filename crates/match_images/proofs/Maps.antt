@@ -23,7 +23,7 @@ use Rattle.laws.proofs.Members.{holds, true-holds}
 use Rattle.attributes.specs.Agreement.{agreeFirst}
 use Rattle.attributes.proofs.Laws.{agree-pairs, agree-first-below}
 use Rattle.match_look.specs.Candidate.{slotHead, patternHead, isCandidate}
-use Rattle.matching.specs.Partial.{Partial, Extends, Sends, SendsInputs, Step}
+use Rattle.match_images.specs.Partial.{Partial, Extends, Sends, SendsInputs, Step}
 use Rattle.match_look.proofs.Candidates.{Formed, wild-input, candidate-same, candidate-vertex, candidate-uses}
 
 -- ---- what a vertex asks of a map, it asks of the images of lower vertices

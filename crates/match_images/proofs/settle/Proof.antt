@@ -10,10 +10,10 @@ use Rattle.definitions.specs.Graph.{graphOf}
 use Rattle.definitions.specs.Rule.{ruleOf}
 use Rattle.laws.proofs.Rule.{length-source}
 use Rattle.match_look.proofs.Candidates.{Formed, formed, candidate-attributes}
-use Rattle.matching.proofs.Maps.{settled}
-use Rattle.matching.proofs.Steps.{is-taken, disagree}
-use Rattle.matching.proofs.settle.Statement.{statement}
-use Rattle.matching.proofs.settle.Tie as tie
+use Rattle.match_images.proofs.Maps.{settled}
+use Rattle.match_images.proofs.Steps.{is-taken, disagree}
+use Rattle.match_images.proofs.settle.Statement.{statement}
+use Rattle.match_images.proofs.settle.Tie as tie
 
 well : (s : tie.Start) → Formed (ruleOf (s .args .rule .now))
 well s = formed (s .args .rule .now) (s .pre .matchable)

@@ -1,8 +1,8 @@
 -- What the array holds at j is compared.
 -- Assumes nothing.
 use borrow.Author.Needs.{needs}
-use Rattle.matching.proofs.is_image.Statement.{statement}
-use Rattle.matching.proofs.is_image.Tie as tie
+use Rattle.match_images.proofs.is_image.Statement.{statement}
+use Rattle.match_images.proofs.is_image.Tie as tie
 
 mul-widened : tie.Need-mul-widened
 mul-widened c = search needs

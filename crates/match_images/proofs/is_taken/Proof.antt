@@ -11,8 +11,8 @@ use Rattle.definitions.specs.Lists.{anyBelow}
 use Rattle.definitions.specs.Match.{imageOf}
 use Rattle.laws.proofs.Lists.{anyBelow-step, anyBelow-found}
 use Rattle.laws.proofs.Match.{image-at}
-use Rattle.matching.proofs.is_taken.Statement.{statement}
-use Rattle.matching.proofs.is_taken.Tie as tie
+use Rattle.match_images.proofs.is_taken.Statement.{statement}
+use Rattle.match_images.proofs.is_taken.Tie as tie
 
 abbrev Inv-loop : tie.InvT-loop
 Inv-loop images next v i₀ i = (i ≤ next) × (anyBelow (λ k. eqb (imageOf images k) v) i ≡ false)
