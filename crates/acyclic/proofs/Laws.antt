@@ -19,7 +19,7 @@ use Rattle.laws.proofs.Members.{mem-place}
 use Rattle.theory.proofs.Paths.{Table, Grounded, grounded, reaches-trans, cyclic, grounded-acyclic}
 use Rattle.graph_fields.specs.Layout.{Closed}
 use Rattle.acyclic.specs.Search.{Sized, Quiet, Kept, Searched}
-use Rattle.acyclic.specs.Sorted.{readsLower, sorted}
+use Rattle.graph_sorted.specs.Sorted.{readsLower, sorted}
 
 -- ---- lists
 

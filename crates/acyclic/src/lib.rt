@@ -6,12 +6,12 @@ use definitions::SLOT_LIMIT;
 use graph_fields::input_at;
 use graph_fields::input_count;
 use graph_fields::slot_count;
+use graph_sorted::is_sorted;
 ghost use mathlib.Core.Path.{_≡_};
 ghost use Prim.Native.Nat.{_<_};
 ghost use Rattle.definitions.specs.Graph.{slotCount, graphOf, inputsOf, hasCycle};
 ghost use Rattle.graph_fields.specs.Layout.{ReadableGraph, Closed};
 ghost use Rattle.acyclic.specs.Search.{Sized, Ready, Searched};
-ghost use Rattle.acyclic.specs.Sorted.{readsLower, sorted};
 
 // A slot's progress is 0 before it is entered, 1 + i once i of its inputs are known to lead to no cycle, and this when the slot
 // itself is known to. It has at most 6 inputs, so the three do not overlap.
@@ -60,39 +60,6 @@ fn finds_cycle(
             }
         }
     }
-}
-
-// Whether every input of slot k names a lower slot.
-fn reads_lower(graph: &[u8], k: usize) -> bool
-    requires { ⌜ ReadableGraph (now graph) ⌝ }
-    requires { ⌜ k < slotCount (now graph) ⌝ }
-    ensures { λ r. ⌜ r ≡ readsLower (inputsOf (graphOf (now (graph .entry)))) k ⌝ }
-{
-    let inputs = input_count(graph, k);
-    let mut i = 0;
-    while i < inputs {
-        if k <= input_at(graph, k, i) {
-            return false;
-        }
-        i += 1;
-    }
-    true
-}
-
-// Whether the table is sorted.
-fn is_sorted(graph: &[u8]) -> bool
-    requires { ⌜ ReadableGraph (now graph) ⌝ }
-    ensures { λ r. ⌜ r ≡ sorted (inputsOf (graphOf (now (graph .entry)))) (slotCount (now (graph .entry))) ⌝ }
-{
-    let count = slot_count(graph);
-    let mut k = 0;
-    while k < count {
-        if !reads_lower(graph, k) {
-            return false;
-        }
-        k += 1;
-    }
-    true
 }
 
 // Whether some slot leads to itself along inputs. A sorted table has no cycle, and is not searched.

@@ -8,9 +8,9 @@ use borrow.Author.Count.{below-more, below-none}
 use borrow.Author.Tests.{not-true, not-false}
 use Rattle.definitions.specs.Graph.{slotCount, graphOf, inputsOf}
 use Rattle.laws.proofs.Lists.{allBelow-every, allBelow-fails}
-use Rattle.acyclic.specs.Sorted.{readsLower, sorted}
-use Rattle.acyclic.proofs.is_sorted.Statement.{statement}
-use Rattle.acyclic.proofs.is_sorted.Tie as tie
+use Rattle.graph_sorted.specs.Sorted.{readsLower, sorted}
+use Rattle.graph_sorted.proofs.is_sorted.Statement.{statement}
+use Rattle.graph_sorted.proofs.is_sorted.Tie as tie
 
 abbrev Inv-loop : tie.InvT-loop
 Inv-loop graph count k₀ k = (k ≤ count) × ((j : ℕ) → j < k → readsLower (inputsOf (graphOf graph)) j ≡ true)

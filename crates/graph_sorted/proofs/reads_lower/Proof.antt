@@ -10,9 +10,9 @@ use lib.Dec.{ltb}
 use lib.ListN.{getD}
 use Rattle.definitions.specs.Graph.{unusedPlace, graphOf, inputsOf}
 use Rattle.laws.proofs.Lists.{all-every, all-fails}
-use Rattle.acyclic.specs.Sorted.{readsLower}
-use Rattle.acyclic.proofs.reads_lower.Statement.{statement}
-use Rattle.acyclic.proofs.reads_lower.Tie as tie
+use Rattle.graph_sorted.specs.Sorted.{readsLower}
+use Rattle.graph_sorted.proofs.reads_lower.Statement.{statement}
+use Rattle.graph_sorted.proofs.reads_lower.Tie as tie
 
 abbrev Inv-loop : tie.InvT-loop
 Inv-loop graph k inputs i₀ i = (i ≤ inputs) × ((j : ℕ) → j < i → ltb (getD (inputsOf (graphOf graph) k) j unusedPlace) k ≡ true)
