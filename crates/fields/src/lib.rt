@@ -1,16 +1,11 @@
-// Fields of a lent block: bytes, 16-bit, 32-bit and 64-bit little-endian numbers, signed ones, and runs of
-// equal bytes. Nothing here reads past what its `requires` names.
+// Fields of a lent block: bytes, 16-bit, 32-bit and 64-bit little-endian numbers, and signed ones. Nothing here reads past what its
+// `requires` names.
 ghost use mathlib.Core.Path.{_≡_};
-ghost use Prim.Native.Nat.{_+_, _*_, _<_, _≤_, min, max};
+ghost use Prim.Native.Nat.{_+_, _<_, _≤_, max};
 ghost use lib.ListN.{length};
-ghost use Rattle.definitions.specs.Fields.{byteAt, u16At, u32At, filled, markFits, signed};
+ghost use Rattle.definitions.specs.Fields.{byteAt, u16At, u32At, markFits, signed};
 ghost use Rattle.fields.specs.Integer.{integerOf};
 ghost use Rattle.fields.specs.Words.{wordBytes, u64At};
-
-// The bytes of a 64-bit word.
-pub const WORD_BYTES: usize = 8;
-// The word whose bytes are all 1.
-const WORD_OF_ONES: usize = 72340172838076673;
 
 // A whole number by its sign: Plus(n) is n, and Minus(n) is -(n + 1), so that each number has one
 // form only.
@@ -31,16 +26,6 @@ pub fn greater(a: usize, b: usize) -> usize
     ensures { λ r. ⌜ r ≡ max a b ⌝ }
 {
     if a < b {
-        return b;
-    }
-    a
-}
-
-// The lesser of two numbers.
-fn lesser(a: usize, b: usize) -> usize
-    ensures { λ r. ⌜ r ≡ min a b ⌝ }
-{
-    if b < a {
         return b;
     }
     a
@@ -94,59 +79,6 @@ pub fn i32_at(block: &[u8], at: usize) -> Integer
         return Integer::Plus(word as u64);
     }
     Integer::Minus((4294967295 - word) as u64)
-}
-
-// Whether the bytes from `from` up to `to` all hold `value`.
-pub fn is_filled(block: &[u8], from: usize, to: usize, value: usize) -> bool
-    requires { ⌜ to ≤ length (now block) ⌝ }
-    ensures { λ r. ⌜ r ≡ filled (now (block .entry)) from to value ⌝ }
-{
-    let mut at = from;
-    while at < to {
-        if byte_at(block, at) != value {
-            return false;
-        }
-        at += 1;
-    }
-    true
-}
-
-// Whether the 8 bytes from `at` on all hold `value`: they are compared as one word.
-pub fn word_filled(block: &[u8], at: usize, value: u8) -> bool
-    requires { ⌜ at + wordBytes ≤ length (now block) ⌝ }
-    ensures { λ r. ⌜ r ≡ filled (now (block .entry)) at (at + wordBytes) value ⌝ }
-{
-    u64_at(block, at) == WORD_OF_ONES * value as usize
-}
-
-// Whether the bytes from `from` up to `to` all hold `value`, where they are one word to two words long: the first word and the last,
-// which may overlap.
-pub fn two_words_filled(block: &[u8], from: usize, to: usize, value: u8) -> bool
-    requires { ⌜ from + wordBytes ≤ to ⌝ }
-    requires { ⌜ to ≤ from + 2 * wordBytes ⌝ }
-    requires { ⌜ to ≤ length (now block) ⌝ }
-    ensures { λ r. ⌜ r ≡ filled (now (block .entry)) from to value ⌝ }
-{
-    if !word_filled(block, from, value) {
-        return false;
-    }
-    word_filled(block, to - WORD_BYTES, value)
-}
-
-// The same where they are one word to four words long: two pairs of words, which may overlap too. There is no loop, so that nothing
-// depends on the length but where the words stand.
-pub fn four_words_filled(block: &[u8], from: usize, to: usize, value: u8) -> bool
-    requires { ⌜ from + wordBytes ≤ to ⌝ }
-    requires { ⌜ to ≤ from + 4 * wordBytes ⌝ }
-    requires { ⌜ to ≤ length (now block) ⌝ }
-    ensures { λ r. ⌜ r ≡ filled (now (block .entry)) from to value ⌝ }
-{
-    let middle = lesser(from + 2 * WORD_BYTES, to);
-    if !two_words_filled(block, from, middle, value) {
-        return false;
-    }
-    let rest = lesser(middle, to - WORD_BYTES);
-    two_words_filled(block, rest, to, value)
 }
 
 // Whether the block starts with its mark: `LG`, the letter of its sort, and a zero byte.

@@ -4,11 +4,11 @@ use mathlib.Core.Path.{_≡_}
 use Prim.Native.Nat.{_+_, _-_}
 use native.Mathlib.Omega.{arith}
 use Rattle.laws.proofs.Tests.{refused, passed, answered}
 use Rattle.fields.specs.Words.{wordBytes}
 use Rattle.fields.proofs.Laws.{filled-parts}
 use borrow.Author.Needs.{needs}
-use Rattle.fields.proofs.two_words_filled.Statement.{statement}
-use Rattle.fields.proofs.two_words_filled.Tie as tie
+use Rattle.runs.proofs.two_words_filled.Statement.{statement}
+use Rattle.runs.proofs.two_words_filled.Tie as tie
 
 word-filled-requires : tie.Need-word-filled-requires
 word-filled-requires c κs = search needs

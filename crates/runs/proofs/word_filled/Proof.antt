@@ -4,10 +4,10 @@ use mathlib.Core.Path.{ap, _∙_}
 use Prim.Native.Nat.{ℕ, _*_}
 use native.Mathlib.Omega.{arith}
 use lib.Dec.{eqb}
-use Rattle.fields.proofs.Words.{word-filled}
+use Rattle.runs.proofs.Words.{word-filled}
 use borrow.Author.Needs.{needs}
-use Rattle.fields.proofs.word_filled.Statement.{statement}
-use Rattle.fields.proofs.word_filled.Tie as tie
+use Rattle.runs.proofs.word_filled.Statement.{statement}
+use Rattle.runs.proofs.word_filled.Tie as tie
 
 u64-at-requires : tie.Need-u64-at-requires
 u64-at-requires c κs = search needs

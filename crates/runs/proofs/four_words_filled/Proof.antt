@@ -2,10 +2,10 @@
 -- Assumes nothing.
 use native.Mathlib.Omega.{arith}
 use Rattle.laws.proofs.Tests.{refused, passed, answered}
 use Rattle.fields.proofs.Laws.{filled-parts}
 use borrow.Author.Needs.{needs}
-use Rattle.fields.proofs.four_words_filled.Statement.{statement}
-use Rattle.fields.proofs.four_words_filled.Tie as tie
+use Rattle.runs.proofs.four_words_filled.Statement.{statement}
+use Rattle.runs.proofs.four_words_filled.Tie as tie
 
 mul-lesser : tie.Need-mul-lesser
 mul-lesser c = search needs

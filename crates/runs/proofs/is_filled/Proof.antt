@@ -5,9 +5,9 @@ use Prim.Native.Nat.{ℕ, _-_, _<_, _≤_, max}
 use native.Mathlib.Omega.{arith}
 use borrow.Author.Count.{below-more}
 use Rattle.definitions.specs.Fields.{byteAt}
 use Rattle.fields.proofs.Laws.{filled-each, filled-fails}
-use Rattle.fields.proofs.is_filled.Statement.{statement}
-use Rattle.fields.proofs.is_filled.Tie as tie
+use Rattle.runs.proofs.is_filled.Statement.{statement}
+use Rattle.runs.proofs.is_filled.Tie as tie
 
 abbrev Inv-loop : tie.InvT-loop
 Inv-loop block from to value at₀ at = (from ≤ at) × (at ≤ max from to) × ((k : ℕ) → k < at → from ≤ k → byteAt block k ≡ value)
