@@ -23,7 +23,7 @@ use Rattle.laws.proofs.Lists.{decided, needed}
 use Rattle.laws.proofs.Builds.{build-at, getD-none}
 use Rattle.laws.proofs.Graph.{length-slots, slot-past}
 use Rattle.laws.proofs.Match.{image-at}
-use Rattle.rule_expressions.proofs.Laws.{left-earlier, right-earlier}
+use Rattle.rule_accesses.proofs.Laws.{left-earlier, right-earlier}
 use Rattle.numbers.specs.declared.Value.{Value}
 use Rattle.numbers.specs.declared.Value.the-variants.{Nothing, Plus, Minus}
 use Rattle.numbers.specs.Value.{valueOf, bounded, operationOf}

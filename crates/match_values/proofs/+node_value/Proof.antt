@@ -11,7 +11,7 @@ use Rattle.definitions.specs.Match.{readAttribute}
 use Rattle.numbers.specs.Value.{valueOf, bounded}
 use Rattle.match_values.specs.Evaluable.{NodeEvaluation}
 use Rattle.match_values.specs.Memo.{nodeResult, Memo}
-use Rattle.rule_expressions.proofs.Laws.{left-earlier, right-earlier}
+use Rattle.rule_accesses.proofs.Laws.{left-earlier, right-earlier}
 use Rattle.match_values.proofs.Laws.{combined-gives, node-bounded, remembered-value, memo-more}
 use borrow.Fn.Kinds.{In}
 use borrow.Fn.PlainCycle.{Measures, is, falls, and}

@@ -9,8 +9,8 @@ use borrow.Author.Tests.{not-true, not-false}
 use borrow.Author.Needs.{needs}
 use Rattle.definitions.specs.Rule.{sourceCount, targetCount, badUse}
 use Rattle.laws.proofs.Lists.{lowest-none, lowest-found}
-use Rattle.rule_expressions.proofs.bad_use.Statement.{statement}
-use Rattle.rule_expressions.proofs.bad_use.Tie as tie
+use Rattle.rule_accesses.proofs.bad_use.Statement.{statement}
+use Rattle.rule_accesses.proofs.bad_use.Tie as tie
 
 abbrev Inv-loop : tie.InvT-loop
 Inv-loop rule vertices tops v₀ v = (v ≤ vertices) × ((j : ℕ) → j < v → badUse rule j ≡ false)

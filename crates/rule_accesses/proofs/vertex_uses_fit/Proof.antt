@@ -9,8 +9,8 @@ use Rattle.definitions.specs.Lists.{allBelow}
 use Rattle.definitions.specs.Fields.{byteAt}
 use Rattle.definitions.specs.Rule.{vertexAt, useFits, badUse}
 use Rattle.laws.proofs.Lists.{allBelow-step, allBelow-fails}
-use Rattle.rule_expressions.proofs.vertex_uses_fit.Statement.{statement}
-use Rattle.rule_expressions.proofs.vertex_uses_fit.Tie as tie
+use Rattle.rule_accesses.proofs.vertex_uses_fit.Statement.{statement}
+use Rattle.rule_accesses.proofs.vertex_uses_fit.Tie as tie
 
 abbrev Inv-loop : tie.InvT-loop
 Inv-loop rule tops v at count i₀ i = (i ≤ count) × (allBelow (λ n. useFits rule v (byteAt rule (vertexAt v + 10 + n))) i ≡ true)

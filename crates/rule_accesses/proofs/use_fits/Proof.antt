@@ -6,10 +6,10 @@ use native.Mathlib.Omega.{arith}
 use lib.Dec.{ltb}
 use borrow.Author.Tests.{lt-ltb, le-ltb, eq-eqb, ne-eqb}
 use Rattle.definitions.specs.Rule.{sourceCount, nodeCount, useFits}
-use Rattle.rule_expressions.proofs.Laws.{below-top}
+use Rattle.rule_accesses.proofs.Laws.{below-top}
 use borrow.Author.Needs.{needs}
-use Rattle.rule_expressions.proofs.use_fits.Statement.{statement}
-use Rattle.rule_expressions.proofs.use_fits.Tie as tie
+use Rattle.rule_accesses.proofs.use_fits.Statement.{statement}
+use Rattle.rule_accesses.proofs.use_fits.Tie as tie
 
 abbrev start : tie.After-node-form → tie.Start
 start b = b .before .before .before .before .before .before

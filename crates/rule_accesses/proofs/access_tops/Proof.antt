@@ -8,10 +8,10 @@ use lib.ListN.{replicate}
 use borrow.Author.Needs.{needs}
 use Rattle.definitions.specs.Lists.{build}
 use Rattle.definitions.specs.Rule.{nodeLimit}
-use Rattle.rule_expressions.specs.Access.{topFrom}
-use Rattle.rule_expressions.proofs.Laws.{tops-more, tops-all, all-fit}
-use Rattle.rule_expressions.proofs.access_tops.Statement.{statement}
-use Rattle.rule_expressions.proofs.access_tops.Tie as tie
+use Rattle.rule_accesses.specs.Access.{topFrom}
+use Rattle.rule_accesses.proofs.Laws.{tops-more, tops-all, all-fit}
+use Rattle.rule_accesses.proofs.access_tops.Statement.{statement}
+use Rattle.rule_accesses.proofs.access_tops.Tie as tie
 
 abbrev Inv-loop : tie.InvT-loop
 Inv-loop rule nodes tops₀ k₀ tops k = (k ≤ nodes) × (tops ≡ build (topFrom rule) k ++ replicate (nodeLimit - k) 0)

@@ -15,7 +15,7 @@ use Rattle.definitions.specs.Fields.{byteAt, filled}
 use Rattle.definitions.specs.Rule.{nodeLimit, nodeCount, nodeAt, Expression, anything, constant, access, apply, formAny, formConstant, formAccess, formRemainder, nodeForm, nodeLeft, nodeRight, nodeFrom, expressions, expressionOf, operandFits, nodeFits, badNode, accessesBelow}
 use Rattle.laws.proofs.Lists.{decided, and-left, and-right, lowest-passed}
 use Rattle.laws.proofs.Builds.{build-more, getD-padded, map-build}
-use Rattle.rule_expressions.specs.Access.{topAccess, topFrom, TopsKnown, NodesFaultless}
+use Rattle.rule_accesses.specs.Access.{topAccess, topFrom, TopsKnown, NodesFaultless}
 
 -- ---- the highest access
 

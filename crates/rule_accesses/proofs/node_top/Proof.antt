@@ -4,11 +4,11 @@ use Prim.Native.Nat.{_<_}
 use native.Mathlib.Omega.{arith}
 use borrow.Author.Tests.{lt-ltb, le-ltb, eq-eqb, ne-eqb}
 use Rattle.definitions.specs.Rule.{formAccess, nodeForm}
-use Rattle.rule_expressions.specs.Access.{topFrom}
-use Rattle.rule_expressions.proofs.Laws.{left-earlier, right-earlier}
+use Rattle.rule_accesses.specs.Access.{topFrom}
+use Rattle.rule_accesses.proofs.Laws.{left-earlier, right-earlier}
 use borrow.Author.Needs.{needs}
-use Rattle.rule_expressions.proofs.node_top.Statement.{statement}
-use Rattle.rule_expressions.proofs.node_top.Tie as tie
+use Rattle.rule_accesses.proofs.node_top.Statement.{statement}
+use Rattle.rule_accesses.proofs.node_top.Tie as tie
 
 abbrev start : tie.Else2 → tie.Start
 start c = c .before .before .before .before .before .before
