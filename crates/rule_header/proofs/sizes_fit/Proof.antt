@@ -11,8 +11,8 @@ use Rattle.definitions.specs.Lists.{within}
 use Rattle.definitions.specs.Rule.{ruleOutputLimit, nodeLimit, sourceCount, targetCount, ruleOutputCount, nodeCount, ruleSizesFit}
 use Rattle.laws.proofs.Tests.{allOf, conjunction, Remains, failed, held, all-held, within-below, within-above, within-both}
 use borrow.Author.Needs.{needs}
-use Rattle.rule_records.proofs.sizes_fit.Statement.{statement}
-use Rattle.rule_records.proofs.sizes_fit.Tie as tie
+use Rattle.rule_header.proofs.sizes_fit.Statement.{statement}
+use Rattle.rule_header.proofs.sizes_fit.Tie as tie
 
 -- ---- what is left after each test
 

@@ -1,8 +1,8 @@
 -- The code's sum is the definition's, once the counts are the header's.
 -- Assumes nothing.
 use borrow.Author.Needs.{needs}
-use Rattle.rule_records.proofs.length_fits.Statement.{statement}
-use Rattle.rule_records.proofs.length_fits.Tie as tie
+use Rattle.rule_header.proofs.length_fits.Statement.{statement}
+use Rattle.rule_header.proofs.length_fits.Tie as tie
 
 source-count-requires : tie.Need-source-count-requires
 source-count-requires c κs = search needs

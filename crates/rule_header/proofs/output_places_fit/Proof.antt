@@ -14,8 +14,8 @@ use Rattle.definitions.specs.Fields.{byteAt, filled}
 use Rattle.definitions.specs.Rule.{sourceCount, ruleOutputCount, ruleOutputPlacesFit}
 use Rattle.laws.proofs.Lists.{allBelow-every, allBelow-fails}
 use Rattle.laws.proofs.Tests.{allOf, conjunction, Remains, failed, held, refused, passed, answered}
-use Rattle.rule_records.proofs.output_places_fit.Statement.{statement}
-use Rattle.rule_records.proofs.output_places_fit.Tie as tie
+use Rattle.rule_header.proofs.output_places_fit.Statement.{statement}
+use Rattle.rule_header.proofs.output_places_fit.Tie as tie
 
 abbrev Inv-loop : tie.InvT-loop
 Inv-loop rule source outputs i₀ i = (i ≤ outputs) × ((k : ℕ) → k < i → ltb (byteAt rule (10 + k)) (sourceCount rule) ≡ true)

@@ -13,8 +13,8 @@ use Rattle.definitions.specs.Rule.{ruleHeaderBytes, ruleLetter, ruleVersion, ru
 use Rattle.laws.proofs.Lists.{needed}
 use Rattle.laws.proofs.Tests.{allOf, conjunction, Remains, failed, held, refused, passed, answered}
 use borrow.Author.Needs.{needs}
-use Rattle.rule_records.proofs.header_fits.Statement.{statement}
-use Rattle.rule_records.proofs.header_fits.Tie as tie
+use Rattle.rule_header.proofs.header_fits.Statement.{statement}
+use Rattle.rule_header.proofs.header_fits.Tie as tie
 
 -- ---- what is left after each test
 
