@@ -1,12 +1,12 @@
 // Checking a graph block: the four kinds of fault, in document 01's order.
 use acyclic::has_cycle;
 use definitions::Reply;
-use graph_faults::bad_inputs;
-use graph_faults::bad_output;
 use graph_faults::bad_record;
-use graph_faults::header_fits;
 use graph_fields::output_count;
 use graph_fields::slot_count;
+use graph_header::header_fits;
+use graph_names::bad_inputs;
+use graph_names::bad_output;
 use reply::BAD_GRAPH;
 use reply::refuse;
 ghost use mathlib.Core.Path.{_≡_};

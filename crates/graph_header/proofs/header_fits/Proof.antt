@@ -13,8 +13,8 @@ use Rattle.definitions.specs.Lists.{within}
 use Rattle.definitions.specs.Fields.{u16At, filled, markFits}
 use Rattle.definitions.specs.Graph.{headerBytes, slotLimit, graphLetter, graphVersion, slotCount, recordAt, outputPlacesFit, headerFits}
 use Rattle.laws.proofs.Tests.{allOf, conjunction, Remains, failed, held, refused, passed, answered, within-below, within-above, within-both}
-use Rattle.graph_faults.proofs.header_fits.Statement.{statement}
-use Rattle.graph_faults.proofs.header_fits.Tie as tie
+use Rattle.graph_header.proofs.header_fits.Statement.{statement}
+use Rattle.graph_header.proofs.header_fits.Tie as tie
 
 -- ---- what is left after each test
 

@@ -8,8 +8,8 @@ use borrow.Author.Count.{below-more, below-none}
 use borrow.Author.Tests.{not-true, not-false}
 use Rattle.definitions.specs.Graph.{outputCount, graphOf, badOutput}
 use Rattle.laws.proofs.Lists.{lowest-none, lowest-found}
-use Rattle.graph_faults.proofs.bad_output.Statement.{statement}
-use Rattle.graph_faults.proofs.bad_output.Tie as tie
+use Rattle.graph_names.proofs.bad_output.Statement.{statement}
+use Rattle.graph_names.proofs.bad_output.Tie as tie
 
 abbrev Inv-loop : tie.InvT-loop
 Inv-loop graph outputs i₀ i = (i ≤ outputs) × ((j : ℕ) → j < i → badOutput (graphOf graph) j ≡ false)

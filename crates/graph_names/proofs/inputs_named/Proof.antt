@@ -9,8 +9,8 @@ use borrow.Author.Tests.{not-true, not-false}
 use lib.ListN.{getD}
 use Rattle.definitions.specs.Graph.{unusedPlace, graphOf, inputsOf, isVertex}
 use Rattle.laws.proofs.Lists.{all-every, all-fails}
-use Rattle.graph_faults.proofs.inputs_named.Statement.{statement}
-use Rattle.graph_faults.proofs.inputs_named.Tie as tie
+use Rattle.graph_names.proofs.inputs_named.Statement.{statement}
+use Rattle.graph_names.proofs.inputs_named.Tie as tie
 
 abbrev Inv-loop : tie.InvT-loop
 Inv-loop graph k inputs i₀ i = (i ≤ inputs) × ((j : ℕ) → j < i → isVertex (graphOf graph) (getD (inputsOf (graphOf graph) k) j unusedPlace) ≡ true)

@@ -3,8 +3,8 @@
 use borrow.Author.Tests.{le-leb, lt-leb}
 use Rattle.definitions.specs.Graph.{outputPlacesFit}
 use borrow.Author.Needs.{needs}
-use Rattle.graph_faults.proofs.output_places_fit.Statement.{statement}
-use Rattle.graph_faults.proofs.output_places_fit.Tie as tie
+use Rattle.graph_header.proofs.output_places_fit.Statement.{statement}
+use Rattle.graph_header.proofs.output_places_fit.Tie as tie
 
 output-count-requires : tie.Need-output-count-requires
 output-count-requires c κs = search needs

@@ -8,8 +8,8 @@ use borrow.Author.Count.{below-more, below-none}
 use borrow.Author.Tests.{not-true, not-false}
 use Rattle.definitions.specs.Graph.{slotCount, graphOf, badInputs}
 use Rattle.laws.proofs.Lists.{lowest-none, lowest-found}
-use Rattle.graph_faults.proofs.bad_inputs.Statement.{statement}
-use Rattle.graph_faults.proofs.bad_inputs.Tie as tie
+use Rattle.graph_names.proofs.bad_inputs.Statement.{statement}
+use Rattle.graph_names.proofs.bad_inputs.Tie as tie
 
 abbrev Inv-loop : tie.InvT-loop
 Inv-loop graph slots reader₀ reader = (reader ≤ slots) × ((j : ℕ) → j < reader → badInputs (graphOf graph) j ≡ false)
