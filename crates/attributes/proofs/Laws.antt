@@ -17,8 +17,9 @@ use Rattle.definitions.specs.Fields.{signed}
 use Rattle.definitions.specs.Rule.{nodeCount, Expression, anything, constant, access, apply, formAny, formConstant, formAccess, nodeForm, expressionOf, nodeFits, accessesBelow}
 use Rattle.definitions.specs.Attributes.{combine, result, gives, agrees}
 use Rattle.laws.proofs.Lists.{decided, and-left, and-right, allBelow-step, allBelow-fails}
-use Rattle.match_values.specs.Evaluable.{NodeEvaluation}
-use Rattle.match_values.proofs.Laws.{any-node, constant-node, access-node, operation-node}
+use Rattle.match_leaves.specs.Evaluable.{NodeEvaluation}
+use Rattle.match_leaves.proofs.Laws.{any-node, constant-node, access-node}
+use Rattle.match_values.proofs.Laws.{operation-node}
 use Rattle.attributes.specs.Agreement.{agreeFirst}
 use Rattle.attributes.specs.Evaluation.{Evaluation}
 

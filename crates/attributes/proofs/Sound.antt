@@ -5,7 +5,7 @@ use Prim.Native.Nat.{ℕ, _+_}
 use Rattle.definitions.specs.Fields.{byteAt}
 use Rattle.definitions.specs.Rule.{vertexAt, SoundRule}
 use Rattle.laws.proofs.Rule.{use-inside}
-use Rattle.match_values.specs.Evaluable.{Evaluable}
+use Rattle.match_leaves.specs.Evaluable.{Evaluable}
 
 pub rule-evaluable : (block : List ℕ) → SoundRule block → Evaluable block
 rule-evaluable block sound = record {

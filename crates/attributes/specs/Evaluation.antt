@@ -8,7 +8,7 @@ use Rattle.definitions.specs.Graph.{slotCount, graphOf, slotOf}
 use Rattle.definitions.specs.Rule.{sideCapacity, sourceCount, targetCount, ruleOf, sourceOf, targetOf}
 use Rattle.graph_fields.specs.Layout.{ReadableGraph}
 use Rattle.rule_fields.specs.Layout.{ReadableRule}
-use Rattle.match_values.specs.Evaluable.{Evaluable}
+use Rattle.match_leaves.specs.Evaluable.{Evaluable}
 
 -- a table and vertices that can be read, nodes that can be evaluated, and a place for every image
 pub record Evaluation (graph rule images : List ℕ) : Type 0 where

@@ -4,7 +4,7 @@ use definitions::FORM_ADD;
 use definitions::FORM_ANY;
 use definitions::SIDE_CAPACITY;
 use graph_fields::attribute_at;
-use match_values::leaf_value;
+use match_leaves::leaf_value;
 use match_values::operation_value;
 use numbers::Value;
 use numbers::gives;

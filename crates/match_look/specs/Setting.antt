@@ -10,7 +10,7 @@ use Rattle.definitions.specs.Graph.{slotLimit, slotCount, graphOf, usesOf}
 use Rattle.definitions.specs.Rule.{sideCapacity, sourceCount, anything, ruleOf, sourceOf, sourceInputs, isRuleInput, accessesBelow}
 use Rattle.graph_fields.specs.Layout.{ReadableGraph, Closed}
 use Rattle.rule_fields.specs.Layout.{ReadableRule, Layered}
-use Rattle.match_values.specs.Evaluable.{Evaluable}
+use Rattle.match_leaves.specs.Evaluable.{Evaluable}
 use Rattle.rule_uses.specs.Demands.{demandOf}
 
 pub record Matchable (block : List ℕ) : Type 0 where

@@ -1,2 +1,1 @@
-pub mod Evaluable
 pub mod Memo

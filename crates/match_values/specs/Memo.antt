@@ -8,16 +8,10 @@ use Prim.Native.Nat.{ℕ}
 use lib.Dec.{eqb}
 use lib.IntN.{ℤ, pos, negsuc}
 use lib.ListN.{length, getD}
-use Rattle.definitions.specs.Graph.{graphOf}
-use Rattle.definitions.specs.Rule.{nodeLimit, expressionOf}
-use Rattle.definitions.specs.Attributes.{result}
-use Rattle.definitions.specs.Match.{readAttribute}
+use Rattle.definitions.specs.Rule.{nodeLimit}
 use Rattle.numbers.specs.declared.Value.{Value}
 use Rattle.numbers.specs.declared.Value.the-variants.{Nothing, Plus, Minus}
-
--- what node k gives under a map
-abbrev pub nodeResult : List ℕ → List ℕ → List ℕ → ℕ → Option ℤ
-nodeResult graph rule images k = result (readAttribute (graphOf graph) images) (expressionOf rule k)
+use Rattle.match_leaves.specs.Results.{nodeResult}
 
 -- the state of a result that is known: 1 where there is none, 2 for a number from 0 up, 3 for a negative one
 abbrev pub stateOf : Value → ℕ

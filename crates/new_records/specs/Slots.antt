@@ -13,7 +13,7 @@ use Rattle.definitions.specs.Match.{readAttribute}
 use Rattle.definitions.specs.Rewriting.{targetResults, placeOf, redirect}
 use Rattle.graph_fields.specs.Layout.{ReadableGraph}
 use Rattle.rule_fields.specs.Layout.{ReadableRule}
-use Rattle.match_values.specs.Evaluable.{Evaluable}
+use Rattle.match_leaves.specs.Evaluable.{Evaluable}
 use Rattle.target_attributes.specs.Words.{isGiven}
 use Rattle.redirection.specs.Moves.{Movable, moved}
 use Rattle.redirection.specs.declared.Redirection.{Redirection}

@@ -15,7 +15,7 @@ use Rattle.definitions.specs.Match.{readAttribute}
 use Rattle.laws.proofs.Rule.{source-attributes-at}
 use Rattle.fields.specs.Integer.{integerOf}
 use Rattle.numbers.specs.Value.{valueOf}
-use Rattle.match_values.specs.Memo.{nodeResult}
+use Rattle.match_leaves.specs.Results.{nodeResult}
 use Rattle.attributes.proofs.Laws.{of-nodes, any-agrees, result-agrees}
 use Rattle.attributes.proofs.attribute_agrees.Statement.{statement}
 use Rattle.attributes.proofs.attribute_agrees.Tie as tie

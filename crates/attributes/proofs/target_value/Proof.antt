@@ -14,7 +14,7 @@ use Rattle.definitions.specs.Attributes.{result}
 use Rattle.definitions.specs.Match.{readAttribute}
 use Rattle.laws.proofs.Rule.{target-attributes-at}
 use Rattle.numbers.specs.Value.{valueOf, bounded}
-use Rattle.match_values.specs.Memo.{nodeResult}
+use Rattle.match_leaves.specs.Results.{nodeResult}
 use Rattle.match_values.proofs.Laws.{node-bounded}
 use Rattle.attributes.proofs.Laws.{of-nodes}
 use Rattle.attributes.proofs.target_value.Statement.{statement}

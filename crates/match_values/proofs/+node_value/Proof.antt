@@ -9,8 +9,9 @@ use Rattle.definitions.specs.Graph.{graphOf}
 use Rattle.definitions.specs.Rule.{nodeCount, nodeForm, nodeFits}
 use Rattle.definitions.specs.Match.{readAttribute}
 use Rattle.numbers.specs.Value.{valueOf, bounded}
-use Rattle.match_values.specs.Evaluable.{NodeEvaluation}
-use Rattle.match_values.specs.Memo.{nodeResult, Memo}
+use Rattle.match_leaves.specs.Evaluable.{NodeEvaluation}
+use Rattle.match_leaves.specs.Results.{nodeResult}
+use Rattle.match_values.specs.Memo.{Memo}
 use Rattle.rule_accesses.proofs.Laws.{left-earlier, right-earlier}
 use Rattle.match_values.proofs.Laws.{combined-gives, node-bounded, remembered-value, memo-more}
 use borrow.Fn.Kinds.{In}
@@ -18,11 +19,11 @@ use borrow.Fn.PlainCycle.{Measures, is, falls, and}
 use Rattle.match_values.proofs.node_value.Reads as node-value
 use Rattle.match_values.proofs.node_value.Kinds as node-value-kinds
 use Rattle.match_values.proofs.+node_value.Lts-node_value as node-value-lts
-use Rattle.match_values.proofs.leaf_value.Reads as leaf-value-reads
 use Rattle.match_values.proofs.magnitude_of.Reads as magnitude-of-reads
 use Rattle.match_values.proofs.recalled.Reads as recalled-reads
 use Rattle.match_values.proofs.state_of.Reads as state-of-reads
 use Rattle.arithmetic.proofs.combine.Reads as combine-reads
+use Rattle.match_leaves.proofs.leaf_value.Reads as leaf-value-reads
 use Rattle.rule_nodes.proofs.node_byte.Reads as node-byte-reads
 use Rattle.rule_nodes.proofs.node_form.Reads as node-form-reads
 use Rattle.match_values.proofs.+node_value.{statement}

@@ -8,9 +8,9 @@ use Rattle.definitions.specs.Graph.{graphOf}
 use Rattle.definitions.specs.Rule.{nodeForm}
 use Rattle.definitions.specs.Match.{readAttribute}
 use Rattle.numbers.specs.Value.{valueOf}
-use Rattle.match_values.proofs.Laws.{access-vertex, any-gives, constant-gives, read-gives}
-use Rattle.match_values.proofs.leaf_value.Statement.{statement}
-use Rattle.match_values.proofs.leaf_value.Tie as tie
+use Rattle.match_leaves.proofs.Laws.{access-vertex, any-gives, constant-gives, read-gives}
+use Rattle.match_leaves.proofs.leaf_value.Statement.{statement}
+use Rattle.match_leaves.proofs.leaf_value.Tie as tie
 
 abbrev start : tie.Else2 → tie.Start
 start c = c .before .before .before .before .before

@@ -5,9 +5,9 @@ use mathlib.Core.Option.{some}
 use native.Mathlib.Omega.{arith}
 use borrow.Author.Needs.{needs}
 use Rattle.numbers.specs.Value.{valueOf}
-use Rattle.match_values.proofs.Laws.{read-no-slot, read-zero, read-past, read-within}
-use Rattle.match_values.proofs.read_attribute.Statement.{statement}
-use Rattle.match_values.proofs.read_attribute.Tie as tie
+use Rattle.match_leaves.proofs.Laws.{read-no-slot, read-zero, read-past, read-within}
+use Rattle.match_leaves.proofs.read_attribute.Statement.{statement}
+use Rattle.match_leaves.proofs.read_attribute.Tie as tie
 
 abbrev start : tie.After-widened → tie.Start
 start w = w .before .before .before
