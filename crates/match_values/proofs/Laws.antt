@@ -20,7 +20,7 @@ use Rattle.definitions.specs.Attributes.{combine, result}
 use Rattle.definitions.specs.Match.{readAttribute}
 use Rattle.laws.proofs.Lists.{decided}
 use Rattle.laws.proofs.Builds.{build-at, getD-none}
-use Rattle.rule_accesses.proofs.Laws.{left-earlier, right-earlier}
+use Rattle.rule_nodes.proofs.Operands.{left-earlier, right-earlier}
 use Rattle.numbers.specs.declared.Value.{Value}
 use Rattle.numbers.specs.declared.Value.the-variants.{Nothing, Plus, Minus}
 use Rattle.numbers.specs.Value.{valueOf, bounded, operationOf}

@@ -1,19 +1,18 @@
--- Laws about the highest access of an expression, about the array of them, and about the operands of a node.
+-- Laws about the highest access of an expression, and about the array of them.
 -- Assumes nothing.
 use mathlib.Core.Path.{_≡_, refl, sym, ap, ap₂, _∙_}
-use mathlib.Core.Bool.{Bool, true, false, not, _&&_}
+use mathlib.Core.Bool.{true, false, _&&_}
 use mathlib.Core.List.{List, _++_, map}
 use mathlib.Core.Logic.{_⊎_, inl, inr}
 use Prim.Native.Nat.{ℕ, _+_, _-_, _<_, _≤_, max}
 use native.Mathlib.Numerals.{add-one}
 use native.Mathlib.Omega.{arith}
-use borrow.Author.Tests.{lt-ltb, le-ltb, ltb-true, le-leb, lt-leb, leb-true, leb-false, ne-eqb, eqb-true, eqb-false, not-false}
-use lib.Dec.{eqb, ltb, leb, leb·zero}
+use borrow.Author.Tests.{lt-ltb, le-ltb, le-leb, lt-leb, leb-true, leb-false, eqb-true, eqb-false, not-false}
+use lib.Dec.{eqb, leb, leb·zero}
 use lib.ListN.{getD, set, replicate, List·getD-map}
 use Rattle.definitions.specs.Lists.{build}
-use Rattle.definitions.specs.Fields.{byteAt, filled}
-use Rattle.definitions.specs.Rule.{nodeLimit, nodeCount, nodeAt, Expression, anything, constant, access, apply, formAny, formConstant, formAccess, formRemainder, nodeForm, nodeLeft, nodeRight, nodeFrom, expressions, expressionOf, operandFits, nodeFits, badNode, accessesBelow}
-use Rattle.laws.proofs.Lists.{decided, and-left, and-right, lowest-passed}
+use Rattle.definitions.specs.Rule.{nodeLimit, nodeCount, Expression, anything, constant, access, apply, formAny, formConstant, formAccess, nodeForm, nodeLeft, nodeRight, nodeFrom, expressions, expressionOf, nodeFits, badNode, accessesBelow}
+use Rattle.laws.proofs.Lists.{decided, lowest-passed}
 use Rattle.laws.proofs.Builds.{build-more, getD-padded, map-build}
 use Rattle.rule_accesses.specs.Access.{topAccess, topFrom, TopsKnown, NodesFaultless}
 
@@ -33,14 +32,6 @@ below-top j anything = sym (leb·zero j)
 below-top j (constant z) = sym (leb·zero j)
 below-top j (access v b) = refl
 below-top j (apply o x y) = simp (below-top j x, below-top j y) (both-below (topAccess x) (topAccess y) j)
-
--- ---- parts of a conjunction
-
-last : (a b d : Bool) → (a && (b && d)) ≡ true → d ≡ true
-last a b d h = and-right b d (and-right a (b && d) h)
-
-middle : (a b d : Bool) → (a && b && d) ≡ true → b ≡ true
-middle a b d h = and-right a b (and-left (a && b) d h)
 
 -- ---- the nodes of a block
 
@@ -88,33 +79,6 @@ module _ (block : List ℕ) where
         ∙ ap (λ (m : ℕ). getD (build (topFrom block) m) k 0) e
         ∙ ap (λ (xs : List ℕ). getD xs k 0) (sym (map-build topAccess (nodeFrom block) (topFrom block) top-node (nodeCount block)))
         ∙ List·getD-map topAccess (build (nodeFrom block) (nodeCount block)) k anything
-
-  -- ---- operands
-
-  operand-earlier : (k j : ℕ) → operandFits block k j ≡ true → j < k
-  unfolding operandFits
-  operand-earlier k j h = ltb-true j k (and-left (ltb j k) (not (eqb (nodeForm block j) formAny)) h)
-
-  module _ (k : ℕ) (fits : nodeFits block k ≡ true) (operation : formAccess < nodeForm block k) where
-    operands : (leb (nodeForm block k) formRemainder && operandFits block k (nodeLeft block k) && operandFits block k (nodeRight block k)) ≡ true
-    unfolding nodeFits
-    operands =
-        let no-any : eqb (nodeForm block k) formAny ≡ false = ne-eqb (nodeForm block k) formAny (λ e. omega arith) in
-        let no-constant : eqb (nodeForm block k) formConstant ≡ false = ne-eqb (nodeForm block k) formConstant (λ e. omega arith) in
-        let no-access : eqb (nodeForm block k) formAccess ≡ false = ne-eqb (nodeForm block k) formAccess (λ e. omega arith) in
-        last (eqb (byteAt block (nodeAt block k + 3)) 0) (filled block (nodeAt block k + 4) (nodeAt block k + 8) 0)
-        (leb (nodeForm block k) formRemainder && operandFits block k (nodeLeft block k) && operandFits block k (nodeRight block k))
-        (simp (no-any, no-constant, no-access) at fits)
-
-    pub left-earlier : nodeLeft block k < k
-    left-earlier =
-        operand-earlier k (nodeLeft block k)
-        (middle (leb (nodeForm block k) formRemainder) (operandFits block k (nodeLeft block k)) (operandFits block k (nodeRight block k)) operands)
-
-    pub right-earlier : nodeRight block k < k
-    right-earlier =
-        operand-earlier k (nodeRight block k)
-        (and-right (leb (nodeForm block k) formRemainder && operandFits block k (nodeLeft block k)) (operandFits block k (nodeRight block k)) operands)
 
   -- every node fits where a search for a fault passed all
   pub all-fit : NodesFaultless block → (k : ℕ) → k < nodeCount block → nodeFits block k ≡ true

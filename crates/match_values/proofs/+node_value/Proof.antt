@@ -12,7 +12,7 @@ use Rattle.numbers.specs.Value.{valueOf, bounded}
 use Rattle.match_leaves.specs.Evaluable.{NodeEvaluation}
 use Rattle.match_leaves.specs.Results.{nodeResult}
 use Rattle.match_values.specs.Memo.{Memo}
-use Rattle.rule_accesses.proofs.Laws.{left-earlier, right-earlier}
+use Rattle.rule_nodes.proofs.Operands.{left-earlier, right-earlier}
 use Rattle.match_values.proofs.Laws.{combined-gives, node-bounded, remembered-value, memo-more}
 use borrow.Fn.Kinds.{In}
 use borrow.Fn.PlainCycle.{Measures, is, falls, and}

@@ -5,7 +5,7 @@ use native.Mathlib.Omega.{arith}
 use borrow.Author.Tests.{lt-ltb, le-ltb, eq-eqb, ne-eqb}
 use Rattle.definitions.specs.Rule.{formAccess, nodeForm}
 use Rattle.rule_accesses.specs.Access.{topFrom}
-use Rattle.rule_accesses.proofs.Laws.{left-earlier, right-earlier}
+use Rattle.rule_nodes.proofs.Operands.{left-earlier, right-earlier}
 use borrow.Author.Needs.{needs}
 use Rattle.rule_accesses.proofs.node_top.Statement.{statement}
 use Rattle.rule_accesses.proofs.node_top.Tie as tie
