@@ -30,8 +30,8 @@ use Rattle.vacancies.proofs.Laws.{lowest-places}
 use Rattle.redirection.proofs.Laws.{sound-resolvable}
 use Rattle.target_attributes.specs.Words.{isGiven}
 use Rattle.target_attributes.proofs.Laws.{none-given}
-use Rattle.new_records.specs.Slots.{valuesOf, fitResults, Prepared}
-use Rattle.new_records.proofs.Values.{known-values}
+use Rattle.new_vertices.specs.Slots.{valuesOf, fitResults, Prepared}
+use Rattle.new_vertices.proofs.Values.{known-values}
 use Rattle.new_table.specs.Table.{newTable}
 use Rattle.new_plan.specs.Planned.{Matched}
 use Rattle.new_plan.proofs.Same.{read-same, room-same, new-same, rewritten-same}

@@ -1,49 +1,13 @@
--- What the new table's slots are made from, and the facts that their making asks.
+-- What the choice of a slot's record asks of the moves.
 -- Assumes nothing.
 use mathlib.Core.Path.{_≡_}
-use mathlib.Core.Bool.{true}
-use mathlib.Core.List.{List, [], map}
-use mathlib.Core.Option.{Option, none, some}
-use Prim.Native.Nat.{ℕ, _<_}
-use lib.IntN.{ℤ}
-use lib.ListN.{getD}
-use Rattle.definitions.specs.Graph.{unusedPlace, Slot, graphOf}
-use Rattle.definitions.specs.Rule.{sideCapacity, ruleOf}
-use Rattle.definitions.specs.Match.{readAttribute}
-use Rattle.definitions.specs.Rewriting.{targetResults, placeOf, redirect}
-use Rattle.graph_fields.specs.Layout.{ReadableGraph}
-use Rattle.rule_fields.specs.Layout.{ReadableRule}
-use Rattle.match_leaves.specs.Evaluable.{Evaluable}
-use Rattle.target_attributes.specs.Words.{isGiven}
-use Rattle.redirection.specs.Moves.{Movable, moved}
+use mathlib.Core.List.{List}
+use Prim.Native.Nat.{ℕ}
+use Rattle.definitions.specs.Graph.{graphOf}
+use Rattle.definitions.specs.Rule.{ruleOf}
+use Rattle.definitions.specs.Rewriting.{redirect}
+use Rattle.redirection.specs.Moves.{moved}
 use Rattle.redirection.specs.declared.Redirection.{Redirection}
-
--- a slot whose input places are passed through `move`
-unfoldable pub movedSlot : (ℕ → ℕ) → Slot → Slot
-movedSlot move s = record {
-  kind = s .kind;
-  operator = s .operator;
-  inputs = map move (s .inputs);
-  attributes = s .attributes;
-}
-
--- the results, where there are such
-unfoldable pub valuesOf : {A : Type 0} → Option (List A) → List A
-valuesOf none = []
-valuesOf (some values) = values
-
--- the results of the target vertices' attributes
-unfoldable pub fitResults : List ℕ → List ℕ → List ℕ → Option (List (List ℤ))
-fitResults graph rule images = targetResults (readAttribute (graphOf graph) images) (ruleOf rule .target)
-
--- layouts that can be read, what the moves are made from, the target vertices' places, and results for every target attribute
-pub record Prepared (graph rule images places : List ℕ) : Type 0 where
-  pub oldTable : ReadableGraph graph
-  pub patterns : ReadableRule rule
-  pub evaluable : Evaluable rule
-  pub moves : Movable rule images places
-  pub placed : (t : ℕ) → t < sideCapacity → getD places t unusedPlace ≡ placeOf (graphOf graph) (ruleOf rule) images t
-  pub known : isGiven (fitResults graph rule images) ≡ true
 
 -- the moves are the redirection of the rewriting
 abbrev pub Redirects : List ℕ → List ℕ → List ℕ → Redirection → Type 0

@@ -1,117 +1,22 @@
-// The records of the new table, each made from the old table and the rule, which are only read: what stays, with its places redirected,
-// a target vertex, or an Empty slot.
-use definitions::ATTRIBUTE_LIMIT;
-use definitions::INPUT_LIMIT;
-use definitions::KIND_EMPTY;
+// The record of each slot of the new table: which of those that can stand there it is.
 use definitions::SIDE_CAPACITY;
-use definitions::UNUSED_PLACE;
-use graph_fields::attribute_count;
-use graph_fields::attribute_word;
-use graph_fields::input_count;
-use graph_fields::kind_of;
-use graph_fields::operator_of;
 use graph_records::Record;
-use new_places::staying_inputs;
-use new_places::target_inputs;
+use new_vertices::empty_record;
+use new_vertices::staying_record;
+use new_vertices::target_record;
 use redirection::Redirection;
-use rule_fields::target_attribute_count;
 use rule_fields::target_count;
-use rule_fields::target_input_count;
-use rule_fields::target_kind;
-use rule_fields::target_operator;
-use target_attributes::vertex_words;
 ghost use mathlib.Core.Path.{_≡_};
 ghost use mathlib.Core.Bool.{not};
 ghost use Prim.Native.Nat.{_<_};
 ghost use lib.ListN.{length};
-ghost use Rattle.definitions.specs.Lists.{padded, filter, range};
-ghost use Rattle.definitions.specs.Graph.{attributeLimit, slotCount, emptySlot, graphOf, slotOf};
-ghost use Rattle.definitions.specs.Rule.{targetCount, ruleOf};
-ghost use Rattle.definitions.specs.Rewriting.{stays, targetSlot, newSlot};
+ghost use Rattle.definitions.specs.Lists.{filter, range};
+ghost use Rattle.definitions.specs.Graph.{slotCount, graphOf};
+ghost use Rattle.definitions.specs.Rule.{ruleOf};
+ghost use Rattle.definitions.specs.Rewriting.{stays, newSlot};
 ghost use Rattle.graph_records.specs.Records.{Stands};
-ghost use Rattle.redirection.specs.Moves.{moved};
-ghost use Rattle.new_places.specs.Places.{ReadableSlot};
-ghost use Rattle.new_records.specs.Slots.{movedSlot, valuesOf, fitResults, Prepared, Redirects};
-
-// The record of an Empty slot.
-fn empty_record() -> Record
-    ensures { λ r. ⌜ Stands r emptySlot ⌝ }
-{
-    Record {
-        kind: KIND_EMPTY as u8,
-        operator: 0,
-        n: 0,
-        m: 0,
-        inputs: [UNUSED_PLACE; INPUT_LIMIT],
-        attributes: [0u32; ATTRIBUTE_LIMIT],
-    }
-}
-
-// Every attribute place of slot k; zero stands in the unused ones.
-fn attribute_words(graph: &[u8], k: usize) -> [u32; ATTRIBUTE_LIMIT]
-    requires { ⌜ ReadableSlot (now graph) k ⌝ }
-    ensures { λ r. ⌜ r ≡ padded attributeLimit 0 (slotOf (graphOf (now (graph .entry))) k .attributes) ⌝ }
-{
-    let count = attribute_count(graph, k);
-    let mut words = [0u32; ATTRIBUTE_LIMIT];
-    let mut i = 0;
-    while i < count {
-        words[i] = attribute_word(graph, k, i) as u32;
-        i += 1;
-    }
-    words
-}
-
-// The record of a vertex that stays: its input places redirected, and nothing else changed.
-fn staying_record(graph: &[u8], k: usize, way: Redirection) -> Record
-    requires { ⌜ ReadableSlot (now graph) k ⌝ }
-    ensures { λ r. ⌜ Stands r (movedSlot (moved way) (slotOf (graphOf (now (graph .entry))) k)) ⌝ }
-{
-    let kind = kind_of(graph, k);
-    let operator = operator_of(graph, k);
-    let n = input_count(graph, k);
-    let m = attribute_count(graph, k);
-    let inputs = staying_inputs(graph, k, way);
-    let attributes = attribute_words(graph, k);
-    Record {
-        kind: kind as u8,
-        operator: operator as u8,
-        n: n as u8,
-        m: m as u8,
-        inputs,
-        attributes,
-    }
-}
-
-// The record of target vertex t. Its attributes are read from the old table, where the slots that go still hold what they held.
-fn target_record(
-    graph: &[u8],
-    rule: &[u8],
-    images: &[u16; SIDE_CAPACITY],
-    places: &[u16; SIDE_CAPACITY],
-    t: usize,
-) -> Record
-    requires { ⌜ Prepared (now graph) (now rule) (now images) (now places) ⌝ }
-    requires { ⌜ t < targetCount (now rule) ⌝ }
-    ensures { λ r. ⌜ Stands r (targetSlot (graphOf (now (graph .entry))) (ruleOf (now (rule .entry))) (now (images .entry))
-        (valuesOf (fitResults (now (graph .entry)) (now (rule .entry)) (now (images .entry)))) t) ⌝ }
-{
-    let kind = target_kind(rule, t);
-    let operator = target_operator(rule, t);
-    let n = target_input_count(rule, t);
-    let m = target_attribute_count(rule, t);
-    let inputs = target_inputs(rule, t, images, places);
-    let found = vertex_words(graph, rule, images, t);
-    let attributes = found.words;
-    Record {
-        kind: kind as u8,
-        operator: operator as u8,
-        n: n as u8,
-        m: m as u8,
-        inputs,
-        attributes,
-    }
-}
+ghost use Rattle.new_vertices.specs.Slots.{valuesOf, fitResults, Prepared};
+ghost use Rattle.new_records.specs.Slots.{Redirects};
 
 // The record of slot k of the new table. `next` free slots lie below it; so where it is free itself, target vertex `next` takes it, if
 // there is one.

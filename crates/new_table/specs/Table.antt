@@ -5,7 +5,7 @@ use Prim.Native.Nat.{ℕ}
 use Rattle.definitions.specs.Graph.{Graph, graphOf}
 use Rattle.definitions.specs.Rule.{ruleOf}
 use Rattle.definitions.specs.Rewriting.{newGraph}
-use Rattle.new_records.specs.Slots.{valuesOf, fitResults}
+use Rattle.new_vertices.specs.Slots.{valuesOf, fitResults}
 
 -- the table that a rewriting of the block would leave
 unfoldable pub newTable : List ℕ → List ℕ → List ℕ → Graph

@@ -23,7 +23,8 @@ ghost use Rattle.definitions.specs.Graph.{headerBytes, slotBytes, slotLimit, sl
 ghost use Rattle.definitions.specs.Rule.{ruleOutputCount, ruleOf};
 ghost use Rattle.definitions.specs.Rewriting.{stays};
 ghost use Rattle.vacancies.specs.Vacant.{Marks};
-ghost use Rattle.new_records.specs.Slots.{Prepared, Redirects};
+ghost use Rattle.new_vertices.specs.Slots.{Prepared};
+ghost use Rattle.new_records.specs.Slots.{Redirects};
 ghost use Rattle.new_table.specs.Table.{newTable};
 
 // How many free slots lie below the next slot, where `next` lie below this one.

@@ -23,7 +23,7 @@ use Rattle.target_attributes.specs.Words.{isGiven}
 use Rattle.target_attributes.proofs.Laws.{unfit-lacks, fit-found}
 use Rattle.vacancies.specs.Vacant.{marked, Lowest}
 use Rattle.vacancies.proofs.Laws.{marked-free}
-use Rattle.new_records.specs.Slots.{fitResults}
+use Rattle.new_vertices.specs.Slots.{fitResults}
 use Rattle.new_table.specs.Table.{newTable}
 use Rattle.new_plan.proofs.Replies.{planned-refused, planned-done}
 use Rattle.new_plan.proofs.Stages.{removable, unfit, full, prepared, new-table-of, cyclic, done}

@@ -10,7 +10,7 @@ use lib.IntN.{ℤ}
 use Rattle.definitions.specs.Graph.{graphOf}
 use Rattle.definitions.specs.Rule.{ruleOf}
 use Rattle.definitions.specs.Rewriting.{stays}
-use Rattle.new_records.specs.Slots.{valuesOf, fitResults}
+use Rattle.new_vertices.specs.Slots.{valuesOf, fitResults}
 use Rattle.new_records.proofs.Records.{stands-staying, stands-target, stands-empty}
 use Rattle.new_records.proofs.new_record.Statement.{statement}
 use Rattle.new_records.proofs.new_record.Tie as tie

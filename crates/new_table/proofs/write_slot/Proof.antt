@@ -12,7 +12,7 @@ use Rattle.laws.proofs.Rewriting.{new-slot-at}
 use Rattle.laws.proofs.Graph.{length-slots}
 use Rattle.laws.proofs.Parts.{putPart, part-more}
 use Rattle.graph_records.proofs.Laws.{stands-bytes}
-use Rattle.new_records.specs.Slots.{valuesOf, fitResults}
+use Rattle.new_vertices.specs.Slots.{valuesOf, fitResults}
 use Rattle.new_table.specs.Table.{newTable}
 use borrow.Author.Needs.{needs}
 use Rattle.new_table.proofs.write_slot.Statement.{statement}

@@ -16,7 +16,7 @@ use Rattle.laws.proofs.Lists.{bit}
 use Rattle.laws.proofs.Filtered.{filtered-count}
 use Rattle.laws.proofs.Pieces.{pieces-more}
 use Rattle.laws.proofs.Graph.{length-slots}
-use Rattle.new_records.specs.Slots.{valuesOf, fitResults}
+use Rattle.new_vertices.specs.Slots.{valuesOf, fitResults}
 use Rattle.new_table.specs.Table.{newTable}
 use Rattle.laws.proofs.Rewriting.{new-length}
 use borrow.Author.Needs.{needs}

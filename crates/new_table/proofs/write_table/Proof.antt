@@ -17,7 +17,8 @@ use Rattle.graph_records.proofs.Laws.{header-bytes}
 use Rattle.redirection.specs.declared.Redirection.{Redirection}
 use Rattle.redirection.specs.Moves.{moved}
 use Rattle.redirection.proofs.Laws.{redirect-same}
-use Rattle.new_records.specs.Slots.{valuesOf, fitResults, Redirects}
+use Rattle.new_vertices.specs.Slots.{valuesOf, fitResults}
+use Rattle.new_records.specs.Slots.{Redirects}
 use Rattle.new_table.specs.Table.{newTable}
 use borrow.Author.Needs.{needs}
 use Rattle.new_table.proofs.write_table.Statement.{statement}

@@ -8,8 +8,8 @@ use borrow.Author.Needs.{needs}
 use Rattle.definitions.specs.Lists.{padded}
 use Rattle.definitions.specs.Graph.{attributeLimit, graphOf, slotOf}
 use Rattle.laws.proofs.Filling.{Filling, filling-none, filling-more, filling-all}
-use Rattle.new_records.proofs.attribute_words.Statement.{statement}
-use Rattle.new_records.proofs.attribute_words.Tie as tie
+use Rattle.new_vertices.proofs.attribute_words.Statement.{statement}
+use Rattle.new_vertices.proofs.attribute_words.Tie as tie
 
 abbrev Inv-loop : tie.InvT-loop
 Inv-loop graph k count words₀ i₀ words i =

@@ -7,9 +7,9 @@ use lib.ListN.{length-map}
 use Rattle.definitions.specs.Graph.{graphOf}
 use Rattle.definitions.specs.Rule.{ruleOf, targetOf}
 use Rattle.definitions.specs.Rewriting.{resolve, targetSlot}
-use Rattle.new_records.proofs.Records.{word-count, words-same, target-places}
-use Rattle.new_records.proofs.target_record.Statement.{statement}
-use Rattle.new_records.proofs.target_record.Tie as tie
+use Rattle.new_vertices.proofs.Records.{word-count, words-same, target-places}
+use Rattle.new_vertices.proofs.target_record.Statement.{statement}
+use Rattle.new_vertices.proofs.target_record.Tie as tie
 
 target-kind-requires : tie.Need-target-kind-requires
 target-kind-requires c κs = search needs

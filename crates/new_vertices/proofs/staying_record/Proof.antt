@@ -5,9 +5,9 @@ use borrow.Author.Needs.{needs}
 use lib.ListN.{length-map}
 use Rattle.definitions.specs.Graph.{graphOf, inputsOf}
 use Rattle.redirection.specs.Moves.{moved}
-use Rattle.new_records.specs.Slots.{movedSlot}
-use Rattle.new_records.proofs.staying_record.Statement.{statement}
-use Rattle.new_records.proofs.staying_record.Tie as tie
+use Rattle.new_vertices.specs.Slots.{movedSlot}
+use Rattle.new_vertices.proofs.staying_record.Statement.{statement}
+use Rattle.new_vertices.proofs.staying_record.Tie as tie
 
 kind-of-requires : tie.Need-kind-of-requires
 kind-of-requires c κs = search needs
