@@ -4,25 +4,17 @@ use mathlib.Core.Path.{_≡_, sym, ap, _∙_}
 use mathlib.Core.List.{List, [], _∷_, _++_}
 use Prim.Native.Nat.{ℕ, _+_, _*_, _<_, _≤_}
 use native.Mathlib.Nat.{add-zero, add-assoc}
-use native.Mathlib.Numerals.{add-one}
 use native.Mathlib.Omega.{arith}
-use lib.ListN.{length, getD, take, drop, set, length-drop}
-use lib.Seq.{length-take-le, take-suc-set, getD-take, getD-drop, drop-drop, take-add, ext-getD}
+use lib.ListN.{length, getD, take, drop, length-drop}
+use lib.Seq.{length-take-le, getD-take, getD-drop, drop-drop, take-add, ext-getD}
 use Rattle.definitions.specs.Lists.{tabulate, concatMap}
 use Rattle.definitions.specs.Fields.{byteAt, Bytes, u16At, u32At, u16Bytes, u32Bytes}
 use Rattle.definitions.specs.Graph.{slotBytes, inputsOffset, attributesOffset, inputLimit, attributeLimit}
-use Rattle.laws.proofs.Lists.{length-tabulate}
-use Rattle.laws.proofs.Ranges.{tabulate-more}
 use Rattle.encoding.proofs.Pieces.{in-pieces, below-four, length-numbered, numbered-at}
 use Rattle.encoding.proofs.Numbers.{length-u16, length-u32, u16-bytes, u32-bytes}
+use Rattle.graph_arrays.specs.Arrays.{inputsAt, attributesAt}
 use Rattle.graph_records.specs.declared.Record.{Record}
-use Rattle.graph_records.specs.Records.{fieldsOf, inputsAt, attributesAt, fieldsAt}
-
--- an array that is filled from the front: where its first i elements are f's, one more is stored
-pub tabulated-more : (f : ℕ → ℕ) (xs : List ℕ) (i y : ℕ) → i < length xs → y ≡ f i → take i xs ≡ tabulate i f
-    → take (i + 1) (set xs i y) ≡ tabulate (i + 1) f
-tabulated-more f xs i y l e before =
-    rw (add-one, e) (take-suc-set xs i (f i) l ∙ ap (λ (t : List ℕ). t ++ f i ∷ []) before ∙ sym (tabulate-more i f))
+use Rattle.graph_records.specs.Records.{fieldsOf, fieldsAt}
 
 -- ---- bytes of a block, by index
 
@@ -64,15 +56,6 @@ module _ (block : List ℕ) (at : ℕ) where
       every i inside ∙ sym (run-at (size * n) i inside))
 
 -- ---- the record
-
-module _ (block : List ℕ) (at : ℕ) where
-  pub inputs-size : length (inputsAt block at) ≡ inputLimit
-  unfolding inputsAt
-  inputs-size = length-tabulate inputLimit (λ i. u16At block (at + inputsOffset + 2 * i))
-
-  pub attributes-size : length (attributesAt block at) ≡ attributeLimit
-  unfolding attributesAt
-  attributes-size = length-tabulate attributeLimit (λ i. u32At block (at + attributesOffset + 4 * i))
 
 joined : {a b c x y z : List ℕ} → a ≡ x → b ≡ y → c ≡ z → a ++ b ++ c ≡ x ++ y ++ z
 joined e f g = rw (e, f, g)

@@ -7,7 +7,7 @@ use definitions::SLOT_LIMIT;
 use definitions::TAIL_BYTES;
 use graph_fields::output_count;
 use graph_fields::slot_count;
-use graph_records::write_header;
+use graph_headers::write_header;
 use graph_records::write_record;
 use new_places::new_outputs;
 use new_records::new_record;

@@ -4,7 +4,8 @@ use mathlib.Core.Path.{refl, ap, _∙_}
 use native.Mathlib.Omega.{arith}
 use lib.ListN.{length}
 use borrow.Author.Needs.{needs}
-use Rattle.graph_records.proofs.Read.{inputs-size, attributes-size, record-back}
+use Rattle.graph_arrays.proofs.Arrays.{inputs-size, attributes-size}
+use Rattle.graph_records.proofs.Read.{record-back}
 use Rattle.graph_records.proofs.read_record.Statement.{statement}
 use Rattle.graph_records.proofs.read_record.Tie as tie
 

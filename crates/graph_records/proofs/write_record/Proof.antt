@@ -5,8 +5,8 @@ use mathlib.Core.List.{[], _∷_}
 use native.Mathlib.Omega.{arith}
 use lib.ListN.{length-set}
 use Rattle.definitions.specs.Graph.{slotBytes, inputsOffset, attributesOffset, tailOffset}
+use Rattle.graph_headers.proofs.Filled.{filled-up}
 use Rattle.graph_records.specs.Records.{fieldsOf}
-use Rattle.graph_records.proofs.Filled.{filled-up}
 use borrow.Author.Needs.{needs}
 use Rattle.graph_records.proofs.write_record.Statement.{statement}
 use Rattle.graph_records.proofs.write_record.Tie as tie

@@ -1,28 +1,27 @@
 -- After i turns the first i places hold what stands in the block. At the end those are all.
 -- Assumes nothing.
-use mathlib.Core.Path.{_≡_, refl, sym, ap, _∙_}
-use Prim.Native.Nat.{ℕ, _+_, _-_, _*_, _≤_}
+use mathlib.Core.Path.{refl, sym, ap, _∙_}
+use Prim.Native.Nat.{ℕ, _+_, _-_, _*_}
 use native.Mathlib.Omega.{arith}
-use lib.ListN.{length, take, length-set}
-use lib.Seq.{take-all}
-use Rattle.definitions.specs.Lists.{tabulate}
+use Rattle.definitions.specs.Lists.{tabulate, padded, range}
 use Rattle.definitions.specs.Fields.{u32At}
 use Rattle.definitions.specs.Graph.{attributesOffset, attributeLimit}
-use Rattle.graph_records.specs.Records.{attributesAt}
-use Rattle.graph_records.proofs.Read.{tabulated-more}
-use Rattle.graph_records.proofs.read_attributes.Statement.{statement}
-use Rattle.graph_records.proofs.read_attributes.Tie as tie
+use Rattle.laws.proofs.Ranges.{range-at}
+use Rattle.laws.proofs.Filling.{Filling, filling-none, filling-more, filling-all}
+use Rattle.graph_arrays.specs.Arrays.{attributesAt}
+use Rattle.graph_arrays.proofs.read_attributes.Statement.{statement}
+use Rattle.graph_arrays.proofs.read_attributes.Tie as tie
 
 abbrev Inv-loop : tie.InvT-loop
 Inv-loop block at attributes₀ i₀ attributes i =
-    (i ≤ attributeLimit) × (length attributes ≡ attributeLimit) × (take i attributes ≡ tabulate i (λ k. u32At block (at + attributesOffset + 4 * k)))
+    Filling (λ k. u32At block (at + attributesOffset + 4 * k)) 0 attributeLimit (range 0 attributeLimit) attributeLimit i attributes
 
 abbrev μ-loop : tie.MeasureT-loop
 μ-loop block at attributes₀ i₀ attributes i = attributeLimit - i
 
 loop-holds : tie.Need-loop-holds Inv-loop μ-loop
-unfolding tabulate
-loop-holds c = (omega arith, refl, refl)
+unfolding padded range tabulate
+loop-holds c = filling-none refl (omega arith) refl
 
 add-u32-at : tie.Need-add-u32-at Inv-loop μ-loop
 add-u32-at c = omega arith
@@ -43,7 +42,7 @@ mul-attributes : tie.Need-mul-attributes Inv-loop μ-loop
 mul-attributes c = omega arith
 
 array-write-attributes : tie.Need-array-write-attributes Inv-loop μ-loop
-array-write-attributes c = omega (arith, c .before .before .loop .inv .1)
+array-write-attributes c = omega arith
 
 add-i : tie.Need-add-i Inv-loop μ-loop
 add-i c = omega arith
@@ -53,22 +52,14 @@ loop-less c = omega arith
 
 loop-again : tie.Need-loop-again Inv-loop μ-loop
 loop-again c =
-    let l = c .before .before .loop in
-    let a = c .before .before .before .before .args in (
-      omega arith,
-      simp (length-set, l .inv .1),
-      tabulated-more (λ k. u32At (a .block .now) (a .at + attributesOffset + 4 * k)) (l .attributes) (l .i) (c .u32-at .result)
-          (omega (arith, l .inv .1)) (c .u32-at .ensures .0) (l .inv .2),
-    )
+    let a = c .before .before .before .before .args in
+    let f : ℕ → ℕ = λ k. u32At (a .block .now) (a .at + attributesOffset + 4 * k) in
+    filling-more 0 (c .before .before .loop .inv) (c .before .loop-test .taken)
+    (c .u32-at .ensures .0 ∙ ap f (sym (range-at attributeLimit (c .before .before .loop .i) 0 (c .before .loop-test .taken))))
 
 returns : tie.Need-returns Inv-loop μ-loop
-unfolding attributesAt
-returns c =
-    let l = c .before .loop in
-    let a = c .before .before .before .args in
-    let last : l .i ≡ attributeLimit = omega arith in
-    sym (take-all (l .i) (l .attributes) (omega (arith, l .inv .1))) ∙ l .inv .2
-    ∙ ap (λ (n : ℕ). tabulate n (λ k. u32At (a .block .now) (a .at + attributesOffset + 4 * k))) last
+unfolding attributesAt padded range tabulate
+returns c = filling-all (c .before .loop .inv) (c .loop-test .left)
 
 pub read-attributes-spec : {M : Type 1} → statement M
 read-attributes-spec =

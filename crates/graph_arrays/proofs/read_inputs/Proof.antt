@@ -1,28 +1,27 @@
 -- After i turns the first i places hold what stands in the block. At the end those are all.
 -- Assumes nothing.
-use mathlib.Core.Path.{_≡_, refl, sym, ap, _∙_}
-use Prim.Native.Nat.{ℕ, _+_, _-_, _*_, _≤_}
+use mathlib.Core.Path.{refl, sym, ap, _∙_}
+use Prim.Native.Nat.{ℕ, _+_, _-_, _*_}
 use native.Mathlib.Omega.{arith}
-use lib.ListN.{length, take, length-set}
-use lib.Seq.{take-all}
-use Rattle.definitions.specs.Lists.{tabulate}
+use Rattle.definitions.specs.Lists.{tabulate, padded, range}
 use Rattle.definitions.specs.Fields.{u16At}
 use Rattle.definitions.specs.Graph.{inputsOffset, inputLimit}
-use Rattle.graph_records.specs.Records.{inputsAt}
-use Rattle.graph_records.proofs.Read.{tabulated-more}
-use Rattle.graph_records.proofs.read_inputs.Statement.{statement}
-use Rattle.graph_records.proofs.read_inputs.Tie as tie
+use Rattle.laws.proofs.Ranges.{range-at}
+use Rattle.laws.proofs.Filling.{Filling, filling-none, filling-more, filling-all}
+use Rattle.graph_arrays.specs.Arrays.{inputsAt}
+use Rattle.graph_arrays.proofs.read_inputs.Statement.{statement}
+use Rattle.graph_arrays.proofs.read_inputs.Tie as tie
 
 abbrev Inv-loop : tie.InvT-loop
 Inv-loop block at inputs₀ i₀ inputs i =
-    (i ≤ inputLimit) × (length inputs ≡ inputLimit) × (take i inputs ≡ tabulate i (λ k. u16At block (at + inputsOffset + 2 * k)))
+    Filling (λ k. u16At block (at + inputsOffset + 2 * k)) 0 inputLimit (range 0 inputLimit) inputLimit i inputs
 
 abbrev μ-loop : tie.MeasureT-loop
 μ-loop block at inputs₀ i₀ inputs i = inputLimit - i
 
 loop-holds : tie.Need-loop-holds Inv-loop μ-loop
-unfolding tabulate
-loop-holds c = (omega arith, refl, refl)
+unfolding padded range tabulate
+loop-holds c = filling-none refl (omega arith) refl
 
 add-u16-at : tie.Need-add-u16-at Inv-loop μ-loop
 add-u16-at c = omega arith
@@ -43,7 +42,7 @@ mul-inputs : tie.Need-mul-inputs Inv-loop μ-loop
 mul-inputs c = omega arith
 
 array-write-inputs : tie.Need-array-write-inputs Inv-loop μ-loop
-array-write-inputs c = omega (arith, c .before .before .loop .inv .1)
+array-write-inputs c = omega arith
 
 add-i : tie.Need-add-i Inv-loop μ-loop
 add-i c = omega arith
@@ -53,22 +52,14 @@ loop-less c = omega arith
 
 loop-again : tie.Need-loop-again Inv-loop μ-loop
 loop-again c =
-    let l = c .before .before .loop in
-    let a = c .before .before .before .before .args in (
-      omega arith,
-      simp (length-set, l .inv .1),
-      tabulated-more (λ k. u16At (a .block .now) (a .at + inputsOffset + 2 * k)) (l .inputs) (l .i) (c .u16-at .result)
-          (omega (arith, l .inv .1)) (c .u16-at .ensures .0) (l .inv .2),
-    )
+    let a = c .before .before .before .before .args in
+    let f : ℕ → ℕ = λ k. u16At (a .block .now) (a .at + inputsOffset + 2 * k) in
+    filling-more 0 (c .before .before .loop .inv) (c .before .loop-test .taken)
+    (c .u16-at .ensures .0 ∙ ap f (sym (range-at inputLimit (c .before .before .loop .i) 0 (c .before .loop-test .taken))))
 
 returns : tie.Need-returns Inv-loop μ-loop
-unfolding inputsAt
-returns c =
-    let l = c .before .loop in
-    let a = c .before .before .before .args in
-    let last : l .i ≡ inputLimit = omega arith in
-    sym (take-all (l .i) (l .inputs) (omega (arith, l .inv .1))) ∙ l .inv .2
-    ∙ ap (λ (n : ℕ). tabulate n (λ k. u16At (a .block .now) (a .at + inputsOffset + 2 * k))) last
+unfolding inputsAt padded range tabulate
+returns c = filling-all (c .before .loop .inv) (c .loop-test .left)
 
 pub read-inputs-spec : {M : Type 1} → statement M
 read-inputs-spec =
