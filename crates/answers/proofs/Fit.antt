@@ -17,7 +17,8 @@ use Rattle.definitions.specs.Rule.{Origin, Pattern, Rule, targetOf}
 use Rattle.definitions.specs.Match.{readAttribute}
 use Rattle.definitions.specs.Rewriting.{vertexResults, targetResults}
 use Rattle.laws.proofs.Lists.{decided, true-not-false, option-either, allBelow-some}
-use Rattle.target_attributes.specs.Words.{indexLike, isGiven}
+use Rattle.new_words.specs.Words.{indexLike}
+use Rattle.target_attributes.specs.Words.{isGiven}
 use Rattle.target_attributes.specs.Fitness.{fitAt, vertexGiven}
 use Rattle.target_attributes.proofs.Laws.{none-given, told-given, target-lacks, target-found, wordsTo, vertex-lacks, vertex-found}
 use Rattle.answers.specs.Rewritten.{targetResult, NoFit}

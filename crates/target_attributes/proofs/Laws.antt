@@ -17,18 +17,19 @@ use Rattle.definitions.specs.Fields.{wordOf}
 use Rattle.definitions.specs.Operators.{kindProj}
 use Rattle.definitions.specs.Graph.{attributeLimit, atLeastOne}
 use Rattle.definitions.specs.Rule.{Expression, anything, Origin, Pattern, Rule, wildcard, targetOf}
-use Rattle.definitions.specs.Attributes.{inRange, result}
+use Rattle.definitions.specs.Attributes.{result}
 use Rattle.definitions.specs.Rewriting.{results, indexFits, vertexResults, targetResults}
 use Rattle.laws.proofs.Lists.{decided, true-not-false, fails, allBelow-at, allBelow-every, allBelow-some, lowest-none, lowest-found, lowest-passed, all-every, all-fails}
 use Rattle.laws.proofs.Filling.{filled-more}
 use Rattle.laws.proofs.Results.{joined, joined-some, kept, vertex-results}
 use Rattle.numbers.specs.declared.Value.{Value}
-use Rattle.numbers.specs.declared.Value.the-variants.{Nothing, Plus, Minus}
-use Rattle.numbers.specs.Value.{valueOf, limit, bounded}
+use Rattle.numbers.specs.Value.{valueOf}
+use Rattle.new_words.specs.Words.{wordOfValue, indexLike}
+use Rattle.new_words.proofs.Laws.{wordIn, value-word}
 use Rattle.target_attributes.specs.declared.Lack.{Lack}
 use Rattle.target_attributes.specs.declared.Fitness.{Fitness}
 use Rattle.target_attributes.specs.declared.Fitness.the-variants.{Fit, Unfit}
-use Rattle.target_attributes.specs.Words.{wordOfValue, indexLike, isGiven, Given}
+use Rattle.target_attributes.specs.Words.{isGiven, Given}
 use Rattle.target_attributes.specs.Fitness.{fitAt, vertexGiven, isFit, firstUnfit, vertexFitness, targetFitness, Told}
 
 -- ---- what is given
@@ -156,30 +157,6 @@ checked-given read kind (e ∷ es) =
     ∙ ap (λ (b : Bool). indexLike kind (result read e) && b) (checked-given read kind es)
 
 -- ---- words
-
--- the magnitude of a result in range
-pub plus-limit : (v : Value) (n : ℕ) → bounded (valueOf v) ≡ true → v ≡ Plus n → n < limit
-unfolding bounded valueOf inRange
-plus-limit v n t e = ltb-true n limit (rw e at t)
-
-pub minus-limit : (v : Value) (n : ℕ) → bounded (valueOf v) ≡ true → v ≡ Minus n → n < limit
-unfolding bounded valueOf inRange
-minus-limit v n t e = ltb-true n limit (rw e at t)
-
--- the word of a result, and zero where there is none
-abbrev wordIn : Option ℤ → ℕ
-wordIn none = 0
-wordIn (some z) = wordOf z
-
-value-word : (v : Value) → wordOfValue v ≡ wordIn (valueOf v)
-unfolding wordOfValue valueOf wordOf
-value-word Nothing = refl
-value-word (Plus n) = refl
-value-word (Minus n) = refl
-
--- the words as the code has them are the definition's
-pub word-same : (v : Value) (z : ℤ) → valueOf v ≡ some z → wordOfValue v ≡ wordOf z
-word-same v z h = value-word v ∙ ap wordIn h
 
 result-words : (read : ℕ → ℕ → Option ℤ) (es : List Expression) (zs : List ℤ) → results read es ≡ some zs
     → map wordOf zs ≡ map (λ e. wordIn (result read e)) es

@@ -11,10 +11,11 @@ use Rattle.definitions.specs.Lists.{lowest}
 use Rattle.definitions.specs.Rule.{anything, Origin, Pattern, Rule, targetOf}
 use Rattle.definitions.specs.Attributes.{result}
 use Rattle.definitions.specs.Rewriting.{vertexResults}
+use Rattle.new_words.specs.Words.{indexLike}
 use Rattle.target_attributes.specs.declared.Fitness.{Fitness}
 use Rattle.target_attributes.specs.declared.Fitness.the-variants.{Fit, Unfit}
 use Rattle.target_attributes.specs.declared.Words.{Words}
-use Rattle.target_attributes.specs.Words.{indexLike, isGiven, Given}
+use Rattle.target_attributes.specs.Words.{isGiven, Given}
 
 -- attribute i of a target vertex has a fit result
 abbrev pub fitAt : (ℕ → ℕ → Option ℤ) → Pattern Origin → ℕ → Bool

@@ -1,21 +1,18 @@
 // The attributes of the target vertices: their expressions' results for the match, read from the old table, as 32-bit words.
 use attributes::target_value;
 use definitions::ATTRIBUTE_LIMIT;
-use definitions::KIND_PROJ;
 use definitions::SIDE_CAPACITY;
-use numbers::Value;
+use new_words::is_fit;
+use new_words::word_of;
 use rule_fields::target_attribute_count;
 use rule_fields::target_count;
 use rule_fields::target_kind;
 ghost use mathlib.Core.Path.{_≡_};
-ghost use mathlib.Core.Bool.{true};
 ghost use Prim.Native.Nat.{_<_};
 ghost use Rattle.definitions.specs.Graph.{graphOf};
 ghost use Rattle.definitions.specs.Rule.{targetCount, ruleOf, targetOf};
 ghost use Rattle.definitions.specs.Match.{readAttribute};
-ghost use Rattle.numbers.specs.Value.{valueOf, bounded};
 ghost use Rattle.attributes.specs.Evaluation.{Evaluation};
-ghost use Rattle.target_attributes.specs.Words.{wordOfValue, indexLike};
 ghost use Rattle.target_attributes.specs.Fitness.{targetFitness, Told};
 
 // The first that is unfit, by its place among those that were looked at.
@@ -34,34 +31,6 @@ pub enum Fitness {
 pub struct Words {
     pub fitness: Fitness,
     pub words: [u32; ATTRIBUTE_LIMIT],
-}
-
-// The 32-bit word for a result.
-fn word_of(value: Value) -> u32
-    requires { ⌜ bounded (valueOf value) ≡ true ⌝ }
-    ensures { λ r. ⌜ r ≡ wordOfValue value ⌝ }
-{
-    match value {
-        Value::Nothing => 0,
-        Value::Plus(n) => n as u32,
-        Value::Minus(n) => (4294967295 - n) as u32,
-    }
-}
-
-// Whether a result may be an attribute of a vertex of this kind: there is one, and for a Proj it is at least 1.
-fn is_fit(kind: usize, value: Value) -> bool
-    ensures { λ r. ⌜ r ≡ indexLike kind (valueOf value) ⌝ }
-{
-    match value {
-        Value::Nothing => return false,
-        Value::Plus(n) => {
-            if kind == KIND_PROJ {
-                return 0 < n;
-            }
-            return true;
-        }
-        Value::Minus(_) => return kind != KIND_PROJ,
-    }
 }
 
 // The attributes of target vertex t, or the first of them that is unfit.

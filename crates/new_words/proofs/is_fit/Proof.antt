@@ -8,9 +8,9 @@ use lib.Dec.{eqb}
 use Rattle.definitions.specs.Operators.{kindProj}
 use Rattle.definitions.specs.Graph.{atLeastOne}
 use Rattle.numbers.specs.Value.{valueOf}
-use Rattle.target_attributes.specs.Words.{indexLike}
-use Rattle.target_attributes.proofs.is_fit.Statement.{statement}
-use Rattle.target_attributes.proofs.is_fit.Tie as tie
+use Rattle.new_words.specs.Words.{indexLike}
+use Rattle.new_words.proofs.is_fit.Statement.{statement}
+use Rattle.new_words.proofs.is_fit.Tie as tie
 
 enum-told : tie.Need-enum-told
 enum-told c = search needs

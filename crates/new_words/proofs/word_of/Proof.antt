@@ -2,10 +2,10 @@
 -- Assumes nothing.
 use native.Mathlib.Omega.{arith}
 use borrow.Author.Needs.{needs}
-use Rattle.target_attributes.specs.Words.{wordOfValue}
-use Rattle.target_attributes.proofs.Laws.{plus-limit, minus-limit}
-use Rattle.target_attributes.proofs.word_of.Statement.{statement}
-use Rattle.target_attributes.proofs.word_of.Tie as tie
+use Rattle.new_words.specs.Words.{wordOfValue}
+use Rattle.new_words.proofs.Laws.{plus-limit, minus-limit}
+use Rattle.new_words.proofs.word_of.Statement.{statement}
+use Rattle.new_words.proofs.word_of.Tie as tie
 
 enum-told : tie.Need-enum-told
 enum-told c = search needs
