@@ -5,7 +5,7 @@ use mathlib.Core.List.{[], _∷_}
 use native.Mathlib.Omega.{arith}
 use lib.ListN.{length-set}
 use Rattle.definitions.specs.Graph.{slotBytes, inputsOffset, attributesOffset, tailOffset}
-use Rattle.graph_headers.proofs.Filled.{filled-up}
+use Rattle.writing.proofs.Filled.{filled-up}
 use Rattle.graph_records.specs.Records.{fieldsOf}
 use borrow.Author.Needs.{needs}
 use Rattle.graph_records.proofs.write_record.Statement.{statement}

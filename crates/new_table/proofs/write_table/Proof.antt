@@ -12,8 +12,8 @@ use Rattle.definitions.specs.Rewriting.{redirect, newSlot, newGraph}
 use Rattle.laws.proofs.Lists.{length-tabulate, map-same}
 use Rattle.laws.proofs.Parts.{part-more}
 use Rattle.laws.proofs.Graph.{length-slots, length-outputs}
-use Rattle.graph_headers.specs.Headers.{headerWith}
-use Rattle.graph_headers.proofs.Laws.{header-bytes}
+use Rattle.new_header.specs.Headers.{headerWith}
+use Rattle.new_header.proofs.Laws.{header-bytes}
 use Rattle.redirection.specs.declared.Redirection.{Redirection}
 use Rattle.redirection.specs.Moves.{moved}
 use Rattle.redirection.proofs.Laws.{redirect-same}

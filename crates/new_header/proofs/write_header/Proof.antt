@@ -7,11 +7,11 @@ use lib.ListN.{length-set}
 use Rattle.definitions.specs.Lists.{concatMap}
 use Rattle.definitions.specs.Fields.{u16Bytes}
 use Rattle.definitions.specs.Graph.{headerBytes, outputsOffset, outputsEnd, graphLetter}
-use Rattle.graph_headers.specs.Headers.{headerWith}
-use Rattle.graph_headers.proofs.Filled.{filled-up}
+use Rattle.new_header.specs.Headers.{headerWith}
+use Rattle.writing.proofs.Filled.{filled-up}
 use borrow.Author.Needs.{needs}
-use Rattle.graph_headers.proofs.write_header.Statement.{statement}
-use Rattle.graph_headers.proofs.write_header.Tie as tie
+use Rattle.new_header.proofs.write_header.Statement.{statement}
+use Rattle.new_header.proofs.write_header.Tie as tie
 
 slice-write-part : tie.Need-slice-write-part
 slice-write-part c = search needs

@@ -6,7 +6,7 @@ use Prim.Native.Nat.{ℕ}
 use lib.ListN.{length}
 use Rattle.definitions.specs.Lists.{padded}
 use Rattle.definitions.specs.Graph.{outputLimit, unusedPlace, headerBlock}
-use Rattle.graph_headers.specs.Headers.{headerWith}
+use Rattle.new_header.specs.Headers.{headerWith}
 
 pub header-bytes : (n : ℕ) (outputs : List ℕ)
     → headerWith n (length outputs) (padded outputLimit unusedPlace outputs) ≡ headerBlock n outputs

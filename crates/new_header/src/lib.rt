@@ -10,7 +10,7 @@ use writing::put_u16s;
 ghost use mathlib.Core.Path.{_≡_};
 ghost use lib.ListN.{length};
 ghost use Rattle.definitions.specs.Graph.{headerBytes, outputLimit};
-ghost use Rattle.graph_headers.specs.Headers.{headerWith};
+ghost use Rattle.new_header.specs.Headers.{headerWith};
 
 // Writes a graph block's header into its 24 bytes: `outputs` has every output place, of which `count` are used.
 pub fn write_header(part: &mut [u8], slots: u16, count: u16, outputs: &[u16; OUTPUT_LIMIT])
