@@ -25,7 +25,8 @@ use Rattle.rule_check.proofs.Readable.{rule-readable, rule-layered}
 use Rattle.attributes.proofs.Sound.{rule-evaluable}
 use Rattle.encoding.specs.Tables.{Table}
 use Rattle.replacement.proofs.Sound.{new-table}
-use Rattle.vacancies.specs.Vacant.{Removable, Lowest}
+use Rattle.new_slots.specs.Vacant.{Lowest}
+use Rattle.vacancies.specs.Vacant.{Removable}
 use Rattle.vacancies.proofs.Laws.{lowest-places}
 use Rattle.redirection.proofs.Laws.{sound-resolvable}
 use Rattle.target_attributes.specs.Words.{isGiven}

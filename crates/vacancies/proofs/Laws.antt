@@ -11,7 +11,8 @@ use Rattle.definitions.specs.Rule.{Rule, sideCapacity}
 use Rattle.definitions.specs.Rewriting.{stays, freeSlots, placeOf}
 use Rattle.laws.proofs.Members.{range-mem}
 use Rattle.laws.proofs.Filtered.{filter-same, filtered-position}
-use Rattle.vacancies.specs.Vacant.{Marks, marked, Lowest}
+use Rattle.new_slots.specs.Vacant.{marked, Lowest}
+use Rattle.vacancies.specs.Vacant.{Marks}
 
 -- the marked slots are the definition's free ones
 pub marked-free : (g : Graph) (r : Rule) (images : List ℕ) (marks : List Bool)

@@ -1,26 +1,25 @@
--- What one turn of each loop does to the marks, and to the slots listed.
+-- What one turn of each loop does to the marks.
 -- Assumes nothing.
-use mathlib.Core.Path.{_≡_, refl, sym, ap, _∙_}
+use mathlib.Core.Path.{_≡_, sym, ap, _∙_}
 use mathlib.Core.Bool.{Bool, true, false, not, _&&_, _||_, and-false, or-true, or-false, Bool·not-not}
-use mathlib.Core.List.{List, [], _∷_, _++_, append-nil}
+use mathlib.Core.List.{List}
 use mathlib.Core.Logic.{⊎-elim}
-use Prim.Native.Nat.{ℕ, _+_, _<_, _≤_}
+use Prim.Native.Nat.{ℕ, _+_, _<_}
 use native.Mathlib.Numerals.{add-one}
 use native.Mathlib.Omega.{arith}
 use borrow.Author.Tests.{not-true, eq-eqb, ne-eqb, eqb-true, eqb-false, lt-ltb, le-ltb, ltb-true, ltb-false}
 use lib.Dec.{eqb, ltb}
-use lib.ListN.{length, getD, set, replicate, length-set, length-append, length-replicate, List·getD-append, List·getD-eq-default}
-use lib.Seq.{getD-set-same, getD-set-other, getD-at}
-use Rattle.definitions.specs.Lists.{anyBelow, tabulate, filter, range}
-use Rattle.definitions.specs.Graph.{slotLimit, unusedPlace, Graph, isVertex}
-use Rattle.definitions.specs.Rule.{sideCapacity, Rule, isRuleInput}
+use lib.ListN.{length, set, replicate, length-set, length-replicate}
+use lib.Seq.{getD-set-same, getD-set-other}
+use Rattle.definitions.specs.Lists.{anyBelow}
+use Rattle.definitions.specs.Graph.{slotLimit, Graph, isVertex}
+use Rattle.definitions.specs.Rule.{Rule, isRuleInput}
 use Rattle.definitions.specs.Match.{imageOf}
 use Rattle.definitions.specs.Rewriting.{isRemoved, stays}
 use Rattle.laws.proofs.Lists.{decided, true-not-false, and-left, and-right, anyBelow-found, anyBelow-some}
 use Rattle.laws.proofs.Builds.{getD-none}
-use Rattle.laws.proofs.Filtered.{filtered-more}
 use Rattle.laws.proofs.Rewriting.{removed-image, image-removed}
-use Rattle.vacancies.specs.Vacant.{Marks, marked, Lowest}
+use Rattle.vacancies.specs.Vacant.{Marks}
 
 -- ---- marks
 
@@ -132,65 +131,3 @@ module _ (g : Graph) (r : Rule) (images : List ℕ) where
       (λ (t : isVertex g i ≡ true). simp (t, Bool·not-not))
       (λ (t : isVertex g i ≡ false). simp t)
       (decided (isVertex g i)))
-
--- ---- the slots listed
-
-pub lowest-none : (marks : List Bool) → Lowest (marked marks 0) 0 (replicate sideCapacity unusedPlace)
-unfolding marked filter range tabulate
-lowest-none marks = record { counted = refl; size = refl; each = λ t l. getD-none sideCapacity t unusedPlace }
-
-module _ {free : List ℕ} {count : ℕ} {slots : List ℕ} (x : ℕ) (h : Lowest free count slots) where
-  -- a slot more is counted
-  counted-more : count + 1 ≡ length (free ++ x ∷ [])
-  counted-more = simp length-append (omega (arith, h .counted))
-
-  -- the lower ones stand where they stood
-  lower-places : (t : ℕ) → t < sideCapacity → t < count → getD slots t unusedPlace ≡ getD (free ++ x ∷ []) t unusedPlace
-  lower-places t l below = h .each t l ∙ sym (List·getD-append free (x ∷ []) unusedPlace t (omega (arith, h .counted)))
-
-  -- one more slot, where there is a place for it
-  lowest-put : count < sideCapacity → Lowest (free ++ x ∷ []) (count + 1) (set slots count x)
-  lowest-put l = record {
-    counted = counted-more;
-    size = simp length-set (h .size);
-    each = λ t m. ⊎-elim
-        (λ (s : eqb t count ≡ true). rw (eqb-true t count s)
-        (getD-set-same slots count x unusedPlace (omega (arith, h .size))
-        ∙ sym (getD-at free x [] unusedPlace count (sym (h .counted)))))
-        (λ (s : eqb t count ≡ false).
-        getD-set-other slots count t x unusedPlace (eqb-false t count s) ∙ ⊎-elim
-        (λ (b : ltb t count ≡ true). lower-places t m (ltb-true t count b))
-        (λ (b : ltb t count ≡ false).
-        h .each t m
-        ∙ List·getD-eq-default free unusedPlace (omega (arith, h .counted, ltb-false t count b))
-        ∙ sym (List·getD-eq-default (free ++ x ∷ []) unusedPlace
-        (omega (arith, counted-more, ltb-false t count b, eqb-false t count s))))
-        (decided (ltb t count)))
-        (decided (eqb t count));
-  }
-
-  -- and where there is none
-  lowest-past : sideCapacity ≤ count → Lowest (free ++ x ∷ []) (count + 1) slots
-  lowest-past l = record { counted = counted-more; size = h .size; each = λ t m. lower-places t m (omega arith) }
-
--- the list of the marked slots, when one more slot is looked at
-module _ (marks : List Bool) (k : ℕ) where
-  marked-more : getD marks k false ≡ true → marked marks (k + 1) ≡ marked marks k ++ k ∷ []
-  unfolding marked
-  marked-more t = rw add-one (filtered-more (λ i. getD marks i false) k ∙ simp t)
-
-  marked-same : getD marks k false ≡ false → marked marks (k + 1) ≡ marked marks k
-  unfolding marked
-  marked-same t = rw add-one (filtered-more (λ i. getD marks i false) k ∙ simp (t, append-nil))
-
-module _ (marks : List Bool) (k : ℕ) {count : ℕ} {slots : List ℕ} (h : Lowest (marked marks k) count slots) where
-  -- a marked slot is listed where there is a place for it, and counted
-  pub lowest-listed : getD marks k false ≡ true → count < sideCapacity → Lowest (marked marks (k + 1)) (count + 1) (set slots count k)
-  lowest-listed t l = rw (marked-more marks k t) (lowest-put k h l)
-
-  pub lowest-counted : getD marks k false ≡ true → sideCapacity ≤ count → Lowest (marked marks (k + 1)) (count + 1) slots
-  lowest-counted t l = rw (marked-more marks k t) (lowest-past k h l)
-
-  -- another one is neither
-  pub lowest-pass : getD marks k false ≡ false → Lowest (marked marks (k + 1)) count slots
-  lowest-pass t = rw (marked-same marks k t) h

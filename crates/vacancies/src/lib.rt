@@ -1,28 +1,18 @@
-// The slots that are Empty after the removal, and the lowest of them, which the target vertices take in order.
+// The slots that are Empty after the removal.
 use definitions::KIND_EMPTY;
 use definitions::SIDE_CAPACITY;
 use definitions::SLOT_LIMIT;
-use definitions::UNUSED_PLACE;
 use fields::widened;
 use graph_fields::kind_of;
 use graph_fields::slot_count;
 use rule_fields::is_rule_input;
 use rule_fields::source_count;
-ghost use mathlib.Core.Path.{_≡_};
 ghost use mathlib.Core.Bool.{not};
-ghost use Prim.Native.Nat.{_≤_};
-ghost use lib.ListN.{length};
-ghost use Rattle.definitions.specs.Graph.{slotLimit, slotCount, graphOf, isVertex};
+ghost use Rattle.definitions.specs.Graph.{slotCount, graphOf, isVertex};
 ghost use Rattle.definitions.specs.Rule.{ruleOf};
 ghost use Rattle.definitions.specs.Rewriting.{stays};
 ghost use Rattle.graph_fields.specs.Layout.{WholeGraph};
-ghost use Rattle.vacancies.specs.Vacant.{Removable, Marks, marked, Lowest};
-
-// How many slots are free, and the lowest of them; 65535 stands in the places after the last.
-pub struct Places {
-    pub count: usize,
-    pub slots: [u16; SIDE_CAPACITY],
-}
+ghost use Rattle.vacancies.specs.Vacant.{Removable, Marks};
 
 // Marks the slots that are Empty in the block as it came.
 fn mark_empty(graph: &[u8]) -> [bool; SLOT_LIMIT]
@@ -58,25 +48,4 @@ pub fn find_free(graph: &[u8], rule: &[u8], images: &[u16; SIDE_CAPACITY]) -> [b
         j += 1;
     }
     free
-}
-
-// Counts the free ones of the first n slots, and lists the lowest, as many as a rule may have target vertices.
-pub fn lowest_free(free: &[bool; SLOT_LIMIT], n: usize) -> Places
-    requires { ⌜ length (now free) ≡ slotLimit ⌝ }
-    requires { ⌜ n ≤ slotLimit ⌝ }
-    ensures { λ r. ⌜ Lowest (marked (now (free .entry)) n) (r .count) (r .slots) ⌝ }
-{
-    let mut slots = [UNUSED_PLACE; SIDE_CAPACITY];
-    let mut count = 0;
-    let mut k = 0;
-    while k < n {
-        if free[k] {
-            if count < SIDE_CAPACITY {
-                slots[count] = k as u16;
-            }
-            count += 1;
-        }
-        k += 1;
-    }
-    Places { count, slots }
 }

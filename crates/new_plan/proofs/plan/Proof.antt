@@ -21,7 +21,7 @@ use Rattle.encoding.proofs.Blocks.{block-readable, block-closed, block-cycle}
 use Rattle.graph_fields.specs.Layout.{ReadableGraph, Closed}
 use Rattle.target_attributes.specs.Words.{isGiven}
 use Rattle.target_attributes.proofs.Laws.{unfit-lacks, fit-found}
-use Rattle.vacancies.specs.Vacant.{marked, Lowest}
+use Rattle.new_slots.specs.Vacant.{marked, Lowest}
 use Rattle.vacancies.proofs.Laws.{marked-free}
 use Rattle.new_vertices.specs.Slots.{fitResults}
 use Rattle.new_table.specs.Table.{newTable}

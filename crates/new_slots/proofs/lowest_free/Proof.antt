@@ -4,10 +4,10 @@ use mathlib.Core.Path.{_≡_}
 use mathlib.Core.Logic.{⊎-elim}
 use Prim.Native.Nat.{_-_, _≤_}
 use native.Mathlib.Omega.{arith}
-use Rattle.vacancies.specs.Vacant.{marked, Lowest}
-use Rattle.vacancies.proofs.Steps.{lowest-none, lowest-listed, lowest-counted, lowest-pass}
-use Rattle.vacancies.proofs.lowest_free.Statement.{statement}
-use Rattle.vacancies.proofs.lowest_free.Tie as tie
+use Rattle.new_slots.specs.Vacant.{marked, Lowest}
+use Rattle.new_slots.proofs.Steps.{lowest-none, lowest-listed, lowest-counted, lowest-pass}
+use Rattle.new_slots.proofs.lowest_free.Statement.{statement}
+use Rattle.new_slots.proofs.lowest_free.Tie as tie
 
 abbrev Inv-loop : tie.InvT-loop
 Inv-loop free n slots₀ count₀ k₀ slots count k = (k ≤ n) × (count ≤ k) × Lowest (marked free k) count slots
