@@ -24,8 +24,8 @@ use Rattle.rule_check.proofs.Readable.{rule-readable, output-counts}
 use Rattle.rule_order.specs.InOrder.{InOrder, visitedAfter}
 use Rattle.rule_order.proofs.InOrder.{in-order-first, in-order-rest, in-order-start, in-order-whole}
 use Rattle.match_images.specs.Partial.{Partial, Extends, Sends, Step}
-use Rattle.match_look.proofs.Candidates.{Formed, formed}
-use Rattle.match_images.proofs.Maps.{partial-same}
+use Rattle.match_look.proofs.Candidates.{formed}
+use Rattle.match_lowest.specs.Tried.{Tried}
 use Rattle.matching.proofs.Sound.{rule-matchable}
 use Rattle.search.specs.Finds.{Finds}
 use Rattle.search.proofs.Whole.{short-images, partial-match}
@@ -67,15 +67,8 @@ pub record Passed (g : Graph) (r : Rule) (o start first : ℕ) : Type 0 where
   pub from : start ≤ first
   pub left : (whole : List ℕ) → Match g r whole → start ≤ imageOf whole o → first ≤ imageOf whole o
 
--- and where it is at `first`, it has the other output's image at `second` or later
-pub record PassedSecond (g : Graph) (r : Rule) (o p first second : ℕ) : Type 0 where
-  pub left : (whole : List ℕ) → Match g r whole → imageOf whole o ≡ first → second ≤ imageOf whole p
-
 pub passed-start : (g : Graph) (r : Rule) (o start : ℕ) → Passed g r o start start
 passed-start g r o start = record { from = omega arith; left = λ whole m h. h }
-
-pub second-start : (g : Graph) (r : Rule) (o p first : ℕ) → PassedSecond g r o p first 0
-second-start g r o p first = record { left = λ whole m h. omega arith }
 
 -- where `first` itself is no match's image, one more is passed
 pass-first : (g : Graph) (r : Rule) (o start first : ℕ) → Passed g r o start first
@@ -104,20 +97,10 @@ pub record Rooted (g : Graph) (r : Rule) (o first : ℕ) (images : List ℕ) : T
   pub image : imageOf images o ≡ first
   pub forced : (whole : List ℕ) → Match g r whole → imageOf whole o ≡ first → Extends (o + 1) images whole
 
-module _ {g : Graph} {r : Rule} {next end : ℕ} {images made : List ℕ} {Asked : List ℕ → Type 0} {ok : Bool}
-    (step : Step g r next images Asked end ok made) where
-  pub blank-after : Blank r images → Blank r made
-  blank-after b = record { size = step .size; rest = λ i l. step .rest i l ∙ b .rest i l }
-
-  -- a step that leaves the first images as they were
-  pub rooted-after : Formed r → (o first : ℕ) → next ≡ o + 1 → Rooted g r o first images → Rooted g r o first made
-  rooted-after f o first e root =
-      let kept : Extends (o + 1) images made = rw e at (step .kept) in
-      record {
-        partial = partial-same g r (o + 1) images made f (root .partial) kept (step .size);
-        image = kept o (omega arith) ∙ root .image;
-        forced = λ whole m h i l. root .forced whole m h i l ∙ sym (kept i l);
-      }
+-- it is kept by what leaves the places that no source vertex has as they were
+pub blank-after : {r : Rule} {images made : List ℕ} → length made ≡ sideCapacity
+    → ((i : ℕ) → length (r .source) ≤ i → imageOf made i ≡ imageOf images i) → Blank r images → Blank r made
+blank-after size rest b = record { size = size; rest = λ i l. rest i l ∙ b .rest i l }
 
 -- ---- the first output's step: nothing is mapped before it
 
@@ -149,21 +132,12 @@ module _ (g : Graph) (r : Rule) (o first : ℕ) {images made : List ℕ} {ok : B
         forced = λ whole m e i l. forced-root whole m e .1 i (omega arith);
       }
 
--- ---- the second output's step
+-- ---- the second output, where no image of it goes with the first's
 
-module _ (g : Graph) (r : Rule) (o p first second : ℕ) (before : PassedSecond g r o p first second) where
-  pub second-fails : {end : ℕ} {images made : List ℕ} {ok : Bool} → Rooted g r o first images
-      → Step g r (o + 1) images (Sends p second) end ok made → ok ≡ false → PassedSecond g r o p first (second + 1)
-  second-fails root pair f = record {
-    left = λ whole m e.
-        let other : imageOf whole p ≡ second → ⊥ = λ h. true-not-false (pair .forced whole m (root .forced whole m e) h .0) f in
-        omega (arith, before .left whole m e);
-  }
-
-  pub seconds-passed : (start : ℕ) → Passed g r o start first → p < length (r .source) → length (g .slots) ≤ second
-      → Passed g r o start (first + 1)
-  seconds-passed start passed l h = pass-first g r o start first passed
-      (λ whole m e. omega (arith, before .left whole m e, image-inside g r whole p m l))
+pub seconds-fail : (g : Graph) (r : Rule) (o p first start : ℕ) {end : ℕ} {images made : List ℕ} {ok : Bool} → Rooted g r o first images
+    → Tried g r (o + 1) images p 0 end ok made → ok ≡ false → Passed g r o start first → Passed g r o start (first + 1)
+seconds-fail g r o p first start root tried f passed =
+    pass-first g r o start first passed (λ whole m e. tried .none f whole m (root .forced whole m e) (omega arith))
 
 -- ---- what is found
 
@@ -248,14 +222,14 @@ module _ (graph rule : List ℕ) (sound : SoundRule rule) where
           least-map start made (o + 1) (root .partial) (omega arith) blank (rw (first-output, root .image) (passed .from))
           (λ other from. rw (outputs .one c, root .image) (le-cases first (imageOf other o) (first-from other from) (λ e. tt)))
 
-      pub two-found : {images made : List ℕ} {ok : Bool} (second : ℕ) → (count ≡ 1 → ⊥) → PassedSecond g r o q first second
-          → Rooted g r o first images → Step g r (o + 1) images (Sends q second) (max (o + 1) (suc q)) ok made → ok ≡ true
-          → Blank r made → Finds (leastMatch g r start) (sourceCount rule) true made
+      pub two-found : {images made : List ℕ} {ok : Bool} → (count ≡ 1 → ⊥) → Rooted g r o first images
+          → Tried g r (o + 1) images q 0 (max (o + 1) (suc q)) ok made → ok ≡ true → Blank r made
+          → Finds (leastMatch g r start) (sourceCount rule) true made
       unfolding visitedAfter
-      two-found {made = made} second c before root pair t blank =
+      two-found {made = made} c root tried t blank =
           let whole : max (max 0 (suc o)) (suc q) ≡ length (r .source) = rw (outputs .two c) at (in-order-whole rule sound) in
-          let image : imageOf made o ≡ first = pair .kept o (omega arith) ∙ root .image in
-          let other-image : imageOf made q ≡ second = pair .meets t in
-          least-map start made (max (o + 1) (suc q)) (pair .partial t) (omega arith) blank (rw (first-output, image) (passed .from))
-          (λ other from. rw (outputs .two c, image, other-image) (le-cases first (imageOf other o) (first-from other from)
-          (λ e. le-cases second (imageOf other q) (before .left other (from .isMatch) (sym e)) (λ d. tt))))
+          let image : imageOf made o ≡ first = tried .kept o (omega arith) ∙ root .image in
+          least-map start made (max (o + 1) (suc q)) (tried .partial t) (omega arith) blank (rw (first-output, image) (passed .from))
+          (λ other from. rw (outputs .two c, image) (le-cases first (imageOf other o) (first-from other from)
+          (λ e. le-cases (imageOf made q) (imageOf other q)
+          (tried .least t other (from .isMatch) (root .forced other (from .isMatch) (sym e)) (omega arith)) (λ d. tt))))

@@ -6,6 +6,7 @@ use definitions::UNUSED_PLACE;
 use graph_fields::slot_count;
 use graph_uses::count_uses;
 use match_look::pattern_head;
+use match_lowest::match_lowest;
 use matching::match_vertex;
 use rule_fields::output_count;
 use rule_fields::source_output;
@@ -22,8 +23,8 @@ pub struct Found {
     pub images: [u16; SIDE_CAPACITY],
 }
 
-// The nested search. A rule has one output or two: with one, the first output's image decides alone. The array is lent to every
-// step: a step that fails leaves the images that it was given.
+// The nested search. A rule has one output or two: with one, the first output's image decides alone; with two, the lowest image of the
+// second one that goes with it. The array is lent to every step: a step that fails leaves the images that it was given.
 fn search(
     graph: &[u8],
     rule: &[u8],
@@ -41,50 +42,22 @@ fn search(
     let outputs = output_count(rule);
     let root = source_output(rule, 0);
     let last = source_output(rule, outputs - 1);
-    let root_head = pattern_head(rule, root);
-    let last_head = pattern_head(rule, last);
+    let head = pattern_head(rule, root);
     let next = root + 1;
     let mut images = [UNUSED_PLACE; SIDE_CAPACITY];
-    let mut found = false;
-    let mut first = start;
-    'search: while first < slots {
-        if match_vertex(
-            graph,
-            rule,
-            uses,
-            demands,
-            root_head,
-            root,
-            first,
-            0,
-            &mut images,
-        ) {
+    let mut slot = start;
+    while slot < slots {
+        if match_vertex(graph, rule, uses, demands, head, root, slot, 0, &mut images) {
             if outputs == 1 {
-                found = true;
-                break 'search;
+                return Found { ok: true, images };
             }
-            let mut second = 0;
-            while second < slots {
-                if match_vertex(
-                    graph,
-                    rule,
-                    uses,
-                    demands,
-                    last_head,
-                    last,
-                    second,
-                    next,
-                    &mut images,
-                ) {
-                    found = true;
-                    break 'search;
-                }
-                second += 1;
+            if match_lowest(graph, rule, uses, demands, last, 0, next, &mut images) {
+                return Found { ok: true, images };
             }
         }
-        first += 1;
+        slot += 1;
     }
-    Found { ok: found, images }
+    Found { ok: false, images }
 }
 
 // The least match whose first output's image is at least `start`.
