@@ -6,26 +6,28 @@ use mathlib.Core.Bool.{true}
 use mathlib.Core.List.{List}
 use mathlib.Core.Option.{some, Option·some-injective}
 use Prim.Native.Nat.{ℕ}
+use lib.Dec.{T}
 use lib.IntN.{ℤ}
 use lib.ListN.{length, length-map}
 use Rattle.definitions.specs.Fields.{Bytes}
-use Rattle.definitions.specs.Paths.{Acyclic}
+use Rattle.definitions.specs.Paths.{Reads, Acyclic}
 use Rattle.definitions.specs.Reply.{numberIn}
 use Rattle.definitions.specs.Graph.{Graph, graphOf, inputsOf, isVertex, graphBlock, SoundGraph}
 use Rattle.definitions.specs.Rule.{sourceCount, Rule, ruleOf, SoundRule}
-use Rattle.definitions.specs.Match.{readAttribute, Match}
+use Rattle.definitions.specs.Match.{imageOf, readAttribute, Match}
 use Rattle.definitions.specs.Rewriting.{targetResults, stays, hasRoom, redirect, newGraph}
-use Rattle.definitions.specs.Results.{Meaning}
+use Rattle.definitions.specs.Results.{Meaning, Untouched}
 use Rattle.laws.proofs.Members.{holds, true-holds}
 use Rattle.theory.proofs.Results.{Layout, results-unique, results-exist}
 use Rattle.encoding.specs.Tables.{Table, Words}
 use Rattle.encoding.proofs.Blocks.{block-back, block-sound}
 use Rattle.replacement.proofs.Site.{Site, site}
 use Rattle.replacement.proofs.Table.{stays-vertex, staying-vertex, new-outputs, new-layout}
+use Rattle.replacement.proofs.Consts.{reads-none, const-unmoved, const-untouched, const-stays}
 use Rattle.replacement.proofs.Kept.{keeps-untouched, keeps-staying, keeps-outputs}
 use Rattle.replacement.proofs.Sound.{new-table, new-table-words}
 use Rattle.answers.specs.Written.{imagesIn}
-use Rattle.answers.specs.Rewritten.{Keeps}
+use Rattle.answers.specs.Rewritten.{SharedConst, Keeps}
 use Rattle.answers.specs.Statements.{Rewrote, Demand3}
 use Rattle.answers.proofs.Maps.{least-is}
 use Rattle.answers.proofs.Rewriting.{free-acyclic, done-good, done-leaves, written-images}
@@ -75,6 +77,22 @@ module _ (graph rule images : List ℕ) (values : List (List ℤ)) where
     unfolding newGraph
     new-count = length-map (g .outputs) (redirect g r images)
 
+    -- a shared constant stays, no place that names it is redirected, it reads nothing, and no path leads to it from a replaced output
+    module _ (v : ℕ) (shared : SharedConst g r images v) where
+      pub shared-stays : T (stays g r images v)
+      shared-stays =
+          rw (shared .image) at (true-holds (stays g r images (imageOf images (shared .vertex)))
+          (const-stays g r images at (shared .vertex) (shared .inside) (shared .constant) (rw (shared .image) (shared .needed))))
+
+      pub shared-unmoved : redirect g r images v ≡ v
+      shared-unmoved = rw (shared .image) at (const-unmoved g r images at (shared .vertex) (shared .inside) (shared .constant))
+
+      pub shared-plain : (u : ℕ) → Reads (inputsOf g) v u → ⊥
+      shared-plain = rw (shared .image) at (reads-none g r images at (shared .vertex) (shared .inside) (shared .constant))
+
+      shared-untouched : Untouched g r images v
+      shared-untouched = rw (shared .image) at (const-untouched g r images at (shared .vertex) (shared .inside) (shared .constant))
+
     keeps {ℓ} : {R : Type ℓ} (m : Meaning R) → Keeps m g r images values new
     keeps m = record {
       someBefore = results-exist m g (at .layout);
@@ -88,6 +106,8 @@ module _ (graph rule images : List ℕ) (values : List (List ℤ)) where
       sameCount = new-count;
       named = λ v k. true-holds (isVertex new v) (new-outputs g r images values at v k);
       untouched = λ before after old later. keeps-untouched g r images values at m before after old later;
+      constants = λ before after old later v shared.
+          keeps-untouched g r images values at m before after old later v (shared-stays v shared) (shared-untouched v shared);
       staying = λ same before after old later. keeps-staying g r images values at m before after old later (a .acyclic) same;
       outputs = λ same before after old later. keeps-outputs g r images values at m before after old later (a .acyclic) same;
     }

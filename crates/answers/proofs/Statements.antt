@@ -15,7 +15,7 @@ use Rattle.answers.proofs.Blocks.{graph-verdict, rule-verdict}
 use Rattle.answers.proofs.Matching.{match-replies}
 use Rattle.answers.proofs.Rewriting.{block-replies, due, replied, one-of-eight, refusal-keeps, written}
 use Rattle.answers.proofs.Demands.{yields-sound, yields-table, demand-3}
-use Rattle.answers.proofs.Unchanged.{keeps-record}
+use Rattle.answers.proofs.Unchanged.{keeps-record, keeps-constant}
 
 -- A reply without a place and a value is its number, so what is said of `numberIn reply` is said of all that the C side gets.
 pub whole-word : (reply : ℕ) → WithoutPlace reply → reply ≡ numberIn reply
@@ -47,6 +47,7 @@ module _ (graph rule : List ℕ) (start : ℕ) (map : List ℕ) (reply : ℕ) (g
           table = table .3;
           sound = yields-sound graph rule start map reply graphAfter mapAfter contract h;
           records = keeps-record graph rule start map reply graphAfter mapAfter contract h;
+          constants = keeps-constant graph rule start map reply graphAfter mapAfter contract h;
         }
 
     pub rewrote : RewriteReplies graph rule start map reply graphAfter mapAfter

@@ -20,9 +20,9 @@ use Rattle.encoding.proofs.Blocks.{record-held}
 use Rattle.encoding.proofs.Graphs.{table-of, canonical}
 use Rattle.replacement.proofs.Table.{stays-inside, redirect-other, slot-staying}
 use Rattle.answers.specs.Written.{imagesIn}
-use Rattle.answers.specs.Rewritten.{ReadsNone}
-use Rattle.answers.specs.Statements.{Rewrote}
-use Rattle.answers.proofs.Demands.{accepted, table, at}
+use Rattle.answers.specs.Rewritten.{SharedConst, ReadsNone}
+use Rattle.answers.specs.Statements.{Rewrote, KeptConst}
+use Rattle.answers.proofs.Demands.{accepted, table, at, shared-stays, shared-unmoved, shared-plain}
 
 slot-kept : (g : Graph) (r : Rule) (images : List ℕ) (k : ℕ) → ReadsNone g r images k → stayingSlot g r images k ≡ slotOf g k
 unfolding stayingSlot
@@ -52,3 +52,16 @@ module _ (graph rule : List ℕ) (start : ℕ) (before : List ℕ) (reply : ℕ)
       (slot-staying g r images values site k stay ∙ slot-kept g r images k none)
       ∙ sym (record-held g (table-of graph (a .1 .sound)) k inside i l)
       ∙ ap (λ block. byteAt block (recordAt k + i)) (canonical graph (a .1 .sound) (contract .lentGraph))
+
+  -- A shared constant stays with its record, and no place that names it is redirected.
+  pub keeps-constant : numberIn reply ≡ 0 → (v : ℕ) → SharedConst (graphOf graph) (ruleOf rule) (imagesIn after (sourceCount rule)) v
+      → KeptConst graph rule (imagesIn after (sourceCount rule)) graphAfter v
+  keeps-constant h v shared =
+      let images = imagesIn after (sourceCount rule) in
+      let a = accepted graph rule start before reply graphAfter after contract h in
+      let kept = shared-stays graph rule images (a .0) (a .1) v shared in
+      record {
+        kept = kept;
+        named = shared-unmoved graph rule images (a .0) (a .1) v shared;
+        bytes = keeps-record h v kept (λ u m o. shared-plain graph rule images (a .0) (a .1) v shared u m);
+      }

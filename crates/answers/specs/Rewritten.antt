@@ -1,7 +1,7 @@
 -- The words of the theorems about lg_rewrite: when each of its replies is due, what else it keeps, and demand 3 sentence by sentence.
 -- Assumes nothing.
 use mathlib.Core.Path.{_≡_}
-use mathlib.Core.Bool.{false, not}
+use mathlib.Core.Bool.{Bool, true, false, not}
 use mathlib.Core.List.{List, List·Memᴰ}
 use mathlib.Core.Logic.{_⊎_}
 use mathlib.Core.Option.{Option, none, some}
@@ -16,8 +16,8 @@ use Rattle.definitions.specs.Reply.{noMatch, noResult, noRoom, newCycle}
 use Rattle.definitions.specs.Graph.{Graph, inputsOf, isVertex, atLeastOne}
 use Rattle.definitions.specs.Rule.{anything, Rule, targetOf}
 use Rattle.definitions.specs.Attributes.{result}
-use Rattle.definitions.specs.Match.{readAttribute, innerImages, MatchFrom, outputImages, LeastFrom}
-use Rattle.definitions.specs.Rewriting.{targetResults, stays, newGraph}
+use Rattle.definitions.specs.Match.{imageOf, readAttribute, isConst, Private, MatchFrom, outputImages, LeastFrom}
+use Rattle.definitions.specs.Rewriting.{targetResults, isRemoved, stays, newGraph}
 use Rattle.definitions.specs.Results.{Meaning, AreResults, SameOutputs, KeepsUntouched, KeepsStaying, KeepsOutputs}
 
 -- ---- reply 5: a target attribute has no result, or a Proj index is below 1
@@ -40,11 +40,15 @@ pub record NoFit (g : Graph) (r : Rule) (images : List ℕ) : Type 0 where
   pub placeBelow : place < length (targetOf r vertex .attributes)
   pub unfit : Unfit g r images vertex place
 
--- ---- reply 6: T exceeds Empty slots plus removed ones
+-- ---- reply 6: T exceeds Empty slots plus those really removed
 
--- the Empty slots of the old table, and the images of the source vertices that are no rule inputs
+-- how many slots of the table pass a test
+abbrev pub slotsWhere : (ℕ → Bool) → Graph → ℕ
+slotsWhere p g = length (filter p (range 0 (length (g .slots))))
+
+-- the Empty slots of the old table, and those really removed
 abbrev pub room : Graph → Rule → List ℕ → ℕ
-room g r images = length (filter (λ k. not (isVertex g k)) (range 0 (length (g .slots)))) + length (innerImages r images)
+room g r images = slotsWhere (λ k. not (isVertex g k)) g + slotsWhere (isRemoved g r images) g
 
 -- ---- when each reply is due, once map length, graph and rule are good; 5 to 7 and 0 concern the least match, "no other is tried"
 
@@ -53,7 +57,7 @@ pub data Due (g : Graph) (r : Rule) (s : ℕ) : ℕ → Type 0 where
   unmatched : ((images : List ℕ) → MatchFrom g r s images → ⊥) → Due g r s noMatch
   -- 5: there is a least match, and a target attribute is unfit for it
   unfit : (images : List ℕ) → LeastFrom g r s images → NoFit g r images → Due g r s noResult
-  -- 6: all attributes are fit, and T exceeds the Empty slots plus the removed ones
+  -- 6: all attributes are fit, and T exceeds the Empty slots plus those really removed
   full : (images : List ℕ) → LeastFrom g r s images → (NoFit g r images → ⊥)
       → room g r images < length (r .target) → Due g r s noRoom
   -- 7: there is room too, and the table so made has a cycle
@@ -64,6 +68,17 @@ pub data Due (g : Graph) (r : Rule) (s : ℕ) : ℕ → Type 0 where
   done : (images : List ℕ) (values : List (List ℤ)) → LeastFrom g r s images → (NoFit g r images → ⊥)
       → targetResults (readAttribute g images) (r .target) ≡ some values → length (r .target) ≤ room g r images
       → Acyclic (inputsOf (newGraph g r images values)) → Due g r s 0
+
+-- ---- a shared constant
+
+-- v is a matched Const, and something outside the match needs it: a graph output names it, or something reads it that is not the image of
+-- a source vertex other than a rule input
+pub record SharedConst (g : Graph) (r : Rule) (images : List ℕ) (v : ℕ) : Type 0 where
+  pub vertex : ℕ
+  pub inside : vertex < length (r .source)
+  pub constant : isConst r vertex ≡ true
+  pub image : imageOf images vertex ≡ v
+  pub needed : Private g r images v → ⊥
 
 -- ---- 'Nothing else changes'
 
@@ -87,6 +102,9 @@ pub record Keeps {ℓ} {R : Type ℓ} (m : Meaning R) (g : Graph) (r : Rule) (im
   pub named : (v : ℕ) → List·Memᴰ v (new .outputs) → T (isVertex new v)
   -- "Every vertex that stays and has no path to it from a replaced output has the same result after as before."
   pub untouched : (before after : ℕ → R) → AreResults m g before → AreResults m new after → KeepsUntouched g r images before after
+  -- "Otherwise it is a staying vertex, in demand 3 too": a shared constant has the same result, whatever the rule
+  pub constants : (before after : ℕ → R) → AreResults m g before → AreResults m new after
+      → (v : ℕ) → SharedConst g r images v → after v ≡ before v
   -- "Now suppose also that, whatever results the rule's inputs take, each target output has the same result as its source output, with
   -- the attributes of this match. Then every vertex that stays has the same result after as before."
   pub staying : SameOutputs m g r images values

@@ -19,11 +19,11 @@ use Rattle.definitions.specs.Reply.{badMapLength, badGraph, badRule, noMatch, n
 use Rattle.definitions.specs.Graph.{unusedPlace, slotBytes, recordAt, graphOf, graphBlock, graphReply, SoundGraph}
 use Rattle.definitions.specs.Rule.{sourceCount, ruleOf, ruleReply, SoundRule}
 use Rattle.definitions.specs.Match.{readAttribute, MatchFrom, LeastFrom}
-use Rattle.definitions.specs.Rewriting.{targetResults, stays, newGraph}
+use Rattle.definitions.specs.Rewriting.{targetResults, stays, redirect, newGraph}
 use Rattle.definitions.specs.Operations.{atReturn, returned, mapPlaces, mapBytes, findMatch, rewrite}
 use Rattle.definitions.specs.Results.{Meaning}
 use Rattle.answers.specs.Written.{imagesIn}
-use Rattle.answers.specs.Rewritten.{Due, ReadsNone, Keeps}
+use Rattle.answers.specs.Rewritten.{Due, SharedConst, ReadsNone, Keeps}
 
 -- ==== the contracts
 
@@ -118,6 +118,12 @@ pub record MatchReplies (graph rule : List ℕ) (start : ℕ) (map : List ℕ) (
   pub refusalKeeps : (numberIn reply ≡ 0 → ⊥) → mapAfter ≡ map
   pub written : numberIn reply ≡ 0 → WritesLeast graph rule start mapAfter
 
+-- vertex v stays, with every byte of its record, and every place that names it goes on to name it
+pub record KeptConst (graph rule images graphAfter : List ℕ) (v : ℕ) : Type 0 where
+  pub kept : T (stays (graphOf graph) (ruleOf rule) images v)
+  pub named : redirect (graphOf graph) (ruleOf rule) images v ≡ v
+  pub bytes : (i : ℕ) → i < slotBytes → byteAt graphAfter (recordAt v + i) ≡ byteAt graph (recordAt v + i)
+
 -- "An accepted rewriting yields the one table that document 01 describes": for the match `images`, with the results of the target
 -- vertices' expressions. Its block is sound, so that rewritings can follow one another.
 pub record Yields (graph rule images graphAfter : List ℕ) : Type 0 where
@@ -130,6 +136,9 @@ pub record Yields (graph rule images graphAfter : List ℕ) : Type 0 where
   -- of its record.
   pub records : (k : ℕ) → T (stays (graphOf graph) (ruleOf rule) images k) → ReadsNone (graphOf graph) (ruleOf rule) images k
       → (i : ℕ) → i < slotBytes → byteAt graphAfter (recordAt k + i) ≡ byteAt graph (recordAt k + i)
+  -- "It is removed only if all its reads come from images of non-input source vertices and no graph output names it; otherwise it is a
+  -- staying vertex."
+  pub constants : (v : ℕ) → SharedConst (graphOf graph) (ruleOf rule) images v → KeptConst graph rule images graphAfter v
 
 -- the numbers that rewriting gives
 abbrev pub rewriteNumbers : List ℕ

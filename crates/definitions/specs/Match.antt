@@ -12,7 +12,7 @@ use lib.IntN.{ℤ}
 use lib.ListN.{length, getD}
 use Rattle.definitions.specs.Lists.{within, allBelow, total, all, filter, concatMap, allPairs, firstSome, member, count, position, distinct, range}
 use Rattle.definitions.specs.Fields.{signed}
-use Rattle.definitions.specs.Operators.{kindEmpty}
+use Rattle.definitions.specs.Operators.{kindEmpty, kindConst}
 use Rattle.definitions.specs.Graph.{unusedPlace, Slot, Graph, slotOf, inputsOf, isVertex}
 use Rattle.definitions.specs.Rule.{Pattern, Rule, sourceOf, sourceInputs, isRuleInput}
 use Rattle.definitions.specs.Attributes.{agrees}
@@ -28,17 +28,29 @@ attributeOf s b = cond (within 1 b (length (s .attributes))) (some (signed (getD
 unfoldable pub readAttribute : Graph → List ℕ → ℕ → ℕ → Option ℤ
 readAttribute g images v b = attributeOf (slotOf g (imageOf images v)) b
 
--- neither rule input nor source output; a Const is interior
+-- neither rule input nor source output
 unfoldable pub isInterior : Rule → ℕ → Bool
 isInterior r j = not (isRuleInput r j) && not (member j (r .sourceOutputs))
+
+-- a source vertex whose images are Consts; a Const that a wildcard takes is a rule input
+unfoldable pub isConst : Rule → ℕ → Bool
+isConst r j = eqb (sourceOf r j .kind) kindConst
+
+-- an interior vertex that is no Const: nothing outside the match may need its image
+unfoldable pub mustBePrivate : Rule → ℕ → Bool
+mustBePrivate r j = isInterior r j && not (isConst r j)
 
 -- how many input places of source vertices name source vertex j
 unfoldable pub placesOf : Rule → ℕ → ℕ
 placesOf r j = total (λ w. count j (sourceInputs r w)) (length (r .source))
 
+-- the images of the source vertices that pass a test
+unfoldable pub imagesWhere : (ℕ → Bool) → Rule → List ℕ → List ℕ
+imagesWhere p r images = map (imageOf images) (filter p (range 0 (length (r .source))))
+
 -- the images of the source vertices that are not rule inputs
 unfoldable pub innerImages : Rule → List ℕ → List ℕ
-innerImages r images = map (imageOf images) (filter (λ j. not (isRuleInput r j)) (range 0 (length (r .source))))
+innerImages r images = imagesWhere (λ j. not (isRuleInput r j)) r images
 
 -- ---- the meaning: the conditions, in document 01's order
 
@@ -62,7 +74,7 @@ pub record Match (g : Graph) (r : Rule) (images : List ℕ) : Type 0 where
   pub injective : (i j : ℕ) → i < length (r .source) → j < length (r .source) → imageOf images i ≡ imageOf images j → i ≡ j
   pub takes : (j : ℕ) → j < length (r .source) → (sourceOf r j .kind ≡ kindEmpty → ⊥)
       → Takes g images (sourceOf r j) (slotOf g (imageOf images j))
-  pub interior : (j : ℕ) → j < length (r .source) → T (isInterior r j) → Private g r images (imageOf images j)
+  pub interior : (j : ℕ) → j < length (r .source) → T (mustBePrivate r j) → Private g r images (imageOf images j)
 
 -- a match whose first output's image is at least s
 pub record MatchFrom (g : Graph) (r : Rule) (s : ℕ) (images : List ℕ) : Type 0 where
@@ -108,7 +120,7 @@ isMatch g r images =
     && distinct images
     && allBelow (λ j. eqb (sourceOf r j .kind) kindEmpty || takes g images (sourceOf r j) (slotOf g (imageOf images j)))
     (length (r .source))
-    && allBelow (λ j. not (isInterior r j) || isPrivate g r images (imageOf images j)) (length (r .source))
+    && allBelow (λ j. not (mustBePrivate r j) || isPrivate g r images (imageOf images j)) (length (r .source))
 
 -- Output images fix the whole map. From the last source vertex down: an output has its chosen image; another vertex v is read by a
 -- later one, and its image stands in the same input place of that one's image.

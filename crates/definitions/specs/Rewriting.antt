@@ -1,9 +1,10 @@
 -- 'What a rewriting leaves', for a match that is given as its map.
 -- Assumes nothing.
-use mathlib.Core.Bool.{Bool, cond, not, _&&_, _||_}
+use mathlib.Core.Path.{_≡_}
+use mathlib.Core.Bool.{Bool, true, false, cond, not, _&&_, _||_}
 use mathlib.Core.List.{List, [], _∷_, map}
 use mathlib.Core.Option.{Option, none, some}
-use Prim.Native.Nat.{ℕ}
+use Prim.Native.Nat.{ℕ, _<_}
 use lib.Dec.{eqb, ltb, leb}
 use lib.IntN.{ℤ}
 use lib.ListN.{length, getD}
@@ -11,9 +12,9 @@ use Rattle.definitions.specs.Lists.{tabulate, all, filter, member, posit
 use Rattle.definitions.specs.Fields.{wordOf}
 use Rattle.definitions.specs.Operators.{kindProj}
 use Rattle.definitions.specs.Graph.{unusedPlace, Slot, Graph, emptySlot, slotOf, isVertex, atLeastOne}
-use Rattle.definitions.specs.Rule.{Expression, Origin, given, made, Pattern, Rule, targetOf}
+use Rattle.definitions.specs.Rule.{Expression, Origin, given, made, Pattern, Rule, targetOf, isRuleInput}
 use Rattle.definitions.specs.Attributes.{result}
-use Rattle.definitions.specs.Match.{imageOf, innerImages, outputImages}
+use Rattle.definitions.specs.Match.{imageOf, isConst, imagesWhere, Private, isPrivate, outputImages}
 
 -- ---- attributes of the target vertices, read from the old table
 
@@ -45,13 +46,25 @@ targetResults read (p ∷ ps) = elim (vertexResults read p) [
 
 -- ---- slots that go, stay and are taken
 
--- a slot is removed where it is the image of a source vertex that is not a rule input
-unfoldable pub isRemoved : Rule → List ℕ → ℕ → Bool
-isRemoved r images k = member k (innerImages r images)
+-- The meaning: slot v is removed where it is the image of a source vertex that is no rule input. The image of a Const is removed only
+-- where no graph output names it and nothing reads it but such images; else it stays.
+pub record Removed (g : Graph) (r : Rule) (images : List ℕ) (v : ℕ) : Type 0 where
+  pub vertex : ℕ
+  pub inside : vertex < length (r .source)
+  pub inner : isRuleInput r vertex ≡ false
+  pub image : imageOf images vertex ≡ v
+  pub unneeded : isConst r vertex ≡ true → Private g r images v
+
+-- What computes, and is proved to be the meaning. Source vertex j's image goes:
+unfoldable pub goes : Graph → Rule → List ℕ → ℕ → Bool
+goes g r images j = not (isRuleInput r j) && (not (isConst r j) || isPrivate g r images (imageOf images j))
+
+unfoldable pub isRemoved : Graph → Rule → List ℕ → ℕ → Bool
+isRemoved g r images v = member v (imagesWhere (goes g r images) r images)
 
 -- a vertex of the old table that is not removed
 unfoldable pub stays : Graph → Rule → List ℕ → ℕ → Bool
-stays g r images k = isVertex g k && not (isRemoved r images k)
+stays g r images k = isVertex g k && not (isRemoved g r images k)
 
 -- the Empty slots after the removal, lowest first
 unfoldable pub freeSlots : Graph → Rule → List ℕ → List ℕ
@@ -66,7 +79,7 @@ unfoldable pub resolve : Graph → Rule → List ℕ → Origin → ℕ
 resolve g r images (given j) = imageOf images j
 resolve g r images (made t) = placeOf g r images t
 
--- T is at most the Empty slots plus the removed ones (else reply 6)
+-- T is at most the Empty slots plus those really removed (else reply 6)
 unfoldable pub hasRoom : Graph → Rule → List ℕ → Bool
 hasRoom g r images = leb (length (r .target)) (length (freeSlots g r images))
 

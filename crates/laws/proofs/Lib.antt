@@ -2,6 +2,7 @@ pub mod Lists
 pub mod Tests
 pub mod Graph
 pub mod Rule
+pub mod Patterns
 pub mod Operators
 pub mod Walks
 pub mod Builds

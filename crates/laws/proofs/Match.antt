@@ -2,17 +2,18 @@
 -- Assumes nothing.
 use mathlib.Core.Path.{_≡_, ap}
 use mathlib.Core.Bool.{Bool, true, false, not}
-use mathlib.Core.List.{List, List·Memᴰ, Memᴰ·map, Memᴰ·of-map}
+use mathlib.Core.List.{List, map, List·Memᴰ, Memᴰ·map, Memᴰ·of-map}
 use Prim.Native.Nat.{ℕ, _<_}
 use native.Mathlib.Omega.{arith}
 use borrow.Author.Tests.{not-true}
 use lib.ListN.{length, getD}
 use Rattle.definitions.specs.Lists.{filter, distinct, range}
-use Rattle.definitions.specs.Graph.{unusedPlace, Graph, isVertex}
-use Rattle.definitions.specs.Rule.{Rule, isRuleInput}
-use Rattle.definitions.specs.Match.{imageOf, innerImages, Match}
-use Rattle.laws.proofs.Lists.{getD-any}
+use Rattle.definitions.specs.Graph.{unusedPlace, Graph, inputsOf, isVertex}
+use Rattle.definitions.specs.Rule.{Rule, sourceInputs, isRuleInput}
+use Rattle.definitions.specs.Match.{imageOf, imagesWhere, innerImages, Match}
+use Rattle.laws.proofs.Lists.{true-not-false, getD-any}
 use Rattle.laws.proofs.Graph.{vertex-inside}
+use Rattle.laws.proofs.Rule.{wild-input}
 use Rattle.laws.proofs.Members.{holds, mem-range, range-mem}
 use Rattle.laws.proofs.Filtered.{filter-mem, filter-holds, mem-filter, distinct-values, distinct-range}
 
@@ -26,37 +27,54 @@ pub image-inside : (g : Graph) (r : Rule) (images : List ℕ) (j : ℕ) → Matc
     → imageOf images j < length (g .slots)
 image-inside g r images j m l = vertex-inside g (imageOf images j) (holds (isVertex g (imageOf images j)) (m .vertices j l))
 
--- ---- the inner images
+-- the inputs of an inner image are the images of the pattern's inputs
+pub match-inputs : (g : Graph) (r : Rule) (images : List ℕ) → Match g r images → (j : ℕ) → j < length (r .source)
+    → isRuleInput r j ≡ false → inputsOf g (imageOf images j) ≡ map (imageOf images) (sourceInputs r j)
+match-inputs g r images m j l inner = m .takes j l (λ e. true-not-false (wild-input r j l e) inner) .inputs
+
+-- ---- the images of the source vertices that pass a test, and of these only
+
+module _ (p : ℕ → Bool) (r : Rule) (images : List ℕ) where
+  abbrev sources : List ℕ
+  sources = range 0 (length (r .source))
+
+  pub where-image : {v : ℕ} → List·Memᴰ v (imagesWhere p r images)
+      → (j : ℕ) × (j < length (r .source)) × (p j ≡ true) × (imageOf images j ≡ v)
+  unfolding imagesWhere
+  where-image m =
+      let found = Memᴰ·of-map (imageOf images) (filter p sources) m in (
+        found .0,
+        range-mem 0 (length (r .source)) (filter-mem p sources (found .1)) .1,
+        filter-holds p sources (found .1),
+        found .2,
+      )
+
+  pub image-where : (j : ℕ) → j < length (r .source) → p j ≡ true → List·Memᴰ (imageOf images j) (imagesWhere p r images)
+  unfolding imagesWhere
+  image-where j l h = Memᴰ·map (imageOf images) (mem-filter p sources (mem-range 0 (length (r .source)) j (omega arith) l) h)
+
+-- ---- the inner images: of the source vertices that are no rule inputs
 
 module _ (r : Rule) (images : List ℕ) where
   abbrev inner : ℕ → Bool
   inner j = not (isRuleInput r j)
 
-  abbrev sources : List ℕ
-  sources = range 0 (length (r .source))
-
-  -- they are the images of the source vertices that are no rule inputs, and of these only
   pub inner-image : {v : ℕ} → List·Memᴰ v (innerImages r images)
       → (j : ℕ) × (j < length (r .source)) × (isRuleInput r j ≡ false) × (imageOf images j ≡ v)
   unfolding innerImages
   inner-image m =
-      let found = Memᴰ·of-map (imageOf images) (filter inner sources) m in (
-        found .0,
-        range-mem 0 (length (r .source)) (filter-mem inner sources (found .1)) .1,
-        not-true (isRuleInput r (found .0)) (filter-holds inner sources (found .1)),
-        found .2,
-      )
+      let found = where-image inner r images m in
+      (found .0, found .1, not-true (isRuleInput r (found .0)) (found .2), found .3)
 
   pub image-inner : (j : ℕ) → j < length (r .source) → isRuleInput r j ≡ false → List·Memᴰ (imageOf images j) (innerImages r images)
   unfolding innerImages
-  image-inner j l h =
-      Memᴰ·map (imageOf images) (mem-filter inner sources (mem-range 0 (length (r .source)) j (omega arith) l) (ap not h))
+  image-inner j l h = image-where inner r images j l (ap not h)
 
   -- where no two source vertices have one image, no image is listed twice
   pub inner-distinct : ((i j : ℕ) → i < length (r .source) → j < length (r .source) → imageOf images i ≡ imageOf images j → i ≡ j)
       → distinct (innerImages r images) ≡ true
-  unfolding innerImages
-  inner-distinct apart = distinct-values (imageOf images) inner sources (distinct-range (length (r .source)))
+  unfolding innerImages imagesWhere
+  inner-distinct apart = distinct-values (imageOf images) inner (sources inner r images) (distinct-range (length (r .source)))
       (λ i j k l. apart i j (range-mem 0 (length (r .source)) k .1) (range-mem 0 (length (r .source)) l .1))
 
   -- where every image is below n, so are these

@@ -1,33 +1,52 @@
 -- Which slots a rewriting removes, the slots of its new table, and what its tests come to, as the definition has them.
 -- Assumes nothing.
 use mathlib.Core.Path.{_≡_, _∙_}
-use mathlib.Core.Bool.{true, false}
+use mathlib.Core.Bool.{true, false, not, _||_, and-false}
 use mathlib.Core.List.{List}
 use mathlib.Core.Option.{none, some}
 use Prim.Native.Nat.{ℕ, _<_}
+use borrow.Author.Tests.{not-true}
 use lib.IntN.{ℤ}
 use lib.ListN.{length}
 use Rattle.definitions.specs.Reply.{noResult, noRoom, newCycle, refusal}
 use Rattle.definitions.specs.Graph.{Graph, emptySlot, slotOf, hasCycle}
 use Rattle.definitions.specs.Rule.{Rule, isRuleInput}
-use Rattle.definitions.specs.Match.{imageOf, readAttribute, innerImages}
-use Rattle.definitions.specs.Rewriting.{targetResults, isRemoved, hasRoom, newSlot, newGraph}
+use Rattle.definitions.specs.Match.{imageOf, readAttribute, isConst, imagesWhere, isPrivate}
+use Rattle.definitions.specs.Rewriting.{targetResults, goes, isRemoved, hasRoom, newSlot, newGraph}
 use Rattle.definitions.specs.Operations.{accepted, turnedDown, rewrittenWith, rewritten}
-use Rattle.laws.proofs.Lists.{length-tabulate, getD-tabulate}
+use Rattle.laws.proofs.Lists.{needed, and-left, length-tabulate, getD-tabulate}
 use Rattle.laws.proofs.Members.{member-mem, mem-member}
-use Rattle.laws.proofs.Match.{inner-image, image-inner}
+use Rattle.laws.proofs.Match.{where-image, image-where}
 
--- ---- the removed slots are just the images of the source vertices that are no rule inputs
+-- ---- which slots are removed: those of the source vertices whose images go, which are no rule inputs
 
-module _ (r : Rule) (images : List ℕ) where
-  pub removed-image : (v : ℕ) → isRemoved r images v ≡ true
-      → (j : ℕ) × (j < length (r .source)) × (isRuleInput r j ≡ false) × (imageOf images j ≡ v)
+module _ (g : Graph) (r : Rule) (images : List ℕ) where
+  pub goes-inner : (j : ℕ) → goes g r images j ≡ true → isRuleInput r j ≡ false
+  unfolding goes
+  goes-inner j h = not-true (isRuleInput r j)
+      (and-left (not (isRuleInput r j)) (not (isConst r j) || isPrivate g r images (imageOf images j)) h)
+
+  -- the image of a Const goes only where it is private
+  pub goes-private : (j : ℕ) → goes g r images j ≡ true → isConst r j ≡ true → isPrivate g r images (imageOf images j) ≡ true
+  unfolding goes
+  goes-private j h c = needed (isPrivate g r images (imageOf images j)) h (λ f. simp (c, f, and-false))
+
+  pub goes-other : (j : ℕ) → isRuleInput r j ≡ false → isConst r j ≡ false → goes g r images j ≡ true
+  unfolding goes
+  goes-other j h c = simp (h, c)
+
+  pub goes-const : (j : ℕ) → isRuleInput r j ≡ false → isConst r j ≡ true → isPrivate g r images (imageOf images j) ≡ goes g r images j
+  unfolding goes
+  goes-const j h c = simp (h, c)
+
+  pub removed-image : (v : ℕ) → isRemoved g r images v ≡ true
+      → (j : ℕ) × (j < length (r .source)) × (goes g r images j ≡ true) × (imageOf images j ≡ v)
   unfolding isRemoved
-  removed-image v h = inner-image r images (member-mem v (innerImages r images) h)
+  removed-image v h = where-image (goes g r images) r images (member-mem v (imagesWhere (goes g r images) r images) h)
 
-  pub image-removed : (j : ℕ) → j < length (r .source) → isRuleInput r j ≡ false → isRemoved r images (imageOf images j) ≡ true
+  pub image-removed : (j : ℕ) → j < length (r .source) → goes g r images j ≡ true → isRemoved g r images (imageOf images j) ≡ true
   unfolding isRemoved
-  image-removed j l h = mem-member (image-inner r images j l h)
+  image-removed j l h = mem-member (image-where (goes g r images) r images j l h)
 
 module _ (g : Graph) (r : Rule) (images : List ℕ) where
   -- ---- the new table has as many slots as the old one, each as the definition makes it

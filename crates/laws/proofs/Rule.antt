@@ -5,13 +5,13 @@ use mathlib.Core.Bool.{Bool, true, false, and-false}
 use mathlib.Core.List.{List, [], List·Memᴰ, List·Memᴰ·not-nil}
 use mathlib.Core.Logic.{⊎-elim}
 use Prim.Native.Nat.{ℕ, _+_, _<_, _≤_}
-use borrow.Author.Tests.{leb-true, leb-false, ltb-true}
+use borrow.Author.Tests.{leb-true, leb-false, ltb-true, lt-ltb, eq-eqb}
 use lib.Dec.{leb, ltb}
 use lib.ListN.{length, getD, List·getD-eq-default}
 use Rattle.definitions.specs.Lists.{allBelow}
 use Rattle.definitions.specs.Paths.{Reads}
 use Rattle.definitions.specs.Fields.{byteAt}
-use Rattle.definitions.specs.Operators.{shapeFits}
+use Rattle.definitions.specs.Operators.{kindEmpty, shapeFits}
 use Rattle.definitions.specs.Rule.{ruleOutputLimit, sourceCount, targetCount, ruleOutputCount, nodeCount, vertexAt, Expression, Origin, Pattern, Rule, originOf, expressionOf, patternFrom, ruleOf, wildcard, sourceOf, targetOf, sourceInputs, inputKind, isRuleInput, ruleSizesFit, ruleOutputPlacesFit, ruleHeaderFits, patternFits, sourceInputsFit, useFits}
 use Rattle.laws.proofs.Lists.{decided, and-left, needed, length-tabulate, getD-tabulate, all-every, all-member, allBelow-at}
 
@@ -30,6 +30,11 @@ source-reader r j u m =
 pub input-inside : (r : Rule) (j : ℕ) → isRuleInput r j ≡ true → j < length (r .source)
 unfolding isRuleInput
 input-inside r j h = ltb-true j (length (r .source)) (and-left (ltb j (length (r .source))) (inputKind (sourceOf r j .kind)) h)
+
+-- a wildcard is a rule input
+pub wild-input : (r : Rule) (j : ℕ) → j < length (r .source) → sourceOf r j .kind ≡ kindEmpty → isRuleInput r j ≡ true
+unfolding isRuleInput inputKind
+wild-input r j l e = simp (lt-ltb j (length (r .source)) l, eq-eqb (sourceOf r j .kind) kindEmpty e)
 
 module _ (block : List ℕ) where
   pub length-source : length (ruleOf block .source) ≡ sourceCount block

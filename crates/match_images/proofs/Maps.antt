@@ -17,14 +17,15 @@ use Rattle.definitions.specs.Operators.{kindEmpty}
 use Rattle.definitions.specs.Graph.{unusedPlace, Slot, Graph, slotOf, inputsOf, isVertex, usesOf}
 use Rattle.definitions.specs.Rule.{sideCapacity, Rule, sourceOf, sourceInputs}
 use Rattle.definitions.specs.Attributes.{agrees}
-use Rattle.definitions.specs.Match.{imageOf, attributeOf, readAttribute, isInterior, Takes, Match, placesOf}
+use Rattle.definitions.specs.Match.{imageOf, attributeOf, readAttribute, mustBePrivate, Takes, Match, placesOf}
 use Rattle.laws.proofs.Lists.{decided, true-not-false, anyBelow-found, anyBelow-some, map-at, map-same}
 use Rattle.laws.proofs.Members.{holds, true-holds}
+use Rattle.laws.proofs.Rule.{wild-input}
 use Rattle.attributes.specs.Agreement.{agreeFirst}
 use Rattle.attributes.proofs.Laws.{agree-pairs, agree-first-below}
 use Rattle.match_look.specs.Candidate.{slotHead, patternHead, isCandidate}
 use Rattle.match_images.specs.Partial.{Partial, Extends, Sends, SendsInputs, Step}
-use Rattle.match_look.proofs.Candidates.{Formed, wild-input, candidate-same, candidate-vertex, candidate-uses}
+use Rattle.match_look.proofs.Candidates.{Formed, candidate-same, candidate-vertex, candidate-uses}
 
 -- ---- what a vertex asks of a map, it asks of the images of lower vertices
 
@@ -177,7 +178,7 @@ module _ (g : Graph) (r : Rule) (f : Formed r) (j v : ℕ) (images : List ℕ) (
         (λ i l h. rw (low i l) (takes-same g images made r i (slotOf g (imageOf images i)) f (omega arith)
         (λ u k. sym (low u (omega arith))) (p .takes i l h)))
         (λ h. rw here (takes-same g images made r j (slotOf g v) f inside (λ u k. sym (low u k)) (new-takes sends agree h)));
-    demands = below-next (λ i. isInterior r i ≡ true → usesOf g (imageOf made i) ≡ placesOf r i) j
+    demands = below-next (λ i. mustBePrivate r i ≡ true → usesOf g (imageOf made i) ≡ placesOf r i) j
         (λ i l. rw (low i l) (p .demands i l)) (rw here (candidate-uses g r j v fits));
   }
 

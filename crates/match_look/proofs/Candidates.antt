@@ -2,22 +2,22 @@
 -- Assumes nothing.
 use mathlib.Core.Path.{_≡_, refl, sym, ap, _∙_}
 use mathlib.Core.Bool.{Bool, true, false, not, _&&_, and-false, or-true}
-use mathlib.Core.List.{List, [], map}
+use mathlib.Core.List.{List, []}
 use mathlib.Core.Logic.{⊎-elim}
 use Prim.Native.Nat.{ℕ, suc, _-_, _<_, _≤_}
 use native.Mathlib.Omega.{arith}
-use borrow.Author.Tests.{eqb-true, eqb-false, eq-eqb, ne-eqb, lt-ltb}
+use borrow.Author.Tests.{eqb-true, eqb-false, eq-eqb, ne-eqb}
 use lib.Dec.{eqb}
 use lib.ListN.{length, getD}
 use Rattle.definitions.specs.Operators.{kindEmpty}
 use Rattle.definitions.specs.Paths.{Reads}
 use Rattle.definitions.specs.Graph.{Graph, slotOf, inputsOf, isVertex, usesOf}
-use Rattle.definitions.specs.Rule.{Rule, anything, sourceOf, ruleOf, sourceCount, sourceInputs, inputKind, isRuleInput, accessesBelow}
-use Rattle.definitions.specs.Match.{imageOf, isInterior, Match, placesOf}
-use Rattle.laws.proofs.Lists.{decided, true-not-false, and-left, and-right, needed}
+use Rattle.definitions.specs.Rule.{Rule, anything, sourceOf, ruleOf, sourceCount, sourceInputs, isRuleInput, accessesBelow}
+use Rattle.definitions.specs.Match.{imageOf, mustBePrivate, Match, placesOf}
+use Rattle.laws.proofs.Lists.{decided, and-left, and-right, needed}
 use Rattle.laws.proofs.Members.{holds, true-holds, mem-place}
-use Rattle.laws.proofs.Match.{image-inside}
-use Rattle.laws.proofs.Rule.{source-reader, length-source}
+use Rattle.laws.proofs.Match.{image-inside, match-inputs}
+use Rattle.laws.proofs.Rule.{source-reader, length-source, wild-input}
 use Rattle.rule_uses.specs.Demands.{demandOf}
 use Rattle.theory.proofs.Inside.{private-uses}
 use Rattle.match_look.specs.declared.Head.{Head}
@@ -143,11 +143,6 @@ module _ (block : List ℕ) (m : Matchable block) where
     below = λ j i l. m .below j i (rw (length-source block) at l);
   }
 
--- a wildcard is a rule input
-pub wild-input : (r : Rule) (j : ℕ) → j < length (r .source) → sourceOf r j .kind ≡ kindEmpty → isRuleInput r j ≡ true
-unfolding isRuleInput inputKind
-wild-input r j l e = simp (lt-ltb j (length (r .source)) l, eq-eqb (sourceOf r j .kind) kindEmpty e)
-
 -- ---- what the look says
 
 module _ (g : Graph) (r : Rule) (j v : ℕ) (fits : isCandidate g r j v ≡ true) where
@@ -174,7 +169,7 @@ module _ (g : Graph) (r : Rule) (j v : ℕ) (fits : isCandidate g r j v ≡ true
       simp (ne-eqb (slotOf g v .kind) kindEmpty (λ e. h (sym (same .kind) ∙ e))))
       (decided (eqb (sourceOf r j .kind) kindEmpty))
 
-  pub candidate-uses : isInterior r j ≡ true → usesOf g v ≡ placesOf r j
+  pub candidate-uses : mustBePrivate r j ≡ true → usesOf g v ≡ placesOf r j
   unfolding demandOf
   candidate-uses t = met-demand (placesOf r j) (usesOf g v) (rw t at uses)
 
@@ -204,10 +199,6 @@ module _ (g : Graph) (r : Rule) (f : Formed r) (whole : List ℕ) (m : Match g r
   input-inside : (j u : ℕ) → Reads (sourceInputs r) j u → u < length (r .source)
   input-inside j u reads = omega (arith, f .lower j u reads, source-reader r j u reads)
 
-  image-inputs : (j : ℕ) → j < length (r .source) → isRuleInput r j ≡ false
-      → inputsOf g (imageOf whole j) ≡ map (imageOf whole) (sourceInputs r j)
-  image-inputs j l z = m .takes j l (λ e. true-not-false (wild-input r j l e) z) .inputs
-
   module _ (j : ℕ) (l : j < length (r .source)) where
     match-head : headFits (patternHead (sourceOf r j)) (slotHead (slotOf g (imageOf whole j))) ≡ true
     unfolding isVertex slotHead patternHead
@@ -225,12 +216,12 @@ module _ (g : Graph) (r : Rule) (f : Formed r) (whole : List ℕ) (m : Match g r
     match-uses : usesFit (demandOf r j) (usesOf g (imageOf whole j)) ≡ true
     unfolding demandOf
     match-uses = ⊎-elim
-        (λ (t : isInterior r j ≡ true).
+        (λ (t : mustBePrivate r j ≡ true).
         rw t (demand-met (placesOf r j) (usesOf g (imageOf whole j))
-        (private-uses g r whole (f .plain) input-inside (λ i k. image-inside g r whole i m k) (m .injective) image-inputs j l
-        (m .interior j l (true-holds (isInterior r j) t)))))
-        (λ (t : isInterior r j ≡ false). rw t (no-demand (usesOf g (imageOf whole j))))
-        (decided (isInterior r j))
+        (private-uses g r whole (f .plain) input-inside (λ i k. image-inside g r whole i m k) (m .injective) (match-inputs g r whole m) j l
+        (m .interior j l (true-holds (mustBePrivate r j) t)))))
+        (λ (t : mustBePrivate r j ≡ false). rw t (no-demand (usesOf g (imageOf whole j))))
+        (decided (mustBePrivate r j))
 
     pub match-candidate : (v : ℕ) → imageOf whole j ≡ v → isCandidate g r j v ≡ true
     unfolding isCandidate passesLook

@@ -2,19 +2,19 @@
 -- first S, come to the same rewriting.
 -- Assumes nothing.
 use mathlib.Core.Path.{_≡_, ap}
-use mathlib.Core.Bool.{Bool, cond, not, _&&_}
+use mathlib.Core.Bool.{Bool, cond, not, _&&_, _||_}
 use mathlib.Core.List.{List, [], map}
 use mathlib.Core.Option.{none, some}
 use Prim.Native.Nat.{ℕ}
 use lib.Dec.{leb, ltb}
 use lib.IntN.{ℤ}
 use lib.ListN.{length, getD}
-use Rattle.definitions.specs.Lists.{tabulate, filter, member, position, range}
+use Rattle.definitions.specs.Lists.{allBelow, tabulate, filter, member, position, range}
 use Rattle.definitions.specs.Fields.{wordOf}
-use Rattle.definitions.specs.Graph.{unusedPlace, Slot, Graph, emptySlot, slotOf, isVertex, hasCycle}
-use Rattle.definitions.specs.Rule.{Rule, Origin, given, made, targetOf}
-use Rattle.definitions.specs.Match.{imageOf, attributeOf, readAttribute, innerImages}
-use Rattle.definitions.specs.Rewriting.{isRemoved, stays, freeSlots, placeOf, resolve, hasRoom, redirect, targetSlot, stayingSlot, newSlot, newGraph, targetResults}
+use Rattle.definitions.specs.Graph.{unusedPlace, Slot, Graph, emptySlot, slotOf, inputsOf, isVertex, hasCycle}
+use Rattle.definitions.specs.Rule.{Rule, Origin, given, made, targetOf, isRuleInput}
+use Rattle.definitions.specs.Match.{imageOf, attributeOf, readAttribute, isConst, imagesWhere, innerImages, isPrivate}
+use Rattle.definitions.specs.Rewriting.{goes, isRemoved, stays, freeSlots, placeOf, resolve, hasRoom, redirect, targetSlot, stayingSlot, newSlot, newGraph, targetResults}
 use Rattle.definitions.specs.Reply.{noResult, noRoom, newCycle, refusal}
 use Rattle.definitions.specs.Operations.{accepted, turnedDown, rewrittenWith, rewritten}
 
@@ -24,8 +24,22 @@ module _ (g : Graph) (r : Rule) (one other : List ℕ) (same : (j : ℕ) → ima
   images = λ i j. same j i
 
   inner-same : innerImages r one ≡ innerImages r other
-  unfolding innerImages
+  unfolding innerImages imagesWhere
   inner-same = rw images
+
+  private-same : isPrivate g r one ≡ isPrivate g r other
+  unfolding isPrivate
+  private-same = λ i v.
+      not (member v (g .outputs))
+      && allBelow (λ w. not (member v (inputsOf g w)) || member w (inner-same i)) (length (g .slots))
+
+  goes-same : goes g r one ≡ goes g r other
+  unfolding goes
+  goes-same = λ i j. not (isRuleInput r j) && (not (isConst r j) || private-same i (images i j))
+
+  removed-same : imagesWhere (goes g r one) r one ≡ imagesWhere (goes g r other) r other
+  unfolding imagesWhere
+  removed-same = λ i. map (images i) (filter (goes-same i) (range 0 (length (r .source))))
 
   pub read-same : readAttribute g one ≡ readAttribute g other
   unfolding readAttribute
@@ -33,7 +47,7 @@ module _ (g : Graph) (r : Rule) (one other : List ℕ) (same : (j : ℕ) → ima
 
   pub stays-same : stays g r one ≡ stays g r other
   unfolding stays isRemoved
-  stays-same = λ i k. isVertex g k && not (member k (inner-same i))
+  stays-same = λ i k. isVertex g k && not (member k (removed-same i))
 
   free-same : freeSlots g r one ≡ freeSlots g r other
   unfolding freeSlots

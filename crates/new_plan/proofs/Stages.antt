@@ -1,6 +1,6 @@
 -- What the stages of a rewriting at one match come to, as the definition has them, and what each stage asks.
 -- Assumes nothing.
-use mathlib.Core.Path.{_≡_, sym, _∙_, subst}
+use mathlib.Core.Path.{_≡_, sym, _∙_, subst, fun-ext}
 use mathlib.Core.Bool.{true, false}
 use mathlib.Core.List.{List}
 use mathlib.Core.Option.{some}
@@ -16,17 +16,17 @@ use Rattle.definitions.specs.Match.{imageOf, readAttribute}
 use Rattle.definitions.specs.Rewriting.{targetResults, freeSlots, hasRoom}
 use Rattle.definitions.specs.Operations.{accepted, turnedDown, rewritten}
 use Rattle.laws.proofs.Padded.{taken-at}
-use Rattle.laws.proofs.Match.{image-inside}
+use Rattle.laws.proofs.Match.{image-inside, match-inputs}
 use Rattle.laws.proofs.Rewriting.{rewritten-unfit, rewritten-full, rewritten-cyclic, rewritten-done}
 use Rattle.laws.proofs.Graph.{length-slots}
 use Rattle.laws.proofs.Rule.{length-source, length-target}
-use Rattle.graph_check.proofs.Readable.{graph-readable}
-use Rattle.rule_check.proofs.Readable.{rule-readable, rule-layered}
+use Rattle.graph_check.proofs.Readable.{graph-readable, graph-closed, graph-outputs}
+use Rattle.rule_check.proofs.Readable.{rule-readable, rule-layered, rule-plain}
 use Rattle.attributes.proofs.Sound.{rule-evaluable}
 use Rattle.encoding.specs.Tables.{Table}
 use Rattle.replacement.proofs.Sound.{new-table}
 use Rattle.new_slots.specs.Vacant.{Lowest}
-use Rattle.vacancies.specs.Vacant.{Removable}
+use Rattle.new_removal.specs.Removal.{Removable}
 use Rattle.vacancies.proofs.Laws.{lowest-places}
 use Rattle.redirection.proofs.Laws.{sound-resolvable}
 use Rattle.target_attributes.specs.Words.{isGiven}
@@ -63,12 +63,21 @@ module _ (graph rule images : List ℕ) (isMatched : Matched graph rule images) 
   -- ---- the stages
 
   pub removable : Removable graph rule images
-  removable = record {
-    table = graph-readable graph (isMatched .soundGraph) .whole;
-    patterns = rule-readable rule (isMatched .soundRule) .whole;
-    imageSize = isMatched .size;
-    slots = images-inside;
-  }
+  removable =
+      let inside : (j : ℕ) → j < sourceCount rule → j < length (r .source) = λ j l. rw (length-source rule) l in
+      record {
+        table = record {
+          readable = graph-readable graph (isMatched .soundGraph);
+          closed = graph-closed graph (isMatched .soundGraph);
+          outputs = graph-outputs graph (isMatched .soundGraph);
+        };
+        patterns = record { readable = rule-readable rule (isMatched .soundRule); layered = rule-layered rule (isMatched .soundRule) };
+        plain = rule-plain rule (isMatched .soundRule);
+        imageSize = isMatched .size;
+        slots = images-inside;
+        apart = λ i j k l e. isMatched .isMatch .injective i j (inside i k) (inside j l) (sym (same i) ∙ e ∙ same j);
+        inputs = λ j l h. rw (fun-ext same) (match-inputs g r found (isMatched .isMatch) j (inside j l) h);
+      }
 
   pub unfit : isGiven (fitResults graph rule images) ≡ false → rewritten g r found ≡ turnedDown (refusal noResult)
   unfolding fitResults

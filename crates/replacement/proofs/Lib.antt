@@ -1,5 +1,6 @@
 pub mod Site
 pub mod Table
+pub mod Consts
 pub mod Kept
 pub mod Values
 pub mod Slots

@@ -2,7 +2,7 @@
 -- Assumes nothing.
 use mathlib.Core.Path.{_≡_, refl, sym, ap, _∙_, subst}
 use mathlib.Core.Bool.{Bool, true, false, not, _||_}
-use mathlib.Core.List.{List, List·Memᴰ, List·Memᴰ·not-nil, Memᴰ·map, Memᴰ·of-map, Memᴰ·cast}
+use mathlib.Core.List.{List, [], map, List·Memᴰ, List·Memᴰ·not-nil, Memᴰ·map, Memᴰ·of-map, Memᴰ·cast}
 use mathlib.Core.Logic.{_⊎_, inl, inr, ⊎-elim}
 use Prim.Native.Nat.{ℕ, _<_, _≤_}
 use native.Mathlib.Omega.{arith}
@@ -15,14 +15,16 @@ use Rattle.definitions.specs.Operators.{kindEmpty, kindVariable}
 use Rattle.definitions.specs.Paths.{Reads, Acyclic}
 use Rattle.definitions.specs.Graph.{unusedPlace, Slot, Graph, emptySlot, slotOf, inputsOf, isVertex}
 use Rattle.definitions.specs.Rule.{Origin, given, made, Rule, sourceOf, targetOf, inputKind, isRuleInput, originFits}
-use Rattle.definitions.specs.Match.{imageOf, isInterior, Private, outputImages}
+use Rattle.definitions.specs.Match.{imageOf, isInterior, isConst, mustBePrivate, innerImages, Private, outputImages}
 use Rattle.definitions.specs.Rewriting.{isRemoved, stays, freeSlots, placeOf, resolve, hasRoom, redirect, targetSlot, stayingSlot, newSlot, newGraph}
 use Rattle.laws.proofs.Lists.{decided, true-not-false, fails, and-left, and-right, getD-any, map-at, all-member}
 use Rattle.laws.proofs.Members.{holds, true-holds, mem-member, member-mem, mem-at, mem-range, position-at, position-inside}
 use Rattle.laws.proofs.Filtered.{mem-filter, filtered-holds, filtered-below, filtered-place}
 use Rattle.laws.proofs.Graph.{slot-past, reader-inside, vertex-inside}
 use Rattle.laws.proofs.Rule.{input-inside}
-use Rattle.laws.proofs.Rewriting.{removed-image, new-length, new-slot-at}
+use Rattle.laws.proofs.Match.{match-inputs, inner-image}
+use Rattle.laws.proofs.Rewriting.{goes-other, image-removed, new-length, new-slot-at}
+use Rattle.theory.proofs.Removed.{removed-sound}
 use Rattle.theory.proofs.Results.{Layout}
 use Rattle.replacement.proofs.Site.{Site}
 
@@ -57,11 +59,11 @@ module _ (g : Graph) (r : Rule) (images : List ℕ) where
   -- what stays is a vertex of the old table, so a slot of it, and it is not removed
   pub stays-vertex : (v : ℕ) → stays g r images v ≡ true → isVertex g v ≡ true
   unfolding stays
-  stays-vertex v h = and-left (isVertex g v) (not (isRemoved r images v)) h
+  stays-vertex v h = and-left (isVertex g v) (not (isRemoved g r images v)) h
 
-  pub stays-kept : (v : ℕ) → stays g r images v ≡ true → isRemoved r images v ≡ false
+  pub stays-kept : (v : ℕ) → stays g r images v ≡ true → isRemoved g r images v ≡ false
   unfolding stays
-  stays-kept v h = not-true (isRemoved r images v) (and-right (isVertex g v) (not (isRemoved r images v)) h)
+  stays-kept v h = not-true (isRemoved g r images v) (and-right (isVertex g v) (not (isRemoved g r images v)) h)
 
   pub stays-inside : (v : ℕ) → stays g r images v ≡ true → v < length (g .slots)
   stays-inside v h = vertex-inside g v (stays-vertex v h)
@@ -100,34 +102,61 @@ module _ (g : Graph) (r : Rule) (images : List ℕ) (site : Site g r images) whe
   unfolding stays
   input-stays j h =
       let inside : j < length (r .source) = input-inside r j h in
-      let kept : isRemoved r images (imageOf images j) ≡ false = fails (λ t.
-      let found = removed-image r images (imageOf images j) t in
-      let same : found .0 ≡ j = site .isMatch .injective (found .0) j (found .1) inside (found .3) in
-      true-not-false h (subst (λ (i : ℕ). isRuleInput r i ≡ false) same (found .2))) in
+      let kept : isRemoved g r images (imageOf images j) ≡ false = fails (λ t.
+      let found = removed-sound g r images (imageOf images j) t in
+      let same : found .vertex ≡ j = site .isMatch .injective (found .vertex) j (found .inside) inside (found .image) in
+      true-not-false h (subst (λ (i : ℕ). isRuleInput r i ≡ false) same (found .inner))) in
       simp (holds (isVertex g (imageOf images j)) (site .isMatch .vertices j inside), kept)
+
+  -- the image of a removed vertex is private to the match, or a replaced output
+  removed-private : (v : ℕ) → isRemoved g r images v ≡ true → (member v (outputImages r images) ≡ true) ⊎ Private g r images v
+  unfolding mustBePrivate isInterior
+  removed-private v t =
+      let found = removed-sound g r images v t in
+      let j : ℕ = found .vertex in
+      ⊎-elim
+      (λ (o : member j (r .sourceOutputs) ≡ true).
+      inl (mem-member (Memᴰ·cast (sym (found .image)) (Memᴰ·map (imageOf images) (member-mem j (r .sourceOutputs) o)))))
+      (λ (o : member j (r .sourceOutputs) ≡ false). inr (⊎-elim
+      (λ (c : isConst r j ≡ true). found .unneeded c)
+      (λ (c : isConst r j ≡ false).
+      subst (Private g r images) (found .image)
+      (site .isMatch .interior j (found .inside) (true-holds (mustBePrivate r j) (simp (found .inner, o, c)))))
+      (decided (isConst r j))))
+      (decided (member j (r .sourceOutputs)))
 
   -- a vertex that is not private to the match is a replaced output, or it stays
   shared-named : (v : ℕ) → isVertex g v ≡ true → (Private g r images v → ⊥) → ReplacedOrStays g r images v
-  unfolding stays isInterior
+  unfolding stays
   shared-named v vertex shared = ⊎-elim
-      (λ (t : isRemoved r images v ≡ true).
-      let found = removed-image r images v t in
+      (λ (t : isRemoved g r images v ≡ true). ⊎-elim
+      (λ (o : member v (outputImages r images) ≡ true). inl o)
+      (λ (p : Private g r images v). absurd (shared p))
+      (removed-private v t))
+      (λ (t : isRemoved g r images v ≡ false). inr (simp (vertex, t)))
+      (decided (isRemoved g r images v))
+
+  -- the image of a Const reads nothing
+  pub const-reads : (j : ℕ) → j < length (r .source) → isRuleInput r j ≡ false → isConst r j ≡ true → inputsOf g (imageOf images j) ≡ []
+  const-reads j l inner c =
+      match-inputs g r images (site .isMatch) j l inner ∙ ap (map (imageOf images)) (site .constants j l c)
+
+  -- so an inner image that reads something is that of another kind, and goes
+  reader-removed : (w v : ℕ) → List·Memᴰ w (innerImages r images) → Reads (inputsOf g) w v → isRemoved g r images w ≡ true
+  reader-removed w v m reads =
+      let found = inner-image r images m in
       let j : ℕ = found .0 in
       ⊎-elim
-      (λ (o : member j (r .sourceOutputs) ≡ true).
-      inl (mem-member (Memᴰ·cast (sym (found .3)) (Memᴰ·map (imageOf images) (member-mem j (r .sourceOutputs) o)))))
-      (λ (o : member j (r .sourceOutputs) ≡ false).
-      absurd (shared (subst (Private g r images) (found .3)
-      (site .isMatch .interior j (found .1) (true-holds (isInterior r j) (simp (found .2, o)))))))
-      (decided (member j (r .sourceOutputs))))
-      (λ (t : isRemoved r images v ≡ false). inr (simp (vertex, t)))
-      (decided (isRemoved r images v))
+      (λ (c : isConst r j ≡ true).
+      absurd (List·Memᴰ·not-nil (subst (List·Memᴰ v) (rw (found .3) at (const-reads j (found .1) (found .2) c)) reads)))
+      (λ (c : isConst r j ≡ false).
+      rw (found .3) at (image-removed g r images j (found .1) (goes-other g r images j (found .2) c)))
+      (decided (isConst r j))
 
   -- what a staying vertex reads is a replaced output, or it stays
   pub read-named : (w v : ℕ) → stays g r images w ≡ true → Reads (inputsOf g) w v → ReplacedOrStays g r images v
-  unfolding isRemoved
   read-named w v h m = shared-named v (site .layout .vertices w v m)
-      (λ p. true-not-false (mem-member (p .readers w m)) (stays-kept g r images w h))
+      (λ p. true-not-false (reader-removed w v (p .readers w m) m) (stays-kept g r images w h))
 
   -- and so is what a graph output names
   pub output-named : (v : ℕ) → List·Memᴰ v (g .outputs) → ReplacedOrStays g r images v

@@ -1,7 +1,7 @@
 -- What soundness of a rule block gives to those that read it: the layout, what inputs and outputs name, what the tables say of rule
 -- inputs, and what attributes access.
 -- Assumes nothing.
-use mathlib.Core.Path.{_≡_, refl, sym, ap, _∙_}
+use mathlib.Core.Path.{_≡_, refl, ap, _∙_}
 use mathlib.Core.Bool.{true, false, and-false}
 use mathlib.Core.List.{List, []}
 use mathlib.Core.Logic.{⊎-elim}
@@ -11,12 +11,13 @@ use borrow.Author.Tests.{ltb-true, ltb-false, eqb-true, lt-ltb}
 use lib.Dec.{eqb, ltb}
 use lib.ListN.{length, getD, List·getD-eq-default}
 use Rattle.definitions.specs.Fields.{byteAt}
-use Rattle.definitions.specs.Operators.{kindEmpty, kindVariable, kindCall, kinds, rowOf, shapeFits}
-use Rattle.definitions.specs.Rule.{sideLimit, ruleOutputLimit, sourceCount, ruleOutputCount, vertexAt, anything, Pattern, ruleOf, expressionOf, wildcard, sourceOf, sourceInputs, inputKind, isRuleInput, accessesBelow, useFits, SoundRule}
+use Rattle.definitions.specs.Operators.{kindEmpty, kindVariable, kinds, rowOf}
+use Rattle.definitions.specs.Rule.{sideLimit, ruleOutputLimit, sourceCount, ruleOutputCount, vertexAt, anything, Pattern, ruleOf, expressionOf, wildcard, sourceOf, sourceInputs, inputKind, isRuleInput, patternFits, accessesBelow, useFits, SoundRule}
 use Rattle.laws.proofs.Lists.{decided, needed, length-none}
-use Rattle.laws.proofs.Operators.{row-inputs, row-attributes}
+use Rattle.laws.proofs.Operators.{row-attributes}
+use Rattle.laws.proofs.Patterns.{shape-of, reads-nothing}
 use Rattle.laws.proofs.Members.{mem-at}
-use Rattle.laws.proofs.Rule.{input-inside, length-source, length-source-outputs, source-kind-at, source-count-at, source-attributes-at, source-attribute-at, some-rule-outputs, few-rule-outputs, pattern-shape, outputs-below, inputs-lower}
+use Rattle.laws.proofs.Rule.{input-inside, length-source, length-source-outputs, source-attributes-at, source-attribute-at, some-rule-outputs, few-rule-outputs, outputs-below, inputs-lower}
 use Rattle.rule_fields.specs.Layout.{ReadableRule, Layered}
 use Rattle.rule_records.proofs.Laws.{pattern-inputs, pattern-attributes}
 use Rattle.rule_check.proofs.Laws.{whole}
@@ -41,20 +42,9 @@ module _ (block : List ℕ) (sound : SoundRule block) where
   pub output-counts : (1 ≤ ruleOutputCount block) × (ruleOutputCount block ≤ ruleOutputLimit)
   output-counts = (some-rule-outputs block sideLimit (sound .header), few-rule-outputs block sideLimit (sound .header))
 
-  -- a source vertex has a given kind in its record where it has it in the rule
-  shape-of : (j kind : ℕ) → j < sourceCount block → sourceOf (ruleOf block) j .kind ≡ kind → let at = vertexAt j in
-      shapeFits kind (byteAt block (at + 1)) (byteAt block (at + 2)) (byteAt block (at + 3)) ≡ true
-  shape-of j kind l e =
-      let same : byteAt block (vertexAt j) ≡ kind = sym (source-kind-at block j l) ∙ e in
-      rw same at (pattern-shape block (vertexAt j) (sound .patterns j (omega arith)))
-
-  -- a source vertex reads nothing where the row of its kind has no inputs
-  reads-nothing : (j kind : ℕ) → j < sourceCount block → sourceOf (ruleOf block) j .kind ≡ kind → eqb kind kindCall ≡ false
-      → rowOf kind .greatest ≡ 0 → sourceInputs (ruleOf block) j ≡ []
-  reads-nothing j kind l e other none =
-      let at : ℕ = vertexAt j in
-      let most = row-inputs kind (byteAt block (at + 1)) (byteAt block (at + 2)) (byteAt block (at + 3)) (shape-of j kind l e) other in
-      length-none (sourceInputs (ruleOf block) j) (omega (arith, source-count-at block j l, most, none))
+  -- a source vertex's record fits
+  fits : (j : ℕ) → j < sourceCount block → patternFits block (vertexAt j) ≡ true
+  fits j l = sound .patterns j (omega arith)
 
   -- a rule input reads nothing
   pub rule-plain : (j : ℕ) → isRuleInput (ruleOf block) j ≡ true → sourceInputs (ruleOf block) j ≡ []
@@ -62,10 +52,10 @@ module _ (block : List ℕ) (sound : SoundRule block) where
   rule-plain j h =
       let kind : ℕ = sourceOf (ruleOf block) j .kind in
       let inside : j < sourceCount block = rw (length-source block) at (input-inside (ruleOf block) j h) in
-      ⊎-elim (λ (t : eqb kind kindEmpty ≡ true). reads-nothing j kindEmpty inside (eqb-true kind kindEmpty t) refl refl)
+      ⊎-elim (λ (t : eqb kind kindEmpty ≡ true). reads-nothing block j inside (fits j inside) kindEmpty (eqb-true kind kindEmpty t) refl refl)
       (λ (t : eqb kind kindEmpty ≡ false).
       let second : eqb kind kindVariable ≡ true = needed (eqb kind kindVariable) h (λ f. simp (t, f, and-false)) in
-      reads-nothing j kindVariable inside (eqb-true kind kindVariable second) refl refl)
+      reads-nothing block j inside (fits j inside) kindVariable (eqb-true kind kindVariable second) refl refl)
       (decided (eqb kind kindEmpty))
 
   -- a wildcard has no attributes
@@ -76,7 +66,7 @@ module _ (block : List ℕ) (sound : SoundRule block) where
       let inside : j < sourceCount block = ltb-true j (sourceCount block) t in
       let at : ℕ = vertexAt j in
       length-none (sourceOf (ruleOf block) j .attributes) (source-attributes-at block j inside
-      ∙ row-attributes kindEmpty (byteAt block (at + 1)) (byteAt block (at + 2)) (byteAt block (at + 3)) (shape-of j kindEmpty inside e) refl))
+      ∙ row-attributes kindEmpty (byteAt block (at + 1)) (byteAt block (at + 2)) (byteAt block (at + 3)) (shape-of block j inside (fits j inside) kindEmpty e) refl))
       (λ (t : ltb j (sourceCount block) ≡ false).
       ap (λ (p : Pattern ℕ). p .attributes)
       (List·getD-eq-default (ruleOf block .source) wildcard (rw (length-source block) (ltb-false j (sourceCount block) t))))

@@ -1,4 +1,5 @@
 // A rule block's fields by index, as fields of the rule for which the block stands.
+use definitions::KIND_CONST;
 use definitions::KIND_EMPTY;
 use definitions::KIND_VARIABLE;
 use definitions::PATTERN_BYTES;
@@ -10,6 +11,7 @@ ghost use lib.ListN.{length, getD};
 ghost use Rattle.definitions.specs.Fields.{byteAt};
 ghost use Rattle.definitions.specs.Graph.{inputLimit, attributeLimit};
 ghost use Rattle.definitions.specs.Rule.{ruleHeaderBytes, patternBytes, sourceCount, targetCount, ruleOutputCount, nodeCount, vertexAt, anything, made, originOf, expressionOf, ruleOf, sourceOf, targetOf, sourceInputs, isRuleInput};
+ghost use Rattle.definitions.specs.Match.{isConst};
 ghost use Rattle.rule_fields.specs.Layout.{WholeRule, ReadableRule};
 
 // How many source vertices the header counts.
@@ -233,4 +235,13 @@ pub fn is_rule_input(rule: &[u8], j: usize) -> bool
         return true;
     }
     false
+}
+
+// Whether source vertex j is a Const.
+pub fn is_const(rule: &[u8], j: usize) -> bool
+    requires { ⌜ WholeRule (now rule) ⌝ }
+    requires { ⌜ j < sourceCount (now rule) ⌝ }
+    ensures { λ r. ⌜ r ≡ isConst (ruleOf (now (rule .entry))) j ⌝ }
+{
+    source_kind(rule, j) == KIND_CONST
 }

@@ -10,7 +10,7 @@ use borrow.Author.Tests.{ltb-true, ltb-false, lt-ltb, le-ltb}
 use lib.Dec.{ltb}
 use lib.ListN.{set}
 use Rattle.definitions.specs.Rule.{Rule, ruleOf, sourceCount, sourceInputs}
-use Rattle.definitions.specs.Match.{isInterior, placesOf}
+use Rattle.definitions.specs.Match.{mustBePrivate, placesOf}
 use Rattle.laws.specs.Counted.{Counted}
 use Rattle.laws.proofs.Lists.{decided}
 use Rattle.laws.proofs.Rule.{length-source, source-count-at}
@@ -60,11 +60,11 @@ module _ (r : Rule) where
       demanded-from j v (ltb-false v j t) ∙ sym (demanded-from (j + 1) v (omega (arith, ltb-false v j t, other))))
       (decided (ltb v j))) c
 
-  -- what is demanded of an interior vertex, and of another one
-  pub demand-inner : (j : ℕ) → isInterior r j ≡ true → placesOf r j + 1 ≡ demandOf r j
+  -- what is demanded where the image must be private, and where not
+  pub demand-inner : (j : ℕ) → mustBePrivate r j ≡ true → placesOf r j + 1 ≡ demandOf r j
   unfolding demandOf
   demand-inner j t = simp t (omega arith)
 
-  pub demand-outer : (j : ℕ) → isInterior r j ≡ false → 0 ≡ demandOf r j
+  pub demand-outer : (j : ℕ) → mustBePrivate r j ≡ false → 0 ≡ demandOf r j
   unfolding demandOf
   demand-outer j t = simp t

@@ -1,6 +1,7 @@
 // How often the image of each source vertex of a rule may be named, counted once, so that one comparison decides whether an image is
 // read from outside.
 use definitions::SIDE_CAPACITY;
+use rule_fields::is_const;
 use rule_fields::is_rule_input;
 use rule_fields::source_count;
 use rule_fields::source_input;
@@ -11,7 +12,7 @@ ghost use Prim.Native.Nat.{ℕ, _+_, _<_};
 ghost use lib.ListN.{length, getD};
 ghost use Rattle.definitions.specs.Lists.{member};
 ghost use Rattle.definitions.specs.Rule.{sideCapacity, sourceCount, ruleOf};
-ghost use Rattle.definitions.specs.Match.{isInterior, placesOf};
+ghost use Rattle.definitions.specs.Match.{mustBePrivate, placesOf};
 ghost use Rattle.laws.specs.Counted.{Counted};
 ghost use Rattle.rule_fields.specs.Layout.{WholeRule};
 ghost use Rattle.rule_uses.specs.Countable.{placesBelow, CountableRule, InputsNext};
@@ -33,12 +34,16 @@ fn is_source_output(rule: &[u8], j: usize) -> bool
     false
 }
 
-// Whether source vertex j is neither a rule input nor an output.
-fn is_interior(rule: &[u8], j: usize) -> bool
+// Whether nothing outside a match may need the image of source vertex j, which is neither a rule input nor an output nor a Const.
+fn must_be_private(rule: &[u8], j: usize) -> bool
     requires { ⌜ WholeRule (now rule) ⌝ }
-    ensures { λ r. ⌜ r ≡ isInterior (ruleOf (now (rule .entry))) j ⌝ }
+    requires { ⌜ j < sourceCount (now rule) ⌝ }
+    ensures { λ r. ⌜ r ≡ mustBePrivate (ruleOf (now (rule .entry))) j ⌝ }
 {
     if is_rule_input(rule, j) {
+        return false;
+    }
+    if is_const(rule, j) {
         return false;
     }
     if is_source_output(rule, j) {
@@ -62,7 +67,7 @@ fn add_source_inputs(rule: &[u8], w: usize, places: &mut [u16; SIDE_CAPACITY])
 }
 
 // How often input places of source vertices name each source vertex.
-fn count_places(rule: &[u8]) -> [u16; SIDE_CAPACITY]
+pub fn count_places(rule: &[u8]) -> [u16; SIDE_CAPACITY]
     requires { ⌜ CountableRule (now rule) ⌝ }
     ensures { λ r. ⌜ Counted sideCapacity (placesOf (ruleOf (now (rule .entry)))) r ⌝ }
 {
@@ -76,7 +81,7 @@ fn count_places(rule: &[u8]) -> [u16; SIDE_CAPACITY]
     places
 }
 
-// What each source vertex demands of the uses of its image.
+// What each source vertex demands of the uses of its image; a Const demands nothing.
 pub fn count_demands(rule: &[u8]) -> [u16; SIDE_CAPACITY]
     requires { ⌜ CountableRule (now rule) ⌝ }
     ensures { λ r. ⌜ (length r ≡ sideCapacity)
@@ -86,7 +91,7 @@ pub fn count_demands(rule: &[u8]) -> [u16; SIDE_CAPACITY]
     let mut demands = count_places(rule);
     let mut j = 0;
     while j < vertices {
-        if is_interior(rule, j) {
+        if must_be_private(rule, j) {
             demands[j] += 1;
         } else {
             demands[j] = 0;

@@ -10,15 +10,15 @@ use lib.Seq.{length-take-le}
 use Rattle.definitions.specs.Operators.{kindEmpty}
 use Rattle.definitions.specs.Graph.{unusedPlace, Graph, slotOf, inputsOf, isVertex, usesOf}
 use Rattle.definitions.specs.Rule.{sideCapacity, Rule, sourceOf, sourceInputs, isRuleInput}
-use Rattle.definitions.specs.Match.{imageOf, isInterior, Takes, Match}
+use Rattle.definitions.specs.Match.{imageOf, mustBePrivate, Takes, Match}
 use Rattle.laws.proofs.Lists.{true-not-false}
 use Rattle.laws.proofs.Members.{holds, true-holds}
 use Rattle.laws.proofs.Graph.{vertex-inside}
-use Rattle.laws.proofs.Rule.{source-reader}
+use Rattle.laws.proofs.Rule.{source-reader, wild-input}
 use Rattle.laws.proofs.Padded.{taken-at}
 use Rattle.theory.proofs.Inside.{uses-private}
 use Rattle.match_images.specs.Partial.{Partial}
-use Rattle.match_look.proofs.Candidates.{Formed, wild-input}
+use Rattle.match_look.proofs.Candidates.{Formed}
 use Rattle.match_images.proofs.Maps.{takes-same}
 
 module _ (g : Graph) (r : Rule) (f : Formed r) (images : List ℕ) (p : Partial g r (length (r .source)) images)
@@ -58,5 +58,5 @@ module _ (g : Graph) (r : Rule) (f : Formed r) (images : List ℕ) (p : Partial 
     takes = takes;
     interior = λ j l t. uses-private g r short (f .plain) (λ w u m. omega (arith, f .lower w u m, source-reader r w u m))
         (λ i k. vertex-inside g (imageOf short i) (vertex i k)) apart inner-inputs j l
-        (ap (usesOf g) (short-image j) ∙ p .demands j l (holds (isInterior r j) t));
+        (ap (usesOf g) (short-image j) ∙ p .demands j l (holds (mustBePrivate r j) t));
   }

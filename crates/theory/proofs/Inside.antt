@@ -12,7 +12,7 @@ use Rattle.definitions.specs.Lists.{filter, member, range, count, total}
 use Rattle.definitions.specs.Paths.{Reads}
 use Rattle.definitions.specs.Graph.{Graph, inputsOf, readsOf, usesOf}
 use Rattle.definitions.specs.Rule.{Rule, sourceInputs, isRuleInput}
-use Rattle.definitions.specs.Match.{imageOf, placesOf, innerImages, Private}
+use Rattle.definitions.specs.Match.{imageOf, placesOf, imagesWhere, innerImages, Private}
 use Rattle.laws.proofs.Lists.{decided, true-not-false}
 use Rattle.laws.proofs.Graph.{reader-inside}
 use Rattle.laws.proofs.Members.{member-mem, mem-member}
@@ -46,7 +46,7 @@ module _ (g : Graph) (r : Rule) (images : List ℕ)
         (decided (isRuleInput r i))
 
     inner-names : sumOver (names j) (innerImages r images) ≡ placesOf r j
-    unfolding innerImages placesOf
+    unfolding innerImages imagesWhere placesOf
     inner-names =
         let n : ℕ = length (r .source) in
         let inner : ℕ → Bool = λ i. not (isRuleInput r i) in

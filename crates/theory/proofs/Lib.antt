@@ -3,6 +3,7 @@ pub mod Paths
 pub mod Results
 pub mod Division
 pub mod Match
+pub mod Removed
 pub mod Fixing
 pub mod Choices
 pub mod Least

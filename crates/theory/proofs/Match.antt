@@ -15,7 +15,7 @@ use Rattle.definitions.specs.Operators.{kindEmpty}
 use Rattle.definitions.specs.Graph.{unusedPlace, Slot, Graph, slotOf, inputsOf, isVertex}
 use Rattle.definitions.specs.Rule.{Pattern, Rule, sourceOf}
 use Rattle.definitions.specs.Attributes.{agrees}
-use Rattle.definitions.specs.Match.{imageOf, readAttribute, isInterior, innerImages, Takes, Private, Match, takes, isPrivate, isMatch}
+use Rattle.definitions.specs.Match.{imageOf, readAttribute, mustBePrivate, innerImages, Takes, Private, Match, takes, isPrivate, isMatch}
 use Rattle.laws.proofs.Lists.{decided, true-not-false, needed, and-left, and-right, allBelow-at, allBelow-every, all-at, all-every}
 use Rattle.laws.proofs.Graph.{reader-inside}
 use Rattle.laws.proofs.Ranges.{same-lists, same-self}
@@ -60,7 +60,7 @@ abbrev reader : Graph → Rule → List ℕ → ℕ → ℕ → Bool
 reader g r images v w = not (member v (inputsOf g w)) || member w (innerImages r images)
 
 module _ (g : Graph) (r : Rule) (images : List ℕ) (v : ℕ) where
-  private-sound : isPrivate g r images v ≡ true → Private g r images v
+  pub private-sound : isPrivate g r images v ≡ true → Private g r images v
   unfolding isPrivate
   private-sound h =
       let n : ℕ = length (g .slots) in
@@ -72,7 +72,7 @@ module _ (g : Graph) (r : Rule) (images : List ℕ) (v : ℕ) where
             (simp (mem-member m) at (allBelow-at (reader g r images v) n w every (reader-inside g w v m)));
       }
 
-  private-complete : Private g r images v → isPrivate g r images v ≡ true
+  pub private-complete : Private g r images v → isPrivate g r images v ≡ true
   unfolding isPrivate
   private-complete p =
       let every : allBelow (reader g r images v) (length (g .slots)) ≡ true =
@@ -89,9 +89,9 @@ module _ (g : Graph) (r : Rule) (images : List ℕ) (v : ℕ) where
 abbrev taken : Graph → Rule → List ℕ → ℕ → Bool
 taken g r images j = eqb (sourceOf r j .kind) kindEmpty || takes g images (sourceOf r j) (slotOf g (imageOf images j))
 
--- source vertex j is not interior, or its image is private
+-- nothing asks that the image of source vertex j be private, or it is
 abbrev kept : Graph → Rule → List ℕ → ℕ → Bool
-kept g r images j = not (isInterior r j) || isPrivate g r images (imageOf images j)
+kept g r images j = not (mustBePrivate r j) || isPrivate g r images (imageOf images j)
 
 module _ (g : Graph) (r : Rule) (images : List ℕ) where
   -- A map that passes the computed test meets every condition of a match.
@@ -111,7 +111,7 @@ module _ (g : Graph) (r : Rule) (images : List ℕ) where
         takes = λ j l other. takes-sound g images (sourceOf r j) (slotOf g (imageOf images j))
             (simp (ne-eqb (sourceOf r j .kind) kindEmpty other) at (allBelow-at (taken g r images) n j takings l));
         interior = λ j l t. private-sound g r images (imageOf images j)
-            (simp (holds (isInterior r j) t) at (allBelow-at (kept g r images) n j keepings l));
+            (simp (holds (mustBePrivate r j) t) at (allBelow-at (kept g r images) n j keepings l));
       }
 
   -- A map that meets every condition passes the test. So the test decides what a match is.
@@ -129,8 +129,8 @@ module _ (g : Graph) (r : Rule) (images : List ℕ) where
       simp (takes-complete g images (sourceOf r j) (slotOf g (imageOf images j)) (m .takes j l (eqb-false (sourceOf r j .kind) kindEmpty t)), or-true))
       (decided (eqb (sourceOf r j .kind) kindEmpty))) in
       let keepings : allBelow (kept g r images) n ≡ true = allBelow-every (kept g r images) n (λ j l.
-      ⊎-elim (λ (t : isInterior r j ≡ true).
-      simp (private-complete g r images (imageOf images j) (m .interior j l (true-holds (isInterior r j) t)), or-true))
-      (λ (t : isInterior r j ≡ false). simp t)
-      (decided (isInterior r j))) in
+      ⊎-elim (λ (t : mustBePrivate r j ≡ true).
+      simp (private-complete g r images (imageOf images j) (m .interior j l (true-holds (mustBePrivate r j) t)), or-true))
+      (λ (t : mustBePrivate r j ≡ false). simp t)
+      (decided (mustBePrivate r j))) in
       simp (eq-eqb (length images) n (m .size), vertices, apart, takings, keepings)

@@ -19,44 +19,44 @@ use Rattle.definitions.specs.Operations.{Outcome, mapBlock, findMatch, rewrite}
 
 -- ---- blocks
 
-slot : ℕ → ℕ → List ℕ → List ℕ → Slot
+unfoldable pub slot : ℕ → ℕ → List ℕ → List ℕ → Slot
 slot kind operator inputs attributes =
     record { kind = kind; operator = operator; inputs = inputs; attributes = attributes }
 
-variable : Slot
+unfoldable pub variable : Slot
 unfolding slot
 variable = slot 2 0 [] (1 ∷ 3 ∷ 8 ∷ 8 ∷ 1 ∷ [])
 
-call : ℕ → List ℕ → List ℕ → Slot
+unfoldable pub call : ℕ → List ℕ → List ℕ → Slot
 unfolding slot
 call operator inputs attributes = slot 3 operator inputs attributes
 
-relu : ℕ → Slot
+unfoldable pub relu : ℕ → Slot
 unfolding call
 relu x = call 7 (x ∷ []) []
 
 -- the block of the graph with these slots and outputs
-block : List Slot → List ℕ → List ℕ
+unfoldable pub block : List Slot → List ℕ → List ℕ
 unfolding graphBlock
 block slots outputs = graphBlock (record { slots = slots; outputs = outputs })
 
 -- a vertex of a rule: kind, operator, input places, attribute nodes
-vertex : ℕ → ℕ → List ℕ → List ℕ → List ℕ
+unfoldable pub vertex : ℕ → ℕ → List ℕ → List ℕ → List ℕ
 vertex kind operator inputs nodes =
     (kind ∷ operator ∷ length inputs ∷ length nodes ∷ []) ++ padded 6 255 inputs ++ padded 6 255 nodes
 
-wild : List ℕ
+unfoldable pub wild : List ℕ
 unfolding vertex
 wild = vertex 0 0 [] []
 
-calls : ℕ → List ℕ → List ℕ → List ℕ
+unfoldable pub calls : ℕ → List ℕ → List ℕ → List ℕ
 unfolding vertex
 calls operator inputs nodes = vertex 3 operator inputs nodes
 
-node : ℕ → ℕ → ℕ → ℕ → List ℕ
+unfoldable pub node : ℕ → ℕ → ℕ → ℕ → List ℕ
 node form a b number = (form ∷ a ∷ b ∷ 0 ∷ []) ++ u32Bytes number
 
-rule : List (List ℕ) → List (List ℕ) → List ℕ → List ℕ → List (List ℕ) → List ℕ
+unfoldable pub rule : List (List ℕ) → List (List ℕ) → List ℕ → List ℕ → List (List ℕ) → List ℕ
 rule source target sourceOutputs targetOutputs nodes =
     (76 ∷ 71 ∷ 82 ∷ 0 ∷ 1 ∷ 0 ∷ length source ∷ length target ∷ length sourceOutputs ∷ length nodes ∷ [])
     ++ padded 2 255 sourceOutputs
@@ -84,14 +84,14 @@ e1After =
     (variable ∷ variable ∷ call 4 (0 ∷ 1 ∷ []) (1 ∷ 1 ∷ 1 ∷ 1 ∷ []) ∷ relu 2 ∷ emptySlot ∷ emptySlot ∷ [])
     (3 ∷ [])
 
-rr : List ℕ
+unfoldable pub rr : List ℕ
 unfolding wild calls rule
 rr = rule (wild ∷ calls 7 (0 ∷ []) [] ∷ calls 7 (1 ∷ []) [] ∷ []) (calls 7 (0 ∷ []) [] ∷ []) (2 ∷ []) (16 ∷ []) []
 
 -- ---- what is said of an example
 
 -- the map's bytes before
-blank : List ℕ
+unfoldable pub blank : List ℕ
 blank = replicate 32 170
 
 pub data Example : Type 0 where
@@ -113,11 +113,11 @@ unfolding Holds
 AllHold [] = Unit {0}
 AllHold (e ∷ es) = Holds e × AllHold es
 
-done : List ℕ → List ℕ → Outcome
+unfoldable pub done : List ℕ → List ℕ → Outcome
 done graph images = record { reply = Done 0; graph = graph; map = mapBlock images }
 
 -- a refusal leaves both blocks as they came
-refusal : ℕ → List ℕ → Outcome
+unfoldable pub refusal : ℕ → List ℕ → Outcome
 unfolding blank
 refusal number graph = record { reply = refused number; graph = graph; map = blank }
 

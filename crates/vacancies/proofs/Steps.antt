@@ -7,16 +7,17 @@ use mathlib.Core.Logic.{⊎-elim}
 use Prim.Native.Nat.{ℕ, _+_, _<_}
 use native.Mathlib.Numerals.{add-one}
 use native.Mathlib.Omega.{arith}
-use borrow.Author.Tests.{not-true, eq-eqb, ne-eqb, eqb-true, eqb-false, lt-ltb, le-ltb, ltb-true, ltb-false}
+use borrow.Author.Tests.{eq-eqb, ne-eqb, eqb-true, eqb-false, lt-ltb, le-ltb, ltb-true, ltb-false}
 use lib.Dec.{eqb, ltb}
 use lib.ListN.{length, set, replicate, length-set, length-replicate}
 use lib.Seq.{getD-set-same, getD-set-other}
 use Rattle.definitions.specs.Lists.{anyBelow}
 use Rattle.definitions.specs.Graph.{slotLimit, Graph, isVertex}
-use Rattle.definitions.specs.Rule.{Rule, isRuleInput}
+use Rattle.definitions.specs.Rule.{Rule}
 use Rattle.definitions.specs.Match.{imageOf}
-use Rattle.definitions.specs.Rewriting.{isRemoved, stays}
-use Rattle.laws.proofs.Lists.{decided, true-not-false, and-left, and-right, anyBelow-found, anyBelow-some}
+use Rattle.definitions.specs.Rewriting.{goes, isRemoved, stays}
+use Rattle.laws.proofs.Lists.{decided, and-left, and-right, anyBelow-found, anyBelow-some}
+use Rattle.laws.proofs.Tests.{same-tests}
 use Rattle.laws.proofs.Builds.{getD-none}
 use Rattle.laws.proofs.Rewriting.{removed-image, image-removed}
 use Rattle.vacancies.specs.Vacant.{Marks}
@@ -78,13 +79,13 @@ module _ (g : Graph) (k : ℕ) where
 
 -- ---- and those that the removal leaves Empty
 
--- slot i is the image of source vertex j, which is no rule input
-abbrev inner : Rule → List ℕ → ℕ → ℕ → Bool
-inner r images i j = not (isRuleInput r j) && eqb i (imageOf images j)
+-- slot i is the image of source vertex j, and goes
+abbrev freed : Graph → Rule → List ℕ → ℕ → ℕ → Bool
+freed g r images i j = goes g r images j && eqb i (imageOf images j)
 
--- slot i is Empty, or the image of such a vertex below j
+-- slot i is Empty, or the image of a vertex below j that goes
 pub freeBelow : Graph → Rule → List ℕ → ℕ → ℕ → Bool
-freeBelow g r images j i = not (isVertex g i) || anyBelow (inner r images i) j
+freeBelow g r images j i = not (isVertex g i) || anyBelow (freed g r images i) j
 
 module _ (g : Graph) (r : Rule) (images : List ℕ) where
   pub free-none : (i : ℕ) → not (isVertex g i) ≡ freeBelow g r images 0 i
@@ -92,38 +93,33 @@ module _ (g : Graph) (r : Rule) (images : List ℕ) where
   free-none i = sym (or-false (not (isVertex g i)))
 
   -- source vertex j changes nothing for a slot that it does not free
-  other-free : (i j : ℕ) → inner r images i j ≡ false → freeBelow g r images j i ≡ freeBelow g r images (j + 1) i
+  other-free : (i j : ℕ) → freed g r images i j ≡ false → freeBelow g r images j i ≡ freeBelow g r images (j + 1) i
   unfolding freeBelow anyBelow
   other-free i j h = rw add-one (simp (h, or-false))
 
-  pub free-put : {n : ℕ} {marks : List Bool} (j image : ℕ) → image ≡ imageOf images j → image < slotLimit → isRuleInput r j ≡ false
+  pub free-put : {n : ℕ} {marks : List Bool} (j image : ℕ) → image ≡ imageOf images j → image < slotLimit → goes g r images j ≡ true
       → Marks (freeBelow g r images j) n marks → Marks (freeBelow g r images (j + 1)) n (set marks image true)
   unfolding freeBelow
   free-put j image e l h m = marks-put image l
-      (simp (anyBelow-found (inner r images image) (j + 1) j (omega arith) (simp (h, eq-eqb image (imageOf images j) e)), or-true))
+      (simp (anyBelow-found (freed g r images image) (j + 1) j (omega arith) (simp (h, eq-eqb image (imageOf images j) e)), or-true))
       (λ i other. other-free i j (simp (h, ne-eqb i (imageOf images j) (λ s. other (s ∙ sym e))))) m
 
-  pub free-pass : {n : ℕ} {marks : List Bool} (j : ℕ) → isRuleInput r j ≡ true → Marks (freeBelow g r images j) n marks
+  pub free-pass : {n : ℕ} {marks : List Bool} (j : ℕ) → goes g r images j ≡ false → Marks (freeBelow g r images j) n marks
       → Marks (freeBelow g r images (j + 1)) n marks
   free-pass j h m = marks-same (λ i l. other-free i j (simp h)) m
 
-  removed-all : (i : ℕ) → anyBelow (inner r images i) (length (r .source)) ≡ isRemoved r images i
-  removed-all i = ⊎-elim
-      (λ (t : anyBelow (inner r images i) (length (r .source)) ≡ true).
-      let found = anyBelow-some (inner r images i) (length (r .source)) t in
+  removed-all : (i : ℕ) → anyBelow (freed g r images i) (length (r .source)) ≡ isRemoved g r images i
+  removed-all i = same-tests
+      (λ t.
+      let found = anyBelow-some (freed g r images i) (length (r .source)) t in
       let image : ℕ = imageOf images (found .0) in
-      let outside = and-left (not (isRuleInput r (found .0))) (eqb i image) (found .2) in
-      let same = eqb-true i image (and-right (not (isRuleInput r (found .0))) (eqb i image) (found .2)) in
-      let removed = image-removed r images (found .0) (found .1) (not-true (isRuleInput r (found .0)) outside) in
-      t ∙ sym (ap (isRemoved r images) same ∙ removed))
-      (λ (t : anyBelow (inner r images i) (length (r .source)) ≡ false). ⊎-elim
-      (λ (s : isRemoved r images i ≡ true).
-      let found = removed-image r images i s in
-      absurd (true-not-false (anyBelow-found (inner r images i) (length (r .source)) (found .0) (found .1)
-      (simp (found .2, eq-eqb i (imageOf images (found .0)) (sym (found .3))))) t))
-      (λ (s : isRemoved r images i ≡ false). t ∙ sym s)
-      (decided (isRemoved r images i)))
-      (decided (anyBelow (inner r images i) (length (r .source))))
+      let going = and-left (goes g r images (found .0)) (eqb i image) (found .2) in
+      let same = eqb-true i image (and-right (goes g r images (found .0)) (eqb i image) (found .2)) in
+      ap (isRemoved g r images) same ∙ image-removed g r images (found .0) (found .1) going)
+      (λ s.
+      let found = removed-image g r images i s in
+      anyBelow-found (freed g r images i) (length (r .source)) (found .0) (found .1)
+      (simp (found .2, eq-eqb i (imageOf images (found .0)) (sym (found .3)))))
 
   pub free-all : (i j : ℕ) → j ≡ length (r .source) → freeBelow g r images j i ≡ not (stays g r images i)
   unfolding freeBelow stays

@@ -5,14 +5,16 @@ use definitions::SLOT_LIMIT;
 use fields::widened;
 use graph_fields::kind_of;
 use graph_fields::slot_count;
-use rule_fields::is_rule_input;
+use new_removal::count_for_consts;
+use new_removal::image_goes;
 use rule_fields::source_count;
 ghost use mathlib.Core.Bool.{not};
 ghost use Rattle.definitions.specs.Graph.{slotCount, graphOf, isVertex};
 ghost use Rattle.definitions.specs.Rule.{ruleOf};
 ghost use Rattle.definitions.specs.Rewriting.{stays};
 ghost use Rattle.graph_fields.specs.Layout.{WholeGraph};
-ghost use Rattle.vacancies.specs.Vacant.{Removable, Marks};
+ghost use Rattle.new_removal.specs.Removal.{Removable};
+ghost use Rattle.vacancies.specs.Vacant.{Marks};
 
 // Marks the slots that are Empty in the block as it came.
 fn mark_empty(graph: &[u8]) -> [bool; SLOT_LIMIT]
@@ -31,18 +33,21 @@ fn mark_empty(graph: &[u8]) -> [bool; SLOT_LIMIT]
     free
 }
 
-// Marks the slots that are Empty after the removal: the images of the source vertices that are no rule inputs too.
+// Marks the slots that are Empty after the removal: the images that go too.
 pub fn find_free(graph: &[u8], rule: &[u8], images: &[u16; SIDE_CAPACITY]) -> [bool; SLOT_LIMIT]
     requires { ⌜ Removable (now graph) (now rule) (now images) ⌝ }
     ensures { λ r. ⌜ Marks (λ k. not (stays (graphOf (now (graph .entry))) (ruleOf (now (rule .entry))) (now (images .entry)) k))
         (slotCount (now (graph .entry))) r ⌝ }
 {
     let vertices = source_count(rule);
+    let counts = count_for_consts(graph, rule);
+    let uses = counts.uses;
+    let places = counts.places;
     let mut free = mark_empty(graph);
     let mut j = 0;
     while j < vertices {
-        if !is_rule_input(rule, j) {
-            let image = widened(images[j]);
+        let image = widened(images[j]);
+        if image_goes(rule, &uses, &places, j, image) {
             free[image] = true;
         }
         j += 1;

@@ -38,7 +38,7 @@ inside c = omega (
 present : (a : tie.At-loop Inv-loop μ-loop) → getD (a .loop .demands) (a .loop .j) 0 ≡ placesOf (ruleOf (block a)) (a .loop .j)
 present a = a .loop .inv .1 .at (a .loop .j) ∙ demanded-from (ruleOf (block a)) (a .loop .j) (a .loop .j) (omega arith)
 
-next : (c : tie.After-is-interior Inv-loop μ-loop) (x : ℕ)
+next : (c : tie.After-must-be-private Inv-loop μ-loop) (x : ℕ)
     → x ≡ demandOf (ruleOf (block (c .before .before))) (c .before .before .loop .j)
     → Counted sideCapacity (demanded (ruleOf (block (c .before .before))) (c .before .before .loop .j + 1))
     (set (c .before .before .loop .demands) (c .before .before .loop .j) x)
@@ -56,8 +56,8 @@ loop-holds c =
     let r = ruleOf (c .before .before .before .args .rule .now) in
     (omega arith, counted-same (λ v. sym (demanded-from r 0 v (omega arith))) (c .count-places .ensures))
 
-is-interior-requires : tie.Need-is-interior-requires Inv-loop μ-loop
-is-interior-requires c κs = search needs
+must-be-private-requires : tie.Need-must-be-private-requires Inv-loop μ-loop
+must-be-private-requires c κs = search needs
 
 mul-demands : tie.Need-mul-demands Inv-loop μ-loop
 mul-demands c = omega arith
@@ -94,8 +94,8 @@ loop-again c =
       omega (arith, c .before .before .loop-test .taken),
       ⊎-elim
           (λ w. rw (w .1) (next (c .before) (getD (a .loop .demands) j 0 + 1)
-          (ap (λ (n : ℕ). n + 1) (present a) ∙ demand-inner r j (sym (c .before .is-interior .ensures) ∙ w .0 .taken))))
-          (λ w. rw (w .1) (next (c .before) 0 (demand-outer r j (sym (c .before .is-interior .ensures) ∙ w .0 .left))))
+          (ap (λ (n : ℕ). n + 1) (present a) ∙ demand-inner r j (sym (c .before .must-be-private .ensures) ∙ w .0 .taken))))
+          (λ w. rw (w .1) (next (c .before) 0 (demand-outer r j (sym (c .before .must-be-private .ensures) ∙ w .0 .left))))
           (c .if1 .came),
     )
 
@@ -116,7 +116,7 @@ count-demands-spec =
     source-count-requires
     count-places-requires
     loop-holds
-    is-interior-requires
+    must-be-private-requires
     mul-demands
     array-read-demands
     add-demands

@@ -1,77 +1,88 @@
--- The loop's invariant: a slot is marked where it is Empty, or the image of a source vertex below j that is no rule input.
+-- The loop's invariant: a slot is marked where it is Empty, or the image of a source vertex below j whose image goes.
 -- Assumes nothing.
 use mathlib.Core.Path.{_≡_, sym, _∙_}
 use mathlib.Core.Logic.{⊎-elim}
 use Prim.Native.Nat.{_-_, _≤_, _<_}
 use native.Mathlib.Omega.{arith}
 use borrow.Author.Needs.{needs}
-use borrow.Author.Tests.{not-true, not-false}
-use lib.ListN.{getD}
-use Rattle.definitions.specs.Graph.{slotCount, graphOf}
-use Rattle.definitions.specs.Rule.{sideCapacity, ruleOf}
+use Rattle.definitions.specs.Graph.{slotLimit, slotCount, graphOf}
+use Rattle.definitions.specs.Rule.{sideCapacity, sourceCount, ruleOf}
 use Rattle.definitions.specs.Match.{imageOf}
+use Rattle.definitions.specs.Rewriting.{goes}
 use Rattle.laws.proofs.Match.{image-at}
 use Rattle.laws.proofs.Rule.{length-source}
+use Rattle.new_removal.proofs.Laws.{goes-counted}
 use Rattle.vacancies.specs.Vacant.{Marks}
 use Rattle.vacancies.proofs.Steps.{marks-same, freeBelow, free-none, free-put, free-pass, free-all}
 use Rattle.vacancies.proofs.find_free.Statement.{statement}
 use Rattle.vacancies.proofs.find_free.Tie as tie
 
 abbrev Inv-loop : tie.InvT-loop
-Inv-loop graph rule images vertices free₀ j₀ free j =
+Inv-loop graph rule images vertices uses places free₀ j₀ free j =
     (j ≤ vertices) × Marks (freeBelow (graphOf graph) (ruleOf rule) images j) (slotCount graph) free
 
 abbrev μ-loop : tie.MeasureT-loop
-μ-loop graph rule images vertices free₀ j₀ free j = vertices - j
+μ-loop graph rule images vertices uses places free₀ j₀ free j = vertices - j
 
 abbrev start : tie.At-loop Inv-loop μ-loop → tie.Start Inv-loop μ-loop
-start a = a .before .before .before .before .before
+start a = a .before .before .before .before .before .before .before .before
+
+vertex : (c : tie.In-loop Inv-loop μ-loop) → c .before .loop .j < sourceCount (start (c .before) .args .rule .now)
+vertex c =
+    omega (arith, c .loop-test .taken, c .before .before .before .before .before .before .source-count .ensures .0)
 
 inside : (c : tie.In-loop Inv-loop μ-loop) → c .before .loop .j < sideCapacity
-inside c = omega (arith, start (c .before) .pre .patterns .source)
+inside c = omega (arith, start (c .before) .pre .patterns .readable .whole .source)
 
 -- what is read for source vertex j is its image, which is a slot
-read : (c : tie.In-loop Inv-loop μ-loop)
-    → getD (start (c .before) .args .images .now) (c .before .loop .j) 0
-    ≡ imageOf (start (c .before) .args .images .now) (c .before .loop .j)
-read c =
-    let s = start (c .before) in
-    sym (image-at (s .args .images .now) (c .before .loop .j) (omega (arith, inside c, s .pre .imageSize)))
+image : (c : tie.After-widened Inv-loop μ-loop)
+    → c .widened .result ≡ imageOf (start (c .before .before .before) .args .images .now) (c .before .before .before .loop .j)
+image c =
+    let i = c .before .before in
+    let s = start (i .before) in
+    c .widened .ensures ∙ sym (image-at (s .args .images .now) (i .before .loop .j) (omega (arith, inside i, s .pre .imageSize)))
 
-slot : (c : tie.In-loop Inv-loop μ-loop) → imageOf (start (c .before) .args .images .now) (c .before .loop .j) < 512
+slot : (c : tie.After-widened Inv-loop μ-loop) → c .widened .result < slotLimit
 slot c =
-    let s = start (c .before) in
-    omega (arith, s .pre .slots (c .before .loop .j) (omega arith), s .pre .table .slots)
+    let a = c .before .before .before in
+    let s = start a in
+    omega (arith, image c, s .pre .slots (a .loop .j) (vertex (c .before .before)), s .pre .table .readable .whole .slots)
 
 source-count-requires : tie.Need-source-count-requires Inv-loop μ-loop
 source-count-requires c κs = search needs
+
+count-for-consts-requires : tie.Need-count-for-consts-requires Inv-loop μ-loop
+count-for-consts-requires c κs = search needs
 
 mark-empty-requires : tie.Need-mark-empty-requires Inv-loop μ-loop
 mark-empty-requires c κs = search needs
 
 loop-holds : tie.Need-loop-holds Inv-loop μ-loop
 loop-holds c =
-    let a = c .before .before .before .before .args in (
+    let a = c .before .before .before .before .before .before .before .args in (
       omega arith,
       marks-same (λ i l. free-none (graphOf (a .graph .now)) (ruleOf (a .rule .now)) (a .images .now) i) (c .mark-empty .ensures),
     )
 
-is-rule-input-requires : tie.Need-is-rule-input-requires Inv-loop μ-loop
-is-rule-input-requires c κs = search needs
-
 mul-widened : tie.Need-mul-widened Inv-loop μ-loop
-mul-widened c = omega (arith, inside (c .before .before))
+mul-widened c = omega (arith, inside c)
 
 element-copy-out-widened : tie.Need-element-copy-out-widened Inv-loop μ-loop
-element-copy-out-widened c = inside (c .before .before)
+element-copy-out-widened c = inside c
 
 widened-requires : tie.Need-widened-requires Inv-loop μ-loop
 widened-requires c κs = search needs
 
+image-goes-requires : tie.Need-image-goes-requires Inv-loop μ-loop
+image-goes-requires c κs =
+    let w = c .before .before in
+    let a = w .before .before .before in
+    let s = start a in
+    let counts = a .before .before .before .before .count-for-consts .ensures in
+    (s .pre .patterns .readable .whole, (vertex (w .before .before), (slot w, (counts .useSize, counts .placeSize))))
+
 array-write-free : tie.Need-array-write-free Inv-loop μ-loop
-array-write-free c =
-    let i = c .before .before .before .before in
-    omega (arith, c .widened .ensures, read i, slot i)
+array-write-free c = slot (c .before .before .before .before)
 
 add-j : tie.Need-add-j Inv-loop μ-loop
 add-j c = omega arith
@@ -79,22 +90,34 @@ add-j c = omega arith
 loop-less : tie.Need-loop-less Inv-loop μ-loop
 loop-less c = omega arith
 
+-- the answer for source vertex j is the definition's
+going : (c : tie.After-image-goes Inv-loop μ-loop) → let s = start (c .before .before .before .before .before .before) in
+    c .image-goes .result
+    ≡ goes (graphOf (s .args .graph .now)) (ruleOf (s .args .rule .now)) (s .args .images .now)
+    (c .before .before .before .before .before .before .loop .j)
+going c =
+    let w = c .before .before .before in
+    let a = w .before .before .before in
+    let s = start a in
+    let counts = a .before .before .before .before .count-for-consts in
+    c .image-goes .ensures
+    ∙ goes-counted (s .args .graph .now) (s .args .rule .now) (s .args .images .now) (s .pre) (a .loop .j) (vertex (w .before .before))
+    (counts .result .uses) (counts .result .places) (counts .ensures) (w .widened .result) (image w)
+
 loop-again : tie.Need-loop-again Inv-loop μ-loop
 loop-again c =
-    let a = c .before .before .before in
+    let t = c .before in
+    let w = t .before .before .before in
+    let a = w .before .before .before in
     let s = start a in
     let g = graphOf (s .args .graph .now) in
     let r = ruleOf (s .args .rule .now) in
     let images = s .args .images .now in
-    let j = a .loop .j in
-    let input = c .before .is-rule-input .ensures in (
+    let j = a .loop .j in (
       omega arith,
       ⊎-elim
-          (λ w. rw (w .3) (free-put g r images j (w .2 .result) (w .2 .ensures ∙ read (c .before .before))
-          (omega (arith, w .2 .ensures, read (c .before .before), slot (c .before .before)))
-          (sym input ∙ not-true (c .before .is-rule-input .result) (w .0 .taken)) (a .loop .inv .1)))
-          (λ w. rw (w .1) (free-pass g r images j (sym input ∙ not-false (c .before .is-rule-input .result) (w .0 .left))
-          (a .loop .inv .1)))
+          (λ k. rw (k .1) (free-put g r images j (w .widened .result) (image w) (slot w) (sym (going t) ∙ k .0 .taken) (a .loop .inv .1)))
+          (λ k. rw (k .1) (free-pass g r images j (sym (going t) ∙ k .0 .left) (a .loop .inv .1)))
           (c .if1 .came),
     )
 
@@ -114,12 +137,13 @@ find-free-spec =
     Inv-loop
     μ-loop
     source-count-requires
+    count-for-consts-requires
     mark-empty-requires
     loop-holds
-    is-rule-input-requires
     mul-widened
     element-copy-out-widened
     widened-requires
+    image-goes-requires
     array-write-free
     add-j
     loop-less
