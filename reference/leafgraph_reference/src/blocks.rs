@@ -262,6 +262,25 @@ pub fn p10_graph(first: [i32; 3], second: [i32; 3]) -> GraphParts {
     GraphParts::new(slots, &[2])
 }
 
+/// A rule for request 1/13: add(x, c), c any Const, becomes relu(x), or so many
+/// relus over it.
+pub fn dropped_constant(targets: u8) -> RuleParts {
+    let read = |vertex: u8| vertex.checked_sub(1).map_or(0, target_place);
+    let constant = pattern(CONST, 0, &[], &[0]);
+    RuleParts {
+        source: vec![wildcard(), constant, call_pattern(ADD, &[0, 1], &[])],
+        target: (0..targets).map(|vertex| call_pattern(RELU, &[read(vertex)], &[])).collect(),
+        source_outputs: vec![2],
+        target_outputs: vec![target_place(targets - 1)],
+        nodes: vec![any_node()],
+    }
+}
+
+/// A graph for it: slots 0 Const, 1 the vertex x, 2 add(1,0), then others.
+pub fn constant_sum(x: Vertex, others: &[Vertex], outputs: &[u16]) -> GraphParts {
+    GraphParts::new([vec![constant(7), x, add(1, 0)], others.to_vec()].concat(), outputs)
+}
+
 /// Slot 0 a Variable, slot k relu(k - 1), the last one the output.
 pub fn chain(slots: u16) -> GraphParts {
     let vertices = (0..slots).map(|slot| match slot {

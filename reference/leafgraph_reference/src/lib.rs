@@ -1,8 +1,10 @@
-//! The second program of leafgraph: document 01 in plain Rust.
+//! The second program of leafgraph: document 01, with request 1/13 of document
+//! 02, in plain Rust.
 //!
-//! It is written from document 01 alone, not from the proved library, so that
+//! It is written from these papers alone, not from the proved library, so that
 //! an error of reading in one of the two shows up as a difference between
-//! them. Sentences in quotation marks are document 01's.
+//! them. Sentences in quotation marks are document 01's, or the request's where
+//! it is named.
 //!
 //! "Four operations: check a graph, check a rule, find a match, rewrite."
 //! Each answers any bytes of any length. The reply holds its number in bits 0
@@ -19,6 +21,7 @@ pub mod matching;
 pub mod meaning;
 pub mod operators;
 pub mod random;
+pub mod removal;
 pub mod reply;
 pub mod results;
 mod rewriting;

@@ -5,6 +5,7 @@ use std::ops::Range;
 use crate::attributes::{agrees, results};
 use crate::fields::put_u16;
 use crate::graph::{Graph, MAX_SLOTS, UNUSED};
+use crate::operators::CONST;
 use crate::rule::{Rule, MAX_VERTICES};
 
 /// The slot of each source vertex; 65535 where there is none.
@@ -17,8 +18,9 @@ struct Search<'a> {
     /// How many input places and graph outputs name each slot. Counted once
     /// per call, so that no candidate looks over all slots again.
     reads: [u16; MAX_SLOTS],
-    /// For an interior source vertex, how many input places of the source
-    /// name it; `None` for rule inputs and source outputs.
+    /// For a source vertex whose image must not be named from outside, how
+    /// many input places of the source name it; `None` for rule inputs, source
+    /// outputs and Consts.
     inner_reads: [Option<u16>; MAX_VERTICES],
 }
 
@@ -63,13 +65,16 @@ fn count_reads(graph: Graph) -> [u16; MAX_SLOTS] {
 }
 
 /// Rule inputs have no inputs of their own, so every input place of the
-/// source belongs to a non-input source vertex.
+/// source belongs to a non-input source vertex. By request 1/13 "a matched
+/// Const may have other readers and may be a graph output".
 fn count_inner_reads(rule: Rule) -> [Option<u16>; MAX_VERTICES] {
     let mut counts = [None; MAX_VERTICES];
-    let interior = |number: u8| {
-        !rule.is_rule_input(number) && rule.source_outputs().all(|output| output != number)
+    let is_private = |number: u8| {
+        !rule.is_rule_input(number)
+            && rule.source_outputs().all(|output| output != number)
+            && rule.source(number.into()).kind() != CONST
     };
-    for number in (0..rule.source_count() as u8).filter(|&number| interior(number)) {
+    for number in (0..rule.source_count() as u8).filter(|&number| is_private(number)) {
         let inputs = rule.sources().flat_map(|reader| reader.inputs());
         let reads = inputs.filter(|&input| input == number).count();
         counts[usize::from(number)] = Some(reads as u16);

@@ -5,6 +5,7 @@ use crate::graph::Graph;
 use crate::matching::Images;
 use crate::meaning::{Meaning, Term};
 use crate::random::Random;
+use crate::removal::removed_slots;
 use crate::rule::{Pattern, Rule, TARGET_BASE};
 
 /// An accepted rewriting: the old table, the new one, and the match.
@@ -59,9 +60,10 @@ impl Accepted<'_> {
         let before = meaning.results(self.old);
         let after = meaning.results(self.new);
         let below = self.below_replaced();
+        let stays = self.stays();
         let same_meaning = (0..SAMPLES).all(|_| self.sides_agree(meaning, random));
         let mut verdict = Verdict { same_meaning, ..Verdict::default() };
-        for slot in (0..self.old.slot_count()).filter(|&slot| self.stays(slot)) {
+        for slot in (0..self.old.slot_count()).filter(|&slot| stays[slot]) {
             let changed = usize::from(before[slot] != after[slot]);
             let (count, changes) = match below[slot] {
                 true => (&mut verdict.below, &mut verdict.below_changed),
@@ -78,11 +80,11 @@ impl Accepted<'_> {
         verdict
     }
 
-    /// "'Stays' means not removed."
-    fn stays(&self, slot: usize) -> bool {
-        let pairs = self.rule.sources().zip(self.images);
-        let mut removed = pairs.filter(|(pattern, _)| !pattern.is_input_kind());
-        !self.old.slot(slot).is_empty() && !removed.any(|(_, &image)| usize::from(image) == slot)
+    /// "'Stays' means not removed": for each slot of the old table, whether a
+    /// vertex stays there.
+    fn stays(&self) -> Vec<bool> {
+        let removed = removed_slots(self.old, self.rule, self.images);
+        self.old.slots().zip(removed).map(|(slot, removed)| !slot.is_empty() && !removed).collect()
     }
 
     /// For each slot of the old table, whether there is a path to it from a

@@ -3,9 +3,10 @@
 use crate::attributes::results;
 use crate::cycle::has_cycle;
 use crate::fields::put_u16;
-use crate::graph::{write_empty, write_record, Graph, HEADER, RECORD};
+use crate::graph::{write_empty, write_record, Graph, HEADER, MAX_SLOTS, RECORD};
 use crate::matching::Images;
 use crate::operators::{PLACES, PROJ};
+use crate::removal::removed_slots;
 use crate::reply::Refusal;
 use crate::rule::{Rule, MAX_OUTPUTS, MAX_VERTICES, TARGET_BASE};
 
@@ -22,8 +23,9 @@ pub fn write_new_table(
     images: &Images,
 ) -> Result<(), Refusal> {
     let attributes = target_attributes(old, rule, images).ok_or(Refusal::NO_RESULT)?;
-    let slots = target_slots(old, rule, images).ok_or(Refusal::NO_ROOM)?;
-    let plan = Plan { old, rule, images, slots };
+    let removed = removed_slots(old, rule, images);
+    let slots = target_slots(old, rule, &removed).ok_or(Refusal::NO_ROOM)?;
+    let plan = Plan { old, rule, images, removed, slots };
     new.copy_from_slice(old.bytes());
     plan.redirect(new);
     plan.remove(new);
@@ -52,17 +54,12 @@ fn target_attributes(old: Graph, rule: Rule, images: &Images) -> Option<TargetAt
     Some(attributes)
 }
 
-/// "Images of non-input source vertices are removed."
-fn is_removed(rule: Rule, images: &Images, slot: u16) -> bool {
-    rule.sources().zip(images).any(|(pattern, &image)| image == slot && !pattern.is_input_kind())
-}
-
 /// "Target vertices, in order, take the lowest Empty slots, those just freed
-/// among them." None when "T exceeds Empty slots plus removed ones".
-fn target_slots(old: Graph, rule: Rule, images: &Images) -> Option<[u16; MAX_VERTICES]> {
+/// among them." None when "T exceeds Empty slots plus removed ones"; by
+/// request 1/13 this test "counts only slots really removed".
+fn target_slots(old: Graph, rule: Rule, removed: &[bool]) -> Option<[u16; MAX_VERTICES]> {
     let mut slots = [0; MAX_VERTICES];
-    let mut free = (0..old.slot_count())
-        .filter(|&slot| old.slot(slot).is_empty() || is_removed(rule, images, slot as u16));
+    let mut free = (0..old.slot_count()).filter(|&slot| old.slot(slot).is_empty() || removed[slot]);
     for slot in slots.iter_mut().take(rule.target_count()) {
         *slot = free.next()? as u16;
     }
@@ -74,14 +71,13 @@ struct Plan<'a> {
     old: Graph<'a>,
     rule: Rule<'a>,
     images: &'a Images,
+    /// For each slot of the old table, whether it is freed.
+    removed: [bool; MAX_SLOTS],
+    /// The slots of the target vertices.
     slots: [u16; MAX_VERTICES],
 }
 
 impl Plan<'_> {
-    fn removes(&self, slot: u16) -> bool {
-        is_removed(self.rule, self.images, slot)
-    }
-
     /// The slot that a target place stands for: a rule input's image or a
     /// target vertex's slot.
     fn slot_of(&self, place: u8) -> u16 {
@@ -107,7 +103,7 @@ impl Plan<'_> {
         let replaced = self.replaced();
         for (number, slot) in self.old.slots().enumerate() {
             for (place, input) in slot.inputs().enumerate() {
-                if replaced.contains(&input) && !self.removes(number as u16) {
+                if replaced.contains(&input) && !self.removed[number] {
                     let at = HEADER + RECORD * number + 4 + 2 * place;
                     put_u16(new, at, self.redirected(input));
                 }
@@ -127,10 +123,8 @@ impl Plan<'_> {
 
     /// Removed vertices' "slots become Empty".
     fn remove(&self, new: &mut [u8]) {
-        for (pattern, &image) in self.rule.sources().zip(self.images) {
-            if !pattern.is_input_kind() {
-                write_empty(record_mut(new, image));
-            }
+        for slot in (0..self.old.slot_count()).filter(|&slot| self.removed[slot]) {
+            write_empty(record_mut(new, slot as u16));
         }
     }
 

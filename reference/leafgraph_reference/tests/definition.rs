@@ -1,6 +1,6 @@
 //! The search against document 01's definition of a match, tried on every map
 //! of small cases, and the rewriting against a plain retelling of "What a
-//! rewriting leaves".
+//! rewriting leaves", both as request 1/13 amends them.
 
 mod common;
 
@@ -9,6 +9,7 @@ use leafgraph_reference::attributes::{agrees, results};
 use leafgraph_reference::blocks::{empty, GraphParts, RuleParts, Vertex};
 use leafgraph_reference::generate::{matching_case, rewriting_case, search_case, Case};
 use leafgraph_reference::graph::Graph;
+use leafgraph_reference::operators::CONST;
 use leafgraph_reference::random::Random;
 use leafgraph_reference::rule::Rule;
 
@@ -44,14 +45,21 @@ fn is_match(case: &Case, images: &[u16]) -> bool {
         && attributes_agree(case, images)
 }
 
-/// "no interior image (neither rule input nor source output, Const included)
-/// is a graph output or is read by anything but the image of a non-input
-/// source vertex"
+/// "no interior image (neither rule input nor source output [...]) is a graph
+/// output or is read by anything but the image of a non-input source vertex";
+/// but "a matched Const may have other readers and may be a graph output".
 fn interior_is_kept(case: &Case, images: &[u16], vertex: usize) -> bool {
+    let rule = &case.rule;
+    is_input(rule, vertex)
+        || rule.source_outputs.contains(&(vertex as u8))
+        || rule.source[vertex].kind == CONST
+        || is_private(case, images, vertex)
+}
+
+/// Whether "all its reads come from images of non-input source vertices and no
+/// graph output names it".
+fn is_private(case: &Case, images: &[u16], vertex: usize) -> bool {
     let (graph, rule) = (&case.graph, &case.rule);
-    if is_input(rule, vertex) || rule.source_outputs.contains(&(vertex as u8)) {
-        return true;
-    }
     let inside = |reader: usize| {
         (0..rule.source.len())
             .any(|other| !is_input(rule, other) && usize::from(images[other]) == reader)
@@ -60,6 +68,15 @@ fn interior_is_kept(case: &Case, images: &[u16], vertex: usize) -> bool {
     !graph.outputs.contains(&image)
         && (0..graph.slots.len())
             .all(|reader| !graph.slots[reader].inputs.contains(&image) || inside(reader))
+}
+
+/// The source vertices whose images go.
+fn removed<'a>(case: &'a Case, images: &'a [u16]) -> impl Iterator<Item = usize> + 'a {
+    let rule = &case.rule;
+    (0..rule.source.len()).filter(move |&vertex| {
+        !is_input(rule, vertex)
+            && (rule.source[vertex].kind != CONST || is_private(case, images, vertex))
+    })
 }
 
 fn attributes_agree(case: &Case, images: &[u16]) -> bool {
@@ -132,7 +149,7 @@ fn retold(case: &Case, images: &[u16], attributes: &[Vec<i32>]) -> GraphParts {
     let rule = &case.rule;
     let mut new = case.graph.clone();
     let mut stays = vec![true; new.slots.len()];
-    for vertex in (0..rule.source.len()).filter(|&vertex| !is_input(rule, vertex)) {
+    for vertex in removed(case, images) {
         stays[usize::from(images[vertex])] = false;
         new.slots[usize::from(images[vertex])] = empty();
     }
@@ -192,8 +209,7 @@ fn expected_rewriting(case: &Case, map: &[u16]) -> Result<GraphParts, u64> {
         return Err(5);
     }
     let empties = case.graph.slots.iter().filter(|vertex| vertex.kind == 0).count();
-    let removed = (0..rule.source.len()).filter(|&vertex| !is_input(rule, vertex)).count();
-    if rule.target.len() > empties + removed {
+    if rule.target.len() > empties + removed(case, map).count() {
         return Err(6);
     }
     let new = retold(case, map, &attributes);
