@@ -73,7 +73,7 @@ fn search_cases_are_sound_and_of_both_outcomes() {
         assert!(reply == 0 || reply == 4, "{change}: {reply}, {case:?}");
         outcomes.entry(change).or_default()[usize::from(reply == 4)] += 1;
     }
-    assert_eq!(outcomes.len(), 9, "{outcomes:?}");
+    assert_eq!(outcomes.len(), 11, "{outcomes:?}");
     assert!(outcomes.values().flatten().all(|&count| count > 100), "{outcomes:?}");
 }
 

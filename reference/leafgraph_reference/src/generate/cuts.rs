@@ -3,7 +3,7 @@
 //! computed from other attributes.
 
 use crate::blocks::{pattern, wildcard, GraphParts, PatternParts, RuleParts};
-use crate::operators::CALL;
+use crate::operators::{CALL, CONST};
 use crate::random::Random;
 use crate::rule::MAX_VERTICES;
 
@@ -200,9 +200,10 @@ impl Cutter<'_> {
         Some(number)
     }
 
-    /// A vertex with several readers is seldom taken as interior, since all
-    /// of them would have to be cut out too; one that reads a root never, and
-    /// none when there is no place for the vertex and an input of its own.
+    /// A vertex with several readers, but for a Const, is seldom taken as
+    /// interior, since all of them would have to be cut out too; one that reads
+    /// a root never, and none when there is no place for the vertex and an
+    /// input of its own.
     fn goes_on(&self, random: &mut Random, slot: u16) -> bool {
         let inputs = &self.graph.slots[usize::from(slot)].inputs;
         if inputs.iter().any(|input| self.roots.contains(input))
@@ -211,8 +212,9 @@ impl Cutter<'_> {
             return false;
         }
         let alone = self.readers[usize::from(slot)] == 1;
-        let input = is_input_kind(self.graph.slots[usize::from(slot)].kind);
-        let share = if alone || input { self.eagerness } else { self.eagerness / 4 };
+        let kind = self.graph.slots[usize::from(slot)].kind;
+        let may_be_shared = is_input_kind(kind) || kind == CONST;
+        let share = if alone || may_be_shared { self.eagerness } else { self.eagerness / 4 };
         random.chance(share)
     }
 

@@ -3,7 +3,7 @@
 use crate::blocks::{call, GraphParts, Vertex};
 use crate::blocks::{constant, empty, projection, tuple, variable_of};
 use crate::graph::MAX_SLOTS;
-use crate::operators::{operator_of, ADD, OPERATORS, PLACES, RELU};
+use crate::operators::{operator_of, ADD, CONST, OPERATORS, PLACES, RELU, VARIABLE};
 use crate::random::Random;
 
 /// A sound graph, mostly small, sometimes as large as they come.
@@ -41,9 +41,31 @@ pub fn sound_graph_of(random: &mut Random, slots: usize) -> GraphParts {
         };
         table[usize::from(number)] = vertex;
     }
+    if random.chance(25) {
+        put_constants(random, &mut table);
+    }
     let outputs: Vec<u16> =
         (0..random.within(1, 4)).map(|_| late(random, &numbers, reach)).collect();
     GraphParts::new(table, &outputs)
+}
+
+/// Most Variables become Consts, and these get more readers: sources with
+/// several Consts are cut out, and Consts that others read. A Const reads
+/// nothing, so that no cycle is closed.
+fn put_constants(random: &mut Random, table: &mut [Vertex]) {
+    for vertex in table.iter_mut().filter(|vertex| vertex.kind == VARIABLE) {
+        if random.chance(70) {
+            *vertex = constant(attribute(random));
+        }
+    }
+    let slots = 0..table.len() as u16;
+    let constants: Vec<u16> =
+        slots.filter(|&slot| table[usize::from(slot)].kind == CONST).collect();
+    for input in table.iter_mut().flat_map(|vertex| &mut vertex.inputs) {
+        if !constants.is_empty() && random.chance(20) {
+            *input = random.pick(&constants);
+        }
+    }
 }
 
 /// A graph in which nearly every vertex reads the one before: the longest

@@ -3,7 +3,7 @@
 //! that read the first output, from which a cycle may come.
 
 use crate::blocks::{call, constant, relu, GraphParts, PatternParts, RuleParts, Vertex};
-use crate::operators::{EMPTY, MEAN, PROJ, WILDCARD};
+use crate::operators::{CONST, EMPTY, MEAN, PROJ, WILDCARD};
 use crate::random::Random;
 use crate::rule::{Node, ANY};
 
@@ -13,6 +13,8 @@ use super::tables::add_vertex;
 
 /// In so many of a hundred cases a rule input past the first output reads it.
 const READS_FIRST_OUTPUT: usize = 30;
+/// In so many of a hundred cases a Const of the graph is matched, if one suits.
+const FINDS_CONST: usize = 40;
 
 /// A source without images yet, and the nodes of its attributes.
 #[derive(Clone, Copy)]
@@ -44,7 +46,10 @@ pub(super) fn insert_match(
                 let inputs = pattern.inputs.iter().map(|&input| images[usize::from(input)]);
                 let (kind, operator) = (pattern.kind, pattern.operator);
                 let added = Vertex { kind, operator, inputs: inputs.collect(), attributes };
-                add_vertex(random, graph, added)?
+                match find_const(random, graph, side, &images, &added) {
+                    Some(slot) => slot,
+                    None => add_vertex(random, graph, added)?,
+                }
             }
         };
         images.push(image);
@@ -68,6 +73,30 @@ fn attributes(
         _ => results[usize::from(node)].filter(|&result| result >= least),
     };
     pattern.attributes.iter().map(number).collect()
+}
+
+/// A Const of the graph that can be the next vertex's image, where this one,
+/// which would be added, is a Const: it may have readers already.
+fn find_const(
+    random: &mut Random,
+    graph: &GraphParts,
+    side: SourceSide,
+    images: &[u16],
+    added: &Vertex,
+) -> Option<u16> {
+    if added.kind != CONST || !random.chance(FINDS_CONST) {
+        return None;
+    }
+    let node = side.source[images.len()].attributes[0];
+    let takes_any = side.nodes[usize::from(node)].form == ANY;
+    let suits = |slot: &u16| {
+        let found = &graph.slots[usize::from(*slot)];
+        found.kind == CONST
+            && (takes_any || found.attributes == added.attributes)
+            && !images.contains(slot)
+    };
+    let suiting: Vec<u16> = (0..graph.slots.len() as u16).filter(suits).collect();
+    (!suiting.is_empty()).then(|| random.pick(&suiting))
 }
 
 /// An image for the next vertex, a wildcard. Vertices past the first output

@@ -3,17 +3,19 @@
 
 use crate::blocks::{access_node, any_node, call_pattern, constant_node, p10_rule, pattern, rr};
 use crate::blocks::{wildcard, PatternParts, RuleParts};
-use crate::operators::{ADD, GAIN, PROJ, RELU, RESHAPE, TUPLE};
+use crate::operators::{ADD, CONST, GAIN, PROJ, RELU, RESHAPE, TUPLE};
 use crate::rule::Node;
 
 /// All of them. Together they remove vertices, keep their number and add
-/// some; two have no target vertex; half have two outputs.
+/// some; two have no target vertex; nearly half have two outputs.
 pub fn lawful_rules() -> Vec<RuleParts> {
     vec![
         rr(),
         doubled_relu(),
         turned_sum(),
         grouped_sum(),
+        turned_constant(),
+        grouped_constants(),
         p10_rule(),
         last_reshape(),
         projection_of_one(),
@@ -67,6 +69,28 @@ fn turned_sum() -> RuleParts {
 fn grouped_sum() -> RuleParts {
     let source = vec![wildcard(), wildcard(), sum(0, 1), wildcard(), sum(2, 3)];
     plain(source, &[4], vec![sum(1, 3), sum(0, 16)], &[17])
+}
+
+fn constant(node: u8) -> PatternParts {
+    pattern(CONST, 0, &[], &[node])
+}
+
+/// add(x,c) becomes add(c,x) with a Const of its own: where c has other
+/// readers, they keep it.
+fn turned_constant() -> RuleParts {
+    let source = vec![wildcard(), constant(0), sum(0, 1)];
+    let mut rule = plain(source, &[2], vec![constant(1), sum(16, 0)], &[17]);
+    rule.nodes = attribute_nodes(1, 1);
+    rule
+}
+
+/// add(add(x,c),d) becomes add(x,add(c,d)).
+fn grouped_constants() -> RuleParts {
+    let source = vec![wildcard(), constant(0), sum(0, 1), constant(0), sum(2, 3)];
+    let target = vec![constant(1), constant(2), sum(16, 17), sum(0, 18)];
+    let mut rule = plain(source, &[4], target, &[19]);
+    rule.nodes = vec![any_node(), access_node(1, 1), access_node(3, 1)];
+    rule
 }
 
 /// Nodes 1 and on: the attributes of this source vertex. Node 0 is any.

@@ -2,6 +2,7 @@
 //! and damaged ones that are only just unsound.
 
 mod agreeing;
+mod constants;
 mod cuts;
 mod damaged_graphs;
 mod damaged_rules;

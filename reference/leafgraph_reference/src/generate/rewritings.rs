@@ -1,20 +1,21 @@
 //! Cases for rewriting: a match, cut out or put in; a target; readers of what is
 //! replaced; and as much room as the target takes, or just too little.
 
-use crate::blocks::{add, any_node, call, empty, projection, relu, tuple};
-use crate::blocks::{GraphParts, RuleParts, Vertex};
-use crate::graph::{MAX_SLOTS, OUTPUT_PLACES};
-use crate::operators::{EMPTY, MEAN};
+use crate::blocks::{empty, GraphParts, RuleParts};
+use crate::graph::{Graph, MAX_SLOTS, UNUSED};
+use crate::operators::EMPTY;
 use crate::random::Random;
+use crate::removal::removed_slots;
+use crate::rule::{Rule, MAX_VERTICES};
 
-use super::cuts::{graph_and_cut, Case, Cut};
-use super::filling::fill_attributes;
-use super::graphs::{leaf, sound_graph_of};
+use super::constants::share_constants;
+use super::cuts::{Case, Cut};
+use super::graphs::leaf;
 use super::insertion::{insert_match, SourceSide};
 use super::lawful::lawful_rules;
-use super::rules::{is_input_kind, rule_with_random_target, source_side};
-use super::searches::{change_scene, graph, start, Scene};
-use super::tables::{add_vertex, empty_slots, is_below, renumber};
+use super::rules::{is_input_kind, rule_with_random_target};
+use super::searches::{base_graph, change_scene, cut_scene, inserted_scene, start, Scene};
+use super::tables::{add_output, add_vertex, empty_slots, read_instead, reader, renumber};
 use super::targets::{rule_with_copied_target, rule_with_fitting_target, Merging};
 
 /// A case for rewriting, and how its rule was made.
@@ -61,32 +62,6 @@ fn random_rule(random: &mut Random) -> Option<(&'static str, Matched)> {
     Some((name, Matched { graph, rule, images }))
 }
 
-fn cut_scene(random: &mut Random) -> Scene {
-    let (graph, cut) = graph_and_cut(random, graph);
-    Scene { graph, cut }
-}
-
-fn inserted_scene(random: &mut Random) -> Option<Scene> {
-    let mut graph = base_graph(random);
-    let (mut source, outputs) = source_side(random);
-    // The source's attributes all name node 0 so far.
-    let nodes = [any_node()];
-    let side = SourceSide { source: &source, outputs: &outputs, nodes: &nodes };
-    let images = insert_match(random, &mut graph, side)?;
-    let expressions = fill_attributes(random, &graph, &images, &mut source);
-    Some(Scene { graph, cut: Cut { source, outputs, expressions, images } })
-}
-
-/// A graph to put a match into.
-fn base_graph(random: &mut Random) -> GraphParts {
-    let slots = match random.below(100) {
-        0..=92 => random.within(1, 16),
-        93..=98 => random.within(17, 100),
-        _ => random.within(MAX_SLOTS - 30, MAX_SLOTS),
-    };
-    sound_graph_of(random, slots)
-}
-
 /// A rule with this source, and how its target was made. None where the nodes
 /// do not suffice.
 pub(super) fn rule_for(
@@ -113,9 +88,10 @@ pub(super) fn rule_for(
 }
 
 impl Matched {
-    /// The case, once what the match replaces is read, there is the room that
-    /// is wanted, and the slots are in some order.
+    /// The case, once the match's Consts are shared, what it replaces is read,
+    /// there is the room that is wanted, and the slots are in some order.
     fn finished(mut self, random: &mut Random) -> Case {
+        share_constants(random, &mut self.graph, &self.rule.source, &self.images);
         self.add_readers(random);
         self.add_outputs(random);
         self.set_room(random);
@@ -136,76 +112,69 @@ impl Matched {
         outputs.map(|&output| self.images[usize::from(output)]).collect()
     }
 
-    fn is_removed(&self, slot: u16) -> bool {
+    /// Whether this is the image of a non-input source vertex.
+    fn is_inside(&self, slot: u16) -> bool {
         let mut pairs = self.rule.source.iter().zip(&self.images);
         pairs.any(|(pattern, &image)| image == slot && !is_input_kind(pattern.kind))
     }
 
     /// Readers of what is replaced, so that there are places to redirect. They
-    /// read nothing else that the match removes.
+    /// read nothing else inside the match.
     fn add_readers(&mut self, random: &mut Random) {
         for read in self.replaced() {
             for _ in 0..random.pick(&[0, 0, 1, 1, 2, 3]) {
-                let other = self.staying(random).unwrap_or(read);
+                let other = self.outside(random).unwrap_or(read);
                 let reader = reader(random, read, other);
                 add_vertex(random, &mut self.graph, reader);
             }
             if random.chance(30) {
-                if let Some(reader) = self.staying(random) {
-                    self.read_instead(random, reader, read);
+                if let Some(reader) = self.outside(random) {
+                    read_instead(random, &mut self.graph, reader, read);
                 }
             }
         }
     }
 
-    /// Some vertex that stays.
-    fn staying(&self, random: &mut Random) -> Option<u16> {
+    /// Some vertex outside the match, or the image of a rule input.
+    fn outside(&self, random: &mut Random) -> Option<u16> {
         let slots = 0..self.graph.slots.len() as u16;
         let is_used = |slot: u16| self.graph.slots[usize::from(slot)].kind != EMPTY;
-        let staying: Vec<u16> =
-            slots.filter(|&slot| is_used(slot) && !self.is_removed(slot)).collect();
-        (!staying.is_empty()).then(|| random.pick(&staying))
-    }
-
-    /// One place of the reader names this slot now, where that closes no
-    /// cycle.
-    fn read_instead(&mut self, random: &mut Random, reader: u16, read: u16) {
-        let closes_cycle = is_below(&self.graph, reader, read);
-        let inputs = &mut self.graph.slots[usize::from(reader)].inputs;
-        if !inputs.is_empty() && !closes_cycle {
-            let place = random.below(inputs.len());
-            inputs[place] = read;
-        }
+        let outside: Vec<u16> =
+            slots.filter(|&slot| is_used(slot) && !self.is_inside(slot)).collect();
+        (!outside.is_empty()).then(|| random.pick(&outside))
     }
 
     /// Graph outputs that name what is replaced, the same one several times,
     /// too.
     fn add_outputs(&mut self, random: &mut Random) {
         let replaced = self.replaced();
-        let outputs = &mut self.graph.outputs;
         for _ in 0..random.pick(&[0, 1, 1, 2, 3]) {
             let output = random.pick(&replaced);
-            match outputs.len() < OUTPUT_PLACES && random.chance(60) {
-                true => outputs.push(output),
-                false => {
-                    let place = random.below(outputs.len());
-                    outputs[place] = output;
-                }
-            }
+            add_output(random, &mut self.graph, output);
         }
     }
 
+    /// How many slots are freed.
+    fn removed(&self) -> usize {
+        let (graph, rule) = (self.graph.block(), self.rule.block());
+        let mut images = [UNUSED; MAX_VERTICES];
+        images[..self.images.len()].copy_from_slice(&self.images);
+        let removed = removed_slots(Graph::view(&graph), Rule::view(&rule), &images);
+        removed.iter().filter(|&&removed| removed).count()
+    }
+
     /// Sets the number of Empty slots: more than the target takes, exactly as
-    /// many, one too few where the removal alone does not give enough, or
-    /// leaves them as they are.
+    /// many, one too few where the removal alone does not give enough, as many
+    /// as would do if no Const stayed, or leaves them as they are.
     fn set_room(&mut self, random: &mut Random) {
-        let patterns = self.rule.source.iter();
-        let removed = patterns.filter(|pattern| !is_input_kind(pattern.kind)).count();
-        let needed = self.rule.target.len().saturating_sub(removed);
+        let (targets, removed) = (self.rule.target.len(), self.removed());
+        let needed = targets.saturating_sub(removed);
+        let inside = self.images.iter().filter(|&&image| self.is_inside(image)).count();
         let wanted = match random.below(12) {
             0 | 1 => return,
             2..=4 => needed,
             5 => needed.saturating_sub(1),
+            6 => targets.saturating_sub(inside),
             _ => needed + random.below(4),
         };
         let mut spare = empty_slots(&self.graph);
@@ -216,16 +185,5 @@ impl Matched {
         let place = MAX_SLOTS - self.graph.slots.len();
         let missing = (wanted - spare.len()).min(place);
         self.graph.slots.extend(vec![empty(); missing]);
-    }
-}
-
-fn reader(random: &mut Random, read: u16, other: u16) -> Vertex {
-    match random.below(6) {
-        0 => add(read, read),
-        1 => add(other, read),
-        2 => tuple(&[read, other, read]),
-        3 => projection(read, 1),
-        4 => call(MEAN, &[read], &[2]),
-        _ => relu(read),
     }
 }

@@ -1,27 +1,30 @@
-//! Cases for the search: a rule cut out of a graph, and something done to the
-//! graph after the cut, so that the match is gone, is another one or is one of
-//! several.
+//! Cases for the search: a rule cut out of a graph or put into it, and
+//! something done to the graph afterwards, so that the match is gone, is
+//! another one or is one of several.
 
-use crate::blocks::{relu, GraphParts, Vertex};
+use crate::blocks::{any_node, relu, GraphParts, Vertex};
 use crate::graph::MAX_SLOTS;
-use crate::operators::{PROJ, WILDCARD};
+use crate::operators::{CONST, PROJ, WILDCARD};
 use crate::random::Random;
 
+use super::constants::{merge_constants, share_constants};
 use super::cuts::{graph_and_cut, Case, Cut};
+use super::filling::fill_attributes;
 use super::graphs::{attribute, deep_graph, sound_graph_of};
-use super::rules::{is_input_kind, rule_with_random_target};
-use super::tables::{add_vertex, is_below, renumber};
+use super::insertion::{insert_match, SourceSide};
+use super::rules::{is_input_kind, rule_with_random_target, source_side};
+use super::tables::{add_output, add_vertex, read_instead, renumber};
 
-/// A graph and what was cut out of it.
+/// A graph and what was cut out of it, or put into it.
 pub(super) struct Scene {
     pub graph: GraphParts,
     pub cut: Cut,
 }
 
-/// What may be done to a graph after the cut, by name. The graph stays sound.
+/// What may be done to a graph after that, by name. The graph stays sound.
 type Change = (&'static str, fn(&mut Random, &mut Scene));
 
-const CHANGES: [Change; 9] = [
+const CHANGES: [Change; 11] = [
     ("as cut", |_, _| ()),
     ("stage repeated", repeat_stage),
     ("slots renumbered", |random, scene| renumber(random, &mut scene.graph, &mut scene.cut.images)),
@@ -29,15 +32,28 @@ const CHANGES: [Change; 9] = [
     ("inputs swapped", swap_inputs),
     ("another attribute", change_attribute),
     ("another reader", add_reader),
-    ("another output", add_output),
+    ("another output", |random, scene| {
+        let output = scene.inner_image(random);
+        add_output(random, &mut scene.graph, output);
+    }),
     ("rule input reads inside", read_inside),
+    ("constants shared", |random, Scene { graph, cut }| {
+        share_constants(random, graph, &cut.source, &cut.images);
+    }),
+    ("constants merged", |random, Scene { graph, cut }| {
+        merge_constants(random, graph, &cut.source, &cut.images);
+    }),
 ];
+
+/// In so many of a hundred cases the source is put into the graph. Such sources
+/// are larger and have more Consts.
+const INSERTED: usize = 15;
 
 /// A case for the search and the name of the change made to its graph.
 /// Further changes may follow the named one.
 pub fn search_case(random: &mut Random) -> (&'static str, Case) {
-    let (graph, cut) = graph_and_cut(random, graph);
-    let mut scene = Scene { graph, cut };
+    let inserted = if random.chance(INSERTED) { inserted_scene(random) } else { None };
+    let mut scene = inserted.unwrap_or_else(|| cut_scene(random));
     let name = change_scene(random, &mut scene);
     let Scene { graph, cut } = scene;
     let first_image = cut.images[usize::from(cut.outputs[0])];
@@ -46,7 +62,35 @@ pub fn search_case(random: &mut Random) -> (&'static str, Case) {
     (name, Case { graph, rule, start })
 }
 
-/// Often none, so that most searches find what was cut.
+/// A source cut out of a graph.
+pub(super) fn cut_scene(random: &mut Random) -> Scene {
+    let (graph, cut) = graph_and_cut(random, graph);
+    Scene { graph, cut }
+}
+
+/// A random source put into a graph. None where there is no place for it.
+pub(super) fn inserted_scene(random: &mut Random) -> Option<Scene> {
+    let mut graph = base_graph(random);
+    let (mut source, outputs) = source_side(random);
+    // The source's attributes all name node 0 so far.
+    let nodes = [any_node()];
+    let side = SourceSide { source: &source, outputs: &outputs, nodes: &nodes };
+    let images = insert_match(random, &mut graph, side)?;
+    let expressions = fill_attributes(random, &graph, &images, &mut source);
+    Some(Scene { graph, cut: Cut { source, outputs, expressions, images } })
+}
+
+/// A graph to put a match into.
+pub(super) fn base_graph(random: &mut Random) -> GraphParts {
+    let slots = match random.below(100) {
+        0..=92 => random.within(1, 16),
+        93..=98 => random.within(17, 100),
+        _ => random.within(MAX_SLOTS - 30, MAX_SLOTS),
+    };
+    sound_graph_of(random, slots)
+}
+
+/// Often none, so that most searches find what was cut or put in.
 pub(super) fn change_scene(random: &mut Random, scene: &mut Scene) -> &'static str {
     if random.chance(50) {
         return CHANGES[0].0;
@@ -60,7 +104,7 @@ pub(super) fn change_scene(random: &mut Random, scene: &mut Scene) -> &'static s
     name
 }
 
-pub(super) fn graph(random: &mut Random) -> GraphParts {
+fn graph(random: &mut Random) -> GraphParts {
     let slots = match random.below(200) {
         0..=169 => random.within(2, 24),
         170..=185 => random.within(25, 120),
@@ -116,12 +160,14 @@ impl Scene {
     }
 }
 
-/// A second copy of all that a match would remove, over the same rule inputs:
-/// with two outputs every mixed pair is a candidate too.
+/// A second copy of all that a match would remove, over the same rule inputs
+/// and some of the same Consts: with two outputs every mixed pair is a
+/// candidate too.
 fn repeat_stage(random: &mut Random, scene: &mut Scene) {
     let mut copies = scene.cut.images.clone();
     for vertex in 0..scene.cut.source.len() {
-        if is_input_kind(scene.cut.source[vertex].kind) {
+        let kind = scene.cut.source[vertex].kind;
+        if is_input_kind(kind) || (kind == CONST && random.chance(50)) {
             continue;
         }
         let mut copy = scene.image(vertex).clone();
@@ -181,15 +227,6 @@ fn add_reader(random: &mut Random, scene: &mut Scene) {
     scene.add(random, relu(read));
 }
 
-fn add_output(random: &mut Random, scene: &mut Scene) {
-    let output = scene.inner_image(random);
-    let outputs = &mut scene.graph.outputs;
-    match outputs.len() < 4 {
-        true => outputs.push(output),
-        false => outputs[random.below(4)] = output,
-    }
-}
-
 /// An image of a wildcard reads an image that the match would remove, where
 /// that closes no cycle.
 fn read_inside(random: &mut Random, scene: &mut Scene) {
@@ -197,11 +234,7 @@ fn read_inside(random: &mut Random, scene: &mut Scene) {
     if readers.is_empty() {
         return;
     }
-    let reader = random.pick(&readers);
+    let reader = scene.cut.images[random.pick(&readers)];
     let read = scene.inner_image(random);
-    if !is_below(&scene.graph, scene.cut.images[reader], read) {
-        let inputs = &mut scene.image_mut(reader).inputs;
-        let place = random.below(inputs.len());
-        inputs[place] = read;
-    }
+    read_instead(random, &mut scene.graph, reader, read);
 }

@@ -1,6 +1,6 @@
 //! A graph and a few rules, to rewrite it again and again.
 
-use crate::blocks::{add, call, empty, projection, relu, tuple, variable};
+use crate::blocks::{add, call, constant, empty, projection, relu, tuple, variable};
 use crate::blocks::{GraphParts, RuleParts, Vertex};
 use crate::operators::{GAIN, RESHAPE};
 use crate::random::Random;
@@ -84,7 +84,8 @@ fn plain_vertex(random: &mut Random, input: u16, other: u16) -> Vertex {
     let numbers = [small(), small(), small(), small()];
     match random.below(20) {
         0 => variable(),
-        1..=7 => relu(input),
+        1 => constant(numbers[0]),
+        2..=7 => relu(input),
         8..=10 => add(input, other),
         11..=13 => call(GAIN, &[input], &numbers[1..]),
         14 | 15 => call(RESHAPE, &[input], &numbers),

@@ -1,9 +1,9 @@
-//! What several generators do to a graph: put a vertex into it, give its slots
-//! another order, ask for a path.
+//! What several generators do to a graph: put a vertex into it, let something
+//! name a slot, give its slots another order, ask for a path.
 
-use crate::blocks::{GraphParts, Vertex};
-use crate::graph::MAX_SLOTS;
-use crate::operators::EMPTY;
+use crate::blocks::{add, call, projection, relu, tuple, GraphParts, Vertex};
+use crate::graph::{MAX_SLOTS, OUTPUT_PLACES};
+use crate::operators::{EMPTY, MEAN};
 use crate::random::Random;
 
 pub(super) fn empty_slots(graph: &GraphParts) -> Vec<usize> {
@@ -28,6 +28,42 @@ pub(super) fn add_vertex(
         false => graph.slots.push(vertex),
     }
     Some(slot as u16)
+}
+
+/// A vertex that reads this slot, perhaps in two places, and perhaps the
+/// other one too.
+pub(super) fn reader(random: &mut Random, read: u16, other: u16) -> Vertex {
+    match random.below(6) {
+        0 => add(read, read),
+        1 => add(other, read),
+        2 => tuple(&[read, other, read]),
+        3 => projection(read, 1),
+        4 => call(MEAN, &[read], &[2]),
+        _ => relu(read),
+    }
+}
+
+/// One place of the reader, where it has any, names this slot now, unless
+/// that closes a cycle.
+pub(super) fn read_instead(random: &mut Random, graph: &mut GraphParts, reader: u16, read: u16) {
+    let closes_cycle = is_below(graph, reader, read);
+    let inputs = &mut graph.slots[usize::from(reader)].inputs;
+    if !inputs.is_empty() && !closes_cycle {
+        let place = random.below(inputs.len());
+        inputs[place] = read;
+    }
+}
+
+/// A graph output names this slot, one more or one of those there are.
+pub(super) fn add_output(random: &mut Random, graph: &mut GraphParts, slot: u16) {
+    let outputs = &mut graph.outputs;
+    match outputs.len() < OUTPUT_PLACES && random.chance(60) {
+        true => outputs.push(slot),
+        false => {
+            let place = random.below(outputs.len());
+            outputs[place] = slot;
+        }
+    }
 }
 
 /// The same graph with its slots in another order. The images, which name
