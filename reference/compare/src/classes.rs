@@ -2,15 +2,18 @@
 //! All of it is taken from the second program's answer.
 
 use leafgraph_reference::graph::Graph;
+use leafgraph_reference::operators::CONST;
 use leafgraph_reference::rule::{
     Rule, ACCESS, ANY, CONSTANT, DIVIDE, MAX_NODES, MINUS, PLUS, REMAINDER, TIMES,
 };
 
+use crate::constants::{matched_consts, MatchedConst, Namer};
+use crate::nearly::{reasons, Reason};
 use crate::tally::Tally;
 
 /// Every class must occur. A candidate is a slot from the start on that has
 /// the kind, operator and counts of the first output.
-pub const CLASSES: [&str; 23] = [
+pub const CLASSES: [&str; 37] = [
     "one output, found",
     "one output, none",
     "two outputs, found",
@@ -34,6 +37,20 @@ pub const CLASSES: [&str; 23] = [
     "negative attribute, found",
     "deep expression, found",
     "computed attribute, none",
+    "private Const, found",
+    "Const read by another vertex, found",
+    "Const read by a vertex that reaches no output, found",
+    "Const read by a rule input, found",
+    "Const as graph output, found",
+    "Const read and a graph output, found",
+    "private and shared Const, found",
+    "shared Const with any as attribute, found",
+    "shared Const with a computed attribute, found",
+    "Const taken by a wildcard, found",
+    "one Const for two of the rule, none",
+    "one Const for a Const and a wildcard, none",
+    "other inner vertex shared, none",
+    "other inner vertex as graph output, none",
 ];
 
 /// Deeper than any expression that is not made to be deep.
@@ -48,7 +65,7 @@ struct Search<'a> {
     rule: Rule<'a>,
     start: usize,
     /// The slot of each source vertex, where there is a match.
-    images: Option<Vec<usize>>,
+    images: Option<Vec<u16>>,
 }
 
 pub fn count_classes(
@@ -65,10 +82,11 @@ pub fn count_classes(
     let (Ok(graph), Ok(rule)) = (Graph::parse(graph), Rule::parse(rule)) else {
         return;
     };
-    let numbers = map.chunks_exact(2).map(|pair| u16::from_le_bytes([pair[0], pair[1]]).into());
+    let numbers = map.chunks_exact(2).map(|pair| u16::from_le_bytes([pair[0], pair[1]]));
     let images = (reply == 0).then(|| numbers.take(rule.source_count()).collect());
     let search = Search { graph, rule, start, images };
-    let classes = search.shapes().into_iter().chain(search.course()).chain(search.expressions());
+    let classes =
+        [search.shapes(), search.course(), search.expressions(), search.constants()].concat();
     for (class, holds) in classes {
         if holds {
             tally.count(class);
@@ -118,7 +136,7 @@ impl Search<'_> {
 
     fn output_image(&self, place: usize) -> Option<usize> {
         let output = usize::from(self.rule.source_output(place));
-        self.images.as_ref().map(|images| images[output])
+        self.images.as_ref().map(|images| images[output].into())
     }
 
     /// Whether there is a candidate below this slot.
@@ -127,13 +145,16 @@ impl Search<'_> {
         (self.start..below).any(|slot| self.graph.slot(slot).head() == head)
     }
 
+    /// Whether a vertex that is read from inside alone is read twice. A Const
+    /// may be read from anywhere.
     fn has_shared_interior(&self) -> bool {
         let rule = self.rule;
         let reads = |vertex| {
             rule.sources().flat_map(|reader| reader.inputs()).filter(move |&i| i == vertex)
         };
-        (0..rule.source_count() as u8)
-            .any(|vertex| !rule.is_rule_input(vertex) && reads(vertex).count() > 1)
+        let is_private =
+            |vertex: u8| !rule.is_rule_input(vertex) && rule.source(vertex.into()).kind() != CONST;
+        (0..rule.source_count() as u8).any(|vertex| is_private(vertex) && reads(vertex).count() > 1)
     }
 
     /// What the source's attributes are made of.
@@ -185,9 +206,62 @@ impl Search<'_> {
     fn has_negative_attribute(&self) -> bool {
         let images = self.images.iter().flatten();
         self.rule.sources().zip(images).any(|(source, &image)| {
-            let numbers = self.graph.slot(image).attributes();
+            let numbers = self.graph.slot(image.into()).attributes();
             let mut pairs = source.attributes().zip(numbers);
             pairs.any(|(node, number)| number < 0 && self.rule.node(node.into()).form != ANY)
         })
+    }
+
+    /// Consts of the match, or what stands in its way.
+    fn constants(&self) -> Vec<Class> {
+        let Some(images) = &self.images else {
+            return self.near_misses();
+        };
+        let consts = matched_consts(self.graph, self.rule, images);
+        let only = |namer: Namer| consts.iter().any(|one| one.stays_only_by(namer));
+        let private = consts.iter().any(|one| !one.stays());
+        vec![
+            ("private Const, found", private),
+            ("Const read by another vertex, found", only(Namer::Vertex)),
+            ("Const read by a vertex that reaches no output, found", only(Namer::DeadVertex)),
+            ("Const read by a rule input, found", only(Namer::RuleInput)),
+            ("Const as graph output, found", only(Namer::Output)),
+            (
+                "Const read and a graph output, found",
+                consts.iter().any(MatchedConst::is_read_and_output),
+            ),
+            ("private and shared Const, found", private && consts.iter().any(MatchedConst::stays)),
+            ("shared Const with any as attribute, found", self.has_shared(&consts, &[ANY])),
+            (
+                "shared Const with a computed attribute, found",
+                self.has_shared(&consts, &[ACCESS, PLUS, MINUS, TIMES, DIVIDE, REMAINDER]),
+            ),
+            ("Const taken by a wildcard, found", self.has_const_as_rule_input(images)),
+        ]
+    }
+
+    /// Whether a shared Const's attribute has one of these forms.
+    fn has_shared(&self, consts: &[MatchedConst], forms: &[u8]) -> bool {
+        let patterns = self.rule.sources().filter(|pattern| pattern.kind() == CONST);
+        let mut nodes = patterns.flat_map(|pattern| pattern.attributes()).zip(consts);
+        nodes.any(|(node, one)| one.stays() && forms.contains(&self.rule.node(node.into()).form))
+    }
+
+    fn has_const_as_rule_input(&self, images: &[u16]) -> bool {
+        let mut pairs = self.rule.sources().zip(images);
+        pairs.any(|(pattern, &image)| {
+            pattern.is_wildcard() && self.graph.slot(image.into()).kind() == CONST
+        })
+    }
+
+    fn near_misses(&self) -> Vec<Class> {
+        let reasons = reasons(self.graph, self.rule, self.start);
+        let holds = |reason: Reason| reasons.contains(&reason);
+        vec![
+            ("one Const for two of the rule, none", holds(Reason::OneConstForTwo)),
+            ("one Const for a Const and a wildcard, none", holds(Reason::OneConstForWildcard)),
+            ("other inner vertex shared, none", holds(Reason::SharedInterior)),
+            ("other inner vertex as graph output, none", holds(Reason::InteriorAsOutput)),
+        ]
     }
 }

@@ -10,7 +10,9 @@
 mod arguments;
 mod checks;
 mod classes;
+mod constants;
 mod matching;
+mod nearly;
 mod rewriting;
 mod rewriting_classes;
 mod sequences;

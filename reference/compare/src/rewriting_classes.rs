@@ -5,16 +5,18 @@ use leafgraph_reference::attributes::results;
 use leafgraph_reference::graph::{Graph, MAX_SLOTS};
 use leafgraph_reference::matching::{least_match, Images};
 use leafgraph_reference::operators::{CONST, VARIABLE};
+use leafgraph_reference::removal::removed_slots;
 use leafgraph_reference::rule::{Rule, ACCESS, MAX_NODES, MAX_VERTICES, PLUS, TARGET_BASE};
 use leafgraph_reference::{rewrite, MAP_LENGTH};
 
 use crate::arguments::Arguments;
+use crate::constants::{matched_consts, MatchedConst, Namer};
 use crate::rewriting::{Outcome, Verdicts};
 use crate::tally::Tally;
 
 /// Every class must occur. Those that do not begin with "refused" are of
 /// accepted rewritings.
-pub const CLASSES: [&str; 51] = [
+pub const CLASSES: [&str; 66] = [
     "no target vertex",
     "room only by the removal",
     "exactly enough room",
@@ -66,6 +68,21 @@ pub const CLASSES: [&str; 51] = [
     "another meaning, a vertex changes",
     "another meaning, a graph output changes",
     "another meaning, no result changes",
+    "Const with several reads removed",
+    "Const stays, read by another vertex",
+    "Const stays, read by a vertex that reaches no output",
+    "Const stays, read by a rule input",
+    "Const stays, a graph output",
+    "Const stays, read and a graph output",
+    "several Consts stay",
+    "one Const removed, another stays",
+    "Const taken by a wildcard stays",
+    "exactly enough room, a Const stays",
+    "target vertex above a Const that stays",
+    "every target vertex above a Const that stays",
+    "attribute of a Const that stays",
+    "same meaning, a Const stays",
+    "refused 6, room if no Const stayed",
 ];
 
 type Class = (&'static str, bool);
@@ -76,8 +93,10 @@ struct Rewriting<'a> {
     rule: Rule<'a>,
     start: usize,
     images: Images,
+    removed: [bool; MAX_SLOTS],
     /// Empty slots and removed ones, the lowest first.
     free: Vec<u16>,
+    consts: Vec<MatchedConst>,
 }
 
 pub fn count_classes(tally: &mut Tally, arguments: &Arguments, outcome: &Outcome) {
@@ -90,15 +109,15 @@ pub fn count_classes(tally: &mut Tally, arguments: &Arguments, outcome: &Outcome
     let Some(images) = least_match(old, rule, arguments.start) else {
         return;
     };
-    let mut rewriting = Rewriting { old, rule, start: arguments.start, images, free: vec![] };
-    let slots = 0..old.slot_count() as u16;
-    rewriting.free = slots.filter(|&slot| rewriting.is_free(slot)).collect();
+    let rewriting = Rewriting::new(old, rule, arguments.start, images);
     let classes = match &outcome.verdicts {
         Some(verdicts) => [
             rewriting.shapes(),
             rewriting.redirections(),
             rewriting.places(),
             rewriting.attributes(),
+            rewriting.constants(),
+            rewriting.places_of_constants(verdicts),
             rewriting.meanings(verdicts),
         ]
         .concat(),
@@ -111,18 +130,21 @@ pub fn count_classes(tally: &mut Tally, arguments: &Arguments, outcome: &Outcome
     }
 }
 
-impl Rewriting<'_> {
+impl<'a> Rewriting<'a> {
+    fn new(old: Graph<'a>, rule: Rule<'a>, start: usize, images: Images) -> Rewriting<'a> {
+        let removed = removed_slots(old, rule, &images);
+        let is_free = |&slot: &usize| old.slot(slot).is_empty() || removed[slot];
+        let free = (0..old.slot_count()).filter(is_free).map(|slot| slot as u16).collect();
+        let consts = matched_consts(old, rule, &images);
+        Rewriting { old, rule, start, images, removed, free, consts }
+    }
+
     fn is_empty(&self, slot: u16) -> bool {
         self.old.slot(slot.into()).is_empty()
     }
 
     fn is_removed(&self, slot: u16) -> bool {
-        let mut pairs = self.rule.sources().zip(self.images);
-        pairs.any(|(pattern, image)| image == slot && !pattern.is_input_kind())
-    }
-
-    fn is_free(&self, slot: u16) -> bool {
-        self.is_empty(slot) || self.is_removed(slot)
+        self.removed[usize::from(slot)]
     }
 
     /// The slots that target vertices take.
@@ -176,7 +198,7 @@ impl Rewriting<'_> {
             ("two outputs", self.has_two_outputs()),
             ("both target outputs the same", self.has_same_target_outputs()),
             ("target output is a rule input", self.has_input_as_target_output()),
-            ("Const removed", has_kind(CONST)),
+            ("Const removed", self.consts.iter().any(|one| !one.stays())),
             ("Variable of the rule stays", has_kind(VARIABLE)),
             ("largest graph", self.old.slot_count() == MAX_SLOTS),
             ("largest source", rule.source_count() == MAX_VERTICES),
@@ -253,7 +275,7 @@ impl Rewriting<'_> {
         within
     }
 
-    /// The removed source vertices that each target vertex's attributes access.
+    /// The non-input source vertices that each target vertex's attributes access.
     fn accessed(&self) -> Vec<Vec<usize>> {
         let (rule, within) = (self.rule, self.nodes_within());
         let of = |set: u64| {
@@ -283,6 +305,55 @@ impl Rewriting<'_> {
             ("attribute of a removed vertex, its slot taken", pairs.any(|(_, by)| by.is_some())),
             ("attribute of a removed vertex, its slot taken before", taken_before),
             ("attribute computed", forms.any(|form| form >= PLUS)),
+        ]
+    }
+
+    /// The matched Consts that stay.
+    fn staying_consts(&self) -> impl Iterator<Item = &MatchedConst> {
+        self.consts.iter().filter(|one| one.stays())
+    }
+
+    /// Which of the rule's Consts go and which stay.
+    fn constants(&self) -> Vec<Class> {
+        let only = |namer: Namer| self.consts.iter().any(|one| one.stays_only_by(namer));
+        let staying = self.staying_consts().count();
+        let read_twice = |one: &MatchedConst| !one.stays() && one.inner_reads > 1;
+        let mut wildcards =
+            self.rule.sources().zip(self.images).filter(|pair| pair.0.is_wildcard());
+        vec![
+            ("Const with several reads removed", self.consts.iter().any(read_twice)),
+            ("Const stays, read by another vertex", only(Namer::Vertex)),
+            ("Const stays, read by a vertex that reaches no output", only(Namer::DeadVertex)),
+            ("Const stays, read by a rule input", only(Namer::RuleInput)),
+            ("Const stays, a graph output", only(Namer::Output)),
+            (
+                "Const stays, read and a graph output",
+                self.consts.iter().any(MatchedConst::is_read_and_output),
+            ),
+            ("several Consts stay", staying > 1),
+            ("one Const removed, another stays", staying > 0 && staying < self.consts.len()),
+            (
+                "Const taken by a wildcard stays",
+                wildcards.any(|(_, image)| self.old.slot(image.into()).kind() == CONST),
+            ),
+        ]
+    }
+
+    /// Where target vertices stand and what they take from a Const that stays.
+    fn places_of_constants(&self, verdicts: &Verdicts) -> Vec<Class> {
+        let (taken, stays) = (self.taken(), self.staying_consts().next().is_some());
+        let slots = || self.staying_consts().map(|one| one.slot);
+        let above = |target: Option<&u16>| target.is_some_and(|&s| slots().any(|slot| slot < s));
+        let mut accessed = self.accessed().into_iter().flatten();
+        vec![
+            ("exactly enough room, a Const stays", stays && taken.len() == self.free.len()),
+            ("target vertex above a Const that stays", above(taken.last())),
+            ("every target vertex above a Const that stays", above(taken.first())),
+            (
+                "attribute of a Const that stays",
+                accessed.any(|vertex| slots().any(|slot| slot == self.images[vertex])),
+            ),
+            ("same meaning, a Const stays", stays && verdicts.lawful.same_meaning),
         ]
     }
 
@@ -326,6 +397,10 @@ impl Rewriting<'_> {
             ("refused 6, one slot too few", reply == 6 && targets == room + 1),
             ("refused 6, several slots too few", reply == 6 && targets > room + 1),
             ("refused 6, a cycle would follow", reply == 6 && self.has_cycle_given_room()),
+            (
+                "refused 6, room if no Const stayed",
+                reply == 6 && targets <= room + self.staying_consts().count(),
+            ),
         ]
     }
 
