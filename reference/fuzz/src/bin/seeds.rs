@@ -1,6 +1,6 @@
 //! Writes the inputs that fuzzing starts from into a folder, as files whose
-//! names begin with `seed-`: document 01's examples and small random cases of
-//! every reply. The same files each time.
+//! names begin with `seed-`: document 01's examples, matched Consts that stay
+//! or go, and small random cases of every reply. The same files each time.
 //!
 //!     fuzz_seeds FOLDER [CASES]
 //!
@@ -19,16 +19,19 @@ use leafgraph_fuzz::input::{
     RULE_RECORDS, START,
 };
 use leafgraph_reference::blocks::{
-    add, call, call_pattern, chain, constant, constant_node, e1, operation_node, p10_graph,
-    p10_rule, p7_graph, p7_rule, p8_graph, pattern, relu, reversed_chain, rr, target_place,
-    variable, wildcard, GraphParts, PatternParts, RuleParts,
+    add, any_node, call, call_pattern, chain, constant, constant_node, constant_sum,
+    dropped_constant, e1, empty, operation_node, p10_graph, p10_rule, p7_graph, p7_rule, p8_graph,
+    pattern, relu, reversed_chain, rr, target_place, variable, wildcard, GraphParts, PatternParts,
+    RuleParts,
 };
 use leafgraph_reference::generate::{
     damaged_graph_of, damaged_rule_of, noise, rewriting_case, search_case, sequence, Case,
 };
-use leafgraph_reference::graph;
+use leafgraph_reference::graph::{self, Graph};
+use leafgraph_reference::matching::Images;
 use leafgraph_reference::operators::{ADD, CONST, MEAN, RELU, TUPLE};
 use leafgraph_reference::random::Random;
+use leafgraph_reference::removal::removed_slots;
 use leafgraph_reference::rule::{Rule, DIVIDE, REMAINDER};
 use leafgraph_reference::{rewrite, MAP_LENGTH};
 
@@ -56,10 +59,12 @@ fn main() -> ExitCode {
         return ExitCode::from(2);
     };
     let mut seeds = Seeds { random: Random::new(SEED), files: BTreeMap::new() };
-    seeds.add_paper_examples();
+    seeds.add_examples(paper_examples());
     seeds.add_sizes();
+    seeds.add_examples(constant_examples());
     seeds.add_rewritings(cases);
-    seeds.add_redirected_inputs(cases);
+    seeds.add_accepted("redirected-input", cases, redirects_input);
+    seeds.add_accepted("constant-stays", cases, keeps_constant);
     seeds.add_others(cases);
     match seeds.write(Path::new(folder)) {
         Ok(()) => ExitCode::SUCCESS,
@@ -93,8 +98,8 @@ impl Seeds {
         }
     }
 
-    fn add_paper_examples(&mut self) {
-        for (name, graph, rule, start) in paper_examples() {
+    fn add_examples(&mut self, examples: Vec<Example>) {
+        for (name, graph, rule, start) in examples {
             let control = self.control(LENGTHS | RECORDS, start);
             self.add(name, control, &graph.block(), &rule.block());
         }
@@ -145,19 +150,21 @@ impl Seeds {
         }
     }
 
-    /// Accepted rewritings after which a rule input reads something else: rare,
-    /// and easily forgotten ("rule inputs too").
-    fn add_redirected_inputs(&mut self, cases: usize) {
+    /// Accepted rewritings of which this holds, too rare to be left to chance.
+    fn add_accepted(&mut self, name: &str, cases: usize, holds: fn(&Accepted) -> bool) {
         let mut left = cases;
         while left > 0 {
             let (_, case) = rewriting_case(&mut self.random);
-            let (graph, rule) = (case.graph.block(), case.rule.block());
-            if graph.len() + rule.len() > LONGEST || !redirects_input(&graph, &rule, case.start) {
+            let (before, rule) = (case.graph.block(), case.rule.block());
+            let (mut after, mut map) = (before.clone(), [0; MAP_LENGTH]);
+            let reply = rewrite(&mut after, &rule, case.start, &mut map);
+            let accepted = Accepted { before: &before, after: &after, rule: &rule, map: &map };
+            if reply != 0 || before.len() + rule.len() > LONGEST || !holds(&accepted) {
                 continue;
             }
             left -= 1;
             let control = self.control(LENGTHS | RECORDS, case.start);
-            self.add("redirected-input", control, &graph, &rule);
+            self.add(name, control, &before, &rule);
         }
     }
 
@@ -206,19 +213,42 @@ impl Seeds {
     }
 }
 
-fn redirects_input(graph: &[u8], rule: &[u8], start: usize) -> bool {
-    let (mut after, mut map) = (graph.to_vec(), [0; MAP_LENGTH]);
-    if rewrite(&mut after, rule, start, &mut map) != 0 {
-        return false;
+/// An accepted rewriting.
+struct Accepted<'a> {
+    before: &'a [u8],
+    after: &'a [u8],
+    rule: &'a [u8],
+    map: &'a [u8; MAP_LENGTH],
+}
+
+impl Accepted<'_> {
+    fn rule(&self) -> Rule<'_> {
+        Rule::parse(self.rule).expect("it was accepted")
     }
-    let rule = Rule::parse(rule).expect("it was accepted");
-    let mut images = rule.sources().zip(map.chunks_exact(2));
-    images.any(|(pattern, image)| {
-        let slot = usize::from(u16::from_le_bytes([image[0], image[1]]));
-        let record =
-            graph::HEADER + graph::RECORD * slot..graph::HEADER + graph::RECORD * (slot + 1);
-        pattern.is_input_kind() && graph[record.clone()] != after[record]
+
+    fn images(&self) -> Images {
+        std::array::from_fn(|v| u16::from_le_bytes([self.map[2 * v], self.map[2 * v + 1]]))
+    }
+}
+
+/// Whether a rule input reads something else afterwards: easily forgotten
+/// ("rule inputs too").
+fn redirects_input(accepted: &Accepted) -> bool {
+    let mut pairs = accepted.rule().sources().zip(accepted.images());
+    pairs.any(|(pattern, image)| {
+        let at = graph::HEADER + graph::RECORD * usize::from(image);
+        let record = at..at + graph::RECORD;
+        pattern.is_input_kind() && accepted.before[record.clone()] != accepted.after[record]
     })
+}
+
+/// Whether a matched Const stays.
+fn keeps_constant(accepted: &Accepted) -> bool {
+    let (rule, images) = (accepted.rule(), accepted.images());
+    let old = Graph::parse(accepted.before).expect("it was accepted");
+    let removed = removed_slots(old, rule, &images);
+    let mut pairs = rule.sources().zip(images);
+    pairs.any(|(pattern, image)| pattern.kind() == CONST && !removed[usize::from(image)])
 }
 
 type Example = (&'static str, GraphParts, RuleParts, usize);
@@ -251,6 +281,38 @@ fn paper_examples() -> Vec<Example> {
         ("start-65535", e1(), rr(), 65535),
         ("start-highest", e1(), rr(), usize::MAX),
     ]
+}
+
+/// A matched Const that goes, and ones that stay for each reason; one that
+/// takes the room; two in one rule, of which one stays, and which one slot
+/// does not suffice for.
+fn constant_examples() -> Vec<Example> {
+    let drop = || dropped_constant(1);
+    let shared = |outputs: &[u16]| constant_sum(variable(), &[relu(0)], outputs);
+    let alone = |outputs: &[u16]| constant_sum(variable(), &[], outputs);
+    let pair = |second, outputs: &[u16]| {
+        let slots = vec![constant(1), constant(1), variable(), add(2, 0), add(3, second), empty()];
+        GraphParts::new(slots, outputs)
+    };
+    vec![
+        ("constant-private", alone(&[2]), drop(), 0),
+        ("constant-read", shared(&[2, 3]), drop(), 0),
+        ("constant-read-without-output", shared(&[2]), drop(), 0),
+        ("constant-read-by-input", constant_sum(relu(0), &[], &[2]), drop(), 0),
+        ("constant-as-output", alone(&[2, 0]), drop(), 0),
+        ("constant-read-and-output", shared(&[0, 2, 3]), drop(), 0),
+        ("constant-gives-room", alone(&[2]), dropped_constant(2), 0),
+        ("constant-gives-no-room", alone(&[2, 0]), dropped_constant(2), 0),
+        ("constants-one-stays", pair(1, &[4, 1]), constant_pair(), 0),
+        ("constants-one-for-two", pair(0, &[4]), constant_pair(), 0),
+    ]
+}
+
+/// add(add(x, c), d) becomes a Tuple of x.
+fn constant_pair() -> RuleParts {
+    let constant = || pattern(CONST, 0, &[], &[0]);
+    let source = vec![wildcard(), constant(), sum(0, 1), constant(), sum(2, 3)];
+    RuleParts { nodes: vec![any_node()], ..tuple_of_inputs(source) }
 }
 
 fn sum(left: u8, right: u8) -> PatternParts {
