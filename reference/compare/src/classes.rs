@@ -2,6 +2,7 @@
 //! All of it is taken from the second program's answer.
 
 use leafgraph_reference::graph::Graph;
+use leafgraph_reference::matching::{read_map, Images};
 use leafgraph_reference::operators::CONST;
 use leafgraph_reference::rule::{
     Rule, ACCESS, ANY, CONSTANT, DIVIDE, MAX_NODES, MINUS, PLUS, REMAINDER, TIMES,
@@ -42,7 +43,7 @@ pub const CLASSES: [&str; 37] = [
     "Const read by a vertex that reaches no output, found",
     "Const read by a rule input, found",
     "Const as graph output, found",
-    "Const read and a graph output, found",
+    "Const read and as graph output, found",
     "private and shared Const, found",
     "shared Const with any as attribute, found",
     "shared Const with a computed attribute, found",
@@ -64,8 +65,8 @@ struct Search<'a> {
     graph: Graph<'a>,
     rule: Rule<'a>,
     start: usize,
-    /// The slot of each source vertex, where there is a match.
-    images: Option<Vec<u16>>,
+    /// Where there is a match.
+    images: Option<Images>,
 }
 
 pub fn count_classes(
@@ -82,8 +83,7 @@ pub fn count_classes(
     let (Ok(graph), Ok(rule)) = (Graph::parse(graph), Rule::parse(rule)) else {
         return;
     };
-    let numbers = map.chunks_exact(2).map(|pair| u16::from_le_bytes([pair[0], pair[1]]));
-    let images = (reply == 0).then(|| numbers.take(rule.source_count()).collect());
+    let images = (reply == 0).then(|| read_map(map));
     let search = Search { graph, rule, start, images };
     let classes =
         [search.shapes(), search.course(), search.expressions(), search.constants()].concat();
@@ -227,7 +227,7 @@ impl Search<'_> {
             ("Const read by a rule input, found", only(Namer::RuleInput)),
             ("Const as graph output, found", only(Namer::Output)),
             (
-                "Const read and a graph output, found",
+                "Const read and as graph output, found",
                 consts.iter().any(MatchedConst::is_read_and_output),
             ),
             ("private and shared Const, found", private && consts.iter().any(MatchedConst::stays)),
@@ -247,7 +247,7 @@ impl Search<'_> {
         nodes.any(|(node, one)| one.stays() && forms.contains(&self.rule.node(node.into()).form))
     }
 
-    fn has_const_as_rule_input(&self, images: &[u16]) -> bool {
+    fn has_const_as_rule_input(&self, images: &Images) -> bool {
         let mut pairs = self.rule.sources().zip(images);
         pairs.any(|(pattern, &image)| {
             pattern.is_wildcard() && self.graph.slot(image.into()).kind() == CONST

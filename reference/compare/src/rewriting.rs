@@ -4,7 +4,7 @@
 use leafgraph_proved::guarded::{Guarded, SHIFTS};
 use leafgraph_reference::generate::rewriting_case;
 use leafgraph_reference::graph::Graph;
-use leafgraph_reference::matching::Images;
+use leafgraph_reference::matching::read_map;
 use leafgraph_reference::meaning::Meaning;
 use leafgraph_reference::random::Random;
 use leafgraph_reference::results::{Accepted, Verdict};
@@ -101,7 +101,7 @@ impl Arguments {
             old: Graph::parse(&self.graph).ok()?,
             new: Graph::parse(new).ok()?,
             rule: Rule::parse(&self.rule).ok()?,
-            images: &images_of(map),
+            images: &read_map(map),
         };
         let (mut lawless, mut lawful) =
             (Meaning::lawless(random.number()), Meaning::lawful(random.number()));
@@ -110,11 +110,6 @@ impl Arguments {
             lawful: accepted.judge(&mut lawful, random),
         })
     }
-}
-
-/// The numbers of a whole map.
-fn images_of(map: &[u8]) -> Images {
-    std::array::from_fn(|vertex| u16::from_le_bytes([map[2 * vertex], map[2 * vertex + 1]]))
 }
 
 impl Outcome {

@@ -2,7 +2,7 @@
 //! the new table is sound for both programs, and demand 3.
 
 use leafgraph_reference::graph::Graph;
-use leafgraph_reference::matching::Images;
+use leafgraph_reference::matching::read_map;
 use leafgraph_reference::meaning::Meaning;
 use leafgraph_reference::random::Random;
 use leafgraph_reference::results::Accepted;
@@ -31,7 +31,7 @@ impl Rewriting<'_> {
             faults.push("a rewriting of blocks that are not sound was accepted".into());
             return faults;
         };
-        let images = images_of(self.map);
+        let images = read_map(self.map);
         let accepted = Accepted { old, new, rule, images: &images };
         let mut random = Random::new(seed);
         let lawless = Meaning::lawless(random.number());
@@ -47,13 +47,4 @@ impl Rewriting<'_> {
         }
         faults
     }
-}
-
-/// The numbers of a whole map.
-fn images_of(map: &[u8]) -> Images {
-    let mut images = Images::default();
-    for (image, pair) in images.iter_mut().zip(map.chunks_exact(2)) {
-        *image = u16::from_le_bytes([pair[0], pair[1]]);
-    }
-    images
 }

@@ -3,7 +3,7 @@
 use std::ops::Range;
 
 use crate::attributes::{agrees, results};
-use crate::fields::put_u16;
+use crate::fields::{put_u16, u16_at};
 use crate::graph::{Graph, MAX_SLOTS, UNUSED};
 use crate::operators::CONST;
 use crate::rule::{Rule, MAX_VERTICES};
@@ -53,6 +53,11 @@ pub fn write_map(map: &mut [u8], images: &Images) {
     for (vertex, &image) in images.iter().enumerate() {
         put_u16(map, 2 * vertex, image);
     }
+}
+
+/// The images that a whole map holds.
+pub fn read_map(map: &[u8]) -> Images {
+    std::array::from_fn(|vertex| u16_at(map, 2 * vertex))
 }
 
 fn count_reads(graph: Graph) -> [u16; MAX_SLOTS] {

@@ -28,7 +28,7 @@ use leafgraph_reference::generate::{
     damaged_graph_of, damaged_rule_of, noise, rewriting_case, search_case, sequence, Case,
 };
 use leafgraph_reference::graph::{self, Graph};
-use leafgraph_reference::matching::Images;
+use leafgraph_reference::matching::read_map;
 use leafgraph_reference::operators::{ADD, CONST, MEAN, RELU, TUPLE};
 use leafgraph_reference::random::Random;
 use leafgraph_reference::removal::removed_slots;
@@ -225,16 +225,12 @@ impl Accepted<'_> {
     fn rule(&self) -> Rule<'_> {
         Rule::parse(self.rule).expect("it was accepted")
     }
-
-    fn images(&self) -> Images {
-        std::array::from_fn(|v| u16::from_le_bytes([self.map[2 * v], self.map[2 * v + 1]]))
-    }
 }
 
 /// Whether a rule input reads something else afterwards: easily forgotten
 /// ("rule inputs too").
 fn redirects_input(accepted: &Accepted) -> bool {
-    let mut pairs = accepted.rule().sources().zip(accepted.images());
+    let mut pairs = accepted.rule().sources().zip(read_map(accepted.map));
     pairs.any(|(pattern, image)| {
         let at = graph::HEADER + graph::RECORD * usize::from(image);
         let record = at..at + graph::RECORD;
@@ -244,7 +240,7 @@ fn redirects_input(accepted: &Accepted) -> bool {
 
 /// Whether a matched Const stays.
 fn keeps_constant(accepted: &Accepted) -> bool {
-    let (rule, images) = (accepted.rule(), accepted.images());
+    let (rule, images) = (accepted.rule(), read_map(accepted.map));
     let old = Graph::parse(accepted.before).expect("it was accepted");
     let removed = removed_slots(old, rule, &images);
     let mut pairs = rule.sources().zip(images);
