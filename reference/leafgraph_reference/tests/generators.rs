@@ -4,7 +4,12 @@
 use std::collections::BTreeMap;
 
 use leafgraph_reference::generate::*;
+use leafgraph_reference::graph::Graph;
+use leafgraph_reference::matching::least_match;
+use leafgraph_reference::operators::CONST;
 use leafgraph_reference::random::Random;
+use leafgraph_reference::removal::removed_slots;
+use leafgraph_reference::rule::Rule;
 use leafgraph_reference::{check_graph, check_rule, find_match, rewrite};
 
 #[test]
@@ -128,6 +133,31 @@ fn rewriting_cases_are_sound_and_of_every_outcome() {
     }
     assert!(replies[0] > 5000, "{replies:?}");
     assert!(replies[4..].iter().all(|&count| count > 20), "{replies:?}");
+}
+
+/// Matched Consts stay and go, in one rule too.
+#[test]
+fn rewriting_cases_have_constants_of_both_sorts() {
+    let mut random = Random::new(15);
+    let (mut stay, mut go, mut both) = (0, 0, 0);
+    for _ in 0..10_000 {
+        let (_, case) = rewriting_case(&mut random);
+        let (graph, rule) = (case.graph.block(), case.rule.block());
+        let (Ok(graph), Ok(rule)) = (Graph::parse(&graph), Rule::parse(&rule)) else {
+            panic!("{case:?}");
+        };
+        let Some(images) = least_match(graph, rule, case.start) else {
+            continue;
+        };
+        let removed = removed_slots(graph, rule, &images);
+        let consts = rule.sources().zip(images).filter(|(pattern, _)| pattern.kind() == CONST);
+        let removed: Vec<bool> = consts.map(|(_, image)| removed[usize::from(image)]).collect();
+        let [stays, goes] = [false, true].map(|goes| removed.contains(&goes));
+        stay += usize::from(stays);
+        go += usize::from(goes);
+        both += usize::from(stays && goes);
+    }
+    assert!(stay > 300 && go > 300 && both > 30, "{stay} {go} {both}");
 }
 
 #[test]

@@ -9,7 +9,7 @@ use leafgraph_reference::generate::{lawful_rules, matching_case, rewriting_case}
 use leafgraph_reference::generate::{same_meaning_case, sound_graph_of, Case};
 use leafgraph_reference::graph::Graph;
 use leafgraph_reference::meaning::{Meaning, Term};
-use leafgraph_reference::operators::{ADD, CALL, GAIN, MEAN, PROJ, RELU, RESHAPE, TUPLE};
+use leafgraph_reference::operators::{ADD, CALL, CONST, GAIN, MEAN, PROJ, RELU, RESHAPE, TUPLE};
 use leafgraph_reference::random::Random;
 use leafgraph_reference::results::{Accepted, Verdict};
 use leafgraph_reference::rule::Rule;
@@ -167,6 +167,27 @@ fn merged_look_alikes_are_noticed() {
     let verdict = judge(&mut Random::new(7), &case, &new, &map, Meaning::lawless);
     assert!(!verdict.same_meaning);
     assert_eq!((verdict.apart_changed, verdict.below_changed, verdict.outputs_changed), (0, 1, 1));
+}
+
+/// A matched Const that stays is judged like any other vertex, and one that
+/// goes is not.
+#[test]
+fn constants_that_stay_are_judged() {
+    let mut random = Random::new(11);
+    let mut verdict = |outputs: &[u16], number: i32| {
+        let graph = constant_sum(variable(), &[], outputs);
+        let case = Case { graph, rule: dropped_constant(1), start: 0 };
+        let (mut new, map) = accepted(&case).expect("a match");
+        let record = 24;
+        if new[record] == CONST {
+            new[record + 16..record + 20].copy_from_slice(&number.to_le_bytes());
+        }
+        judge(&mut random, &case, &new, &map, Meaning::lawless)
+    };
+    // The Variable stays, and with it the Const where it is a graph output.
+    assert_eq!((verdict(&[2], 7).apart, verdict(&[2], 7).apart_changed), (1, 0));
+    assert_eq!((verdict(&[2, 0], 7).apart, verdict(&[2, 0], 7).apart_changed), (2, 0));
+    assert_eq!(verdict(&[2, 0], 8).apart_changed, 1);
 }
 
 #[test]
