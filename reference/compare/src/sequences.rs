@@ -2,14 +2,18 @@
 //! been long enough. Each step starts from the table that the last one left.
 
 use leafgraph_reference::generate::{sequence, Sequence};
+use leafgraph_reference::graph::Graph;
+use leafgraph_reference::matching::read_map;
 use leafgraph_reference::random::Random;
+use leafgraph_reference::rule::Rule;
 
 use crate::arguments::Arguments;
+use crate::constants::{matched_consts, MatchedConst};
 use crate::rewriting::Outcome;
 use crate::tally::Tally;
 
 /// Every class must occur.
-const CLASSES: [&str; 8] = [
+const CLASSES: [&str; 9] = [
     "5 rewritings or more",
     "20 rewritings or more",
     "several rules accepted",
@@ -18,6 +22,7 @@ const CLASSES: [&str; 8] = [
     "ends at the bound",
     "same meaning in every step, 5 or more",
     "a slot is freed and taken again later",
+    "a Const stays and goes later",
 ];
 
 /// What must be replied in some step; a cycle is left to the calls by
@@ -55,6 +60,10 @@ struct Run {
     /// Slots that some step has freed, and whether one was taken again.
     freed: Vec<bool>,
     taken_again: bool,
+    /// Slots of Consts that some step matched and kept, and whether a later one
+    /// removed one of them, its other readers gone.
+    kept: Vec<bool>,
+    removed_later: bool,
 }
 
 impl Run {
@@ -69,6 +78,8 @@ impl Run {
             same_meaning: true,
             freed: vec![false; sequence.graph.slots.len()],
             taken_again: false,
+            kept: vec![false; sequence.graph.slots.len()],
+            removed_later: false,
         }
     }
 
@@ -92,6 +103,7 @@ impl Run {
         self.next = (index + 1) % self.rules.len();
         self.accepted += 1;
         self.by_rule[index] = true;
+        self.follow_consts(&self.matched_consts(index, &outcome.map));
         self.same_meaning &= outcome.verdicts.is_some_and(|both| both.lawful.same_meaning);
         let kind = |block: &[u8], slot: usize| block[24 + 48 * slot];
         for slot in 0..self.freed.len() {
@@ -100,6 +112,21 @@ impl Run {
             self.freed[slot] |= before != 0 && after == 0;
         }
         self.graph = outcome.graph;
+    }
+
+    /// The Consts that this step's rule was matched to, by the table before it.
+    fn matched_consts(&self, index: usize, map: &[u8]) -> Vec<MatchedConst> {
+        let graph = Graph::parse(&self.graph).expect("it was accepted");
+        let rule = Rule::parse(&self.rules[index]).expect("it was accepted");
+        matched_consts(graph, rule, &read_map(map))
+    }
+
+    fn follow_consts(&mut self, consts: &[MatchedConst]) {
+        for one in consts {
+            let kept = &mut self.kept[usize::from(one.slot)];
+            self.removed_later |= *kept && !one.stays();
+            *kept = one.stays();
+        }
     }
 
     fn count_classes(&self, tally: &mut Tally) {
@@ -113,6 +140,7 @@ impl Run {
             at_bound,
             self.accepted >= 5 && self.same_meaning,
             self.taken_again,
+            self.removed_later,
         ];
         for (class, holds) in CLASSES.into_iter().zip(classes) {
             if holds {
