@@ -3,10 +3,10 @@
 
 use std::hint::black_box;
 
-use leafgraph_reference::blocks::{chain, p7_rule, rr, GraphParts, RuleParts};
+use leafgraph_reference::blocks::{chain, dropped_constant, p7_rule, rr, GraphParts, RuleParts};
 use leafgraph_reference::MAP_LENGTH;
 
-use crate::graphs::{double_relus, gain_and_mean, gains_and_means, pairs};
+use crate::graphs::{double_relus, gain_and_mean, gains_and_means, pairs, shared_const};
 
 /// What a call leaves; the checks leave the map as it was.
 #[derive(Debug, PartialEq, Eq)]
@@ -37,20 +37,27 @@ const NONE: u64 = 4;
 type Graph = fn(u16) -> GraphParts;
 type Rule = fn() -> RuleParts;
 
-const SEARCHES: [(&str, u64, Graph, Rule); 6] = [
+const SEARCHES: [(&str, u64, Graph, Rule); 7] = [
     ("match: 1 output, last slot", FOUND, |slots| double_relus(slots, true), rr),
     ("match: 1 output, none", NONE, |slots| double_relus(slots, false), rr),
     ("match: 2 outputs, last pair", FOUND, |slots| pairs(slots, true), p7_rule),
     ("match: 2 outputs, none", NONE, |slots| pairs(slots, false), p7_rule),
     ("match: attributes, last pair", FOUND, |slots| gains_and_means(slots, true), gain_and_mean),
     ("match: attributes, none", NONE, |slots| gains_and_means(slots, false), gain_and_mean),
+    ("match: a shared Const, last slot", FOUND, shared_const, const_dropped),
 ];
 
-const REWRITINGS: [(&str, u64, Graph, Rule, Course); 3] = [
+const REWRITINGS: [(&str, u64, Graph, Rule, Course); 4] = [
     ("rewrite: 1 output, last slot", FOUND, |slots| double_relus(slots, true), rr, once),
     ("rewrite: 2 outputs, last pair", FOUND, |slots| pairs(slots, true), p7_rule, once),
+    ("rewrite: a shared Const, last slot", FOUND, shared_const, const_dropped, once),
     ("rewrite: to the end", NONE, chain, rr, to_the_end),
 ];
+
+/// add(x, a Const) becomes relu(x).
+fn const_dropped() -> RuleParts {
+    dropped_constant(1)
+}
 
 /// All searches start at 0.
 pub fn searches() -> Vec<Case> {

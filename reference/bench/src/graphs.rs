@@ -2,8 +2,8 @@
 //! second program's own examples.
 
 use leafgraph_reference::blocks::{
-    access_node, add, any_node, call, call_pattern, operation_node, relu, target_place, variable,
-    wildcard, GraphParts, RuleParts,
+    access_node, add, any_node, call, call_pattern, constant, operation_node, relu, target_place,
+    variable, wildcard, GraphParts, RuleParts,
 };
 use leafgraph_reference::operators::{GAIN, MEAN, RELU};
 use leafgraph_reference::rule::{PLUS, TIMES};
@@ -31,6 +31,15 @@ pub fn pairs(slots: u16, found: bool) -> GraphParts {
         let last = usize::from(slots) - 1;
         (table[last - 1], table[last]) = (add(1, 0), relu(1));
     }
+    GraphParts::new(table, &[slots - 1])
+}
+
+/// For add(x, a Const): the Const is read by every add, and only the last one
+/// has it in its second place.
+pub fn shared_const(slots: u16) -> GraphParts {
+    let mut table = vec![constant(7), variable()];
+    table.resize(slots.into(), add(0, 1));
+    table[usize::from(slots) - 1] = add(1, 0);
     GraphParts::new(table, &[slots - 1])
 }
 
