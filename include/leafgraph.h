@@ -23,7 +23,7 @@
 #include <stdint.h>
 
 /* The version of this header and of the library that it is installed with. */
-#define LEAFGRAPH_VERSION "1.0.0"
+#define LEAFGRAPH_VERSION "1.1.0"
 
 #ifdef __cplusplus
 extern "C" {
@@ -39,7 +39,7 @@ enum {
     LG_NO_RESULT = 5,      /* a target attribute has no result, or a
                               projection's index is below 1 */
     LG_NO_ROOM = 6,        /* more target vertices than Empty slots and
-                              removed ones */
+                              removed ones (a Const that stays frees none) */
     LG_CYCLE = 7           /* the table so made would have a cycle */
 };
 
@@ -83,7 +83,9 @@ uint64_t lg_check_rule(const uint8_t *rule, size_t rule_len);
 /* Finds the least match of a rule in a graph: the one whose first output's
  * image is at least start and least, then whose second output's image is
  * least. Start is any number; at or above the number of slots it finds none.
- * The three buffers must not overlap.
+ * The rule's Consts match Consts of the graph also where those have other
+ * readers or are graph outputs; two of them never match the same one. The three
+ * buffers must not overlap.
  *
  * Reads:   graph_len bytes at graph, rule_len bytes at rule.
  * Writes:  on LG_DONE, the 32 bytes at map: sixteen 16-bit numbers,
@@ -102,10 +104,15 @@ uint64_t lg_find_match(const uint8_t *graph, size_t graph_len,
                        uint8_t *map, size_t map_len);
 
 /* Rewrites a graph by a rule where lg_find_match would find its match from
- * start on: the least one, and no other is tried. What the match removes
- * becomes Empty, the rule's target vertices take the lowest Empty slots, and
- * every input and graph output that named a replaced output names what takes
- * its place. The three buffers must not overlap.
+ * start on: the least one, and no other is tried. What the rule's source
+ * vertices match becomes Empty, except what the rule's inputs (wildcards and
+ * Variables) match, and a Const that stays. The rule's target vertices take the
+ * lowest Empty slots, and every input and graph output that named a replaced
+ * output names what takes its place. The three buffers must not overlap.
+ *
+ * What a Const of the rule matches stays, with every byte of its slot, if it is a
+ * graph output, or if it is read by a vertex that is not matched or that a rule
+ * input matches. Else it is removed, too: so it goes with its last reader.
  *
  * Reads:   graph_len bytes at graph, rule_len bytes at rule.
  * Writes:  on LG_DONE, the graph_len bytes at graph: the new graph block, of
@@ -117,7 +124,8 @@ uint64_t lg_find_match(const uint8_t *graph, size_t graph_len,
  *          LG_NO_MATCH, LG_NO_RESULT (an attribute of a target vertex has no
  *          result, or a projection's index is below 1), LG_NO_ROOM (the rule
  *          has more target vertices than there are Empty slots and slots of
- *          removed vertices) and LG_CYCLE (the new graph would have a cycle).
+ *          vertices that are really removed) and LG_CYCLE (the new graph would
+ *          have a cycle).
  * Threads: any number at once, each with a graph and a map of its own.
  * Stack:   96 KiB, since it makes the new graph beside the old one.
  */

@@ -278,7 +278,8 @@ inline Reply find_match(Bytes graph, Bytes rule, std::size_t start, WritableByte
 }
 
 // As lg_rewrite: where done, graph holds the new block, and the map tells where
-// the old one matched. On a refusal no byte has changed.
+// the old one matched; a Const of the map may have stayed. On a refusal no byte
+// has changed.
 inline Reply rewrite(WritableBytes graph, Bytes rule, std::size_t start,
                      WritableBytes map) noexcept {
     const Code code = detail::judged(graph, rule, map);
