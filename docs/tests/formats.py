@@ -3,9 +3,9 @@
 
     formats.py TOOL
 
-Each block of the page must be sound and be shown as the page shows it, and the
-rewriting of E1 by RR must have the page's map and leave the page's bytes. Exit
-status 1 if one does not.
+Each block of the page must be sound and be shown as the page shows it, and its
+rewritings must have the page's maps and leave the page's bytes. Exit status 1 if
+one does not.
 """
 
 import re
@@ -33,6 +33,14 @@ def same(what, got, expected):
     return 1
 
 
+# The rewritings from start 0: graph, rule, map (where the page shows it), new graph.
+REWRITINGS = (
+    ("e1-graph", "rr-rule", "p1-map", "p1-graph"),
+    ("shared-graph", "one-rule", "shared-map", "read-once-graph"),
+    ("read-once-graph", "one-rule", None, "unread-graph"),
+)
+
+
 def blocks_hold(tool, folder, files):
     """Every block that has a text is sound, and is shown as that text."""
     count = 0
@@ -46,14 +54,23 @@ def blocks_hold(tool, folder, files):
     return count
 
 
-def rewriting_holds(tool, folder, files):
-    """RR on E1 from 0: the map, and the block that it leaves."""
-    graph, rule = folder / "e1-graph.bin", folder / "rr-rule.bin"
-    said = run(tool, "match", graph, rule).decode()
+def map_of(said):
+    """The bytes of the map that the tool's command match tells in words."""
     slots = [int(slot) for slot in re.findall(r"-> slot (\d+)", said)]
     images = slots + [65535] * (16 - len(slots))
-    count = same("the map", b"".join(n.to_bytes(2, "little") for n in images), files["p1-map.bin"])
-    return count + same("the new graph", run(tool, "rewrite", graph, rule, "-o", "-"), files["p1-graph.bin"])
+    return b"".join(number.to_bytes(2, "little") for number in images)
+
+
+def rewritings_hold(tool, folder, files):
+    """Each rewriting's map, and the block that it leaves."""
+    count = 0
+    for graph, rule, images, left in REWRITINGS:
+        blocks = [folder / f"{name}.bin" for name in (graph, rule)]
+        if images is not None:
+            said = run(tool, "match", *blocks).decode()
+            count += same(images, map_of(said), files[images + ".bin"])
+        count += same(left, run(tool, "rewrite", *blocks, "-o", "-"), files[left + ".bin"])
+    return count
 
 
 def main(arguments):
@@ -67,7 +84,7 @@ def main(arguments):
             for file, content in files.items():
                 (folder / file).write_bytes(content)
             tool = str(Path(arguments[0]).resolve())
-            count = blocks_hold(tool, folder, files) + rewriting_holds(tool, folder, files)
+            count = blocks_hold(tool, folder, files) + rewritings_hold(tool, folder, files)
     except (Fault, KeyError, ValueError, IndexError) as fault:
         print(f"{PAGE.name}: {fault}", file=sys.stderr)
         return 1
