@@ -6,6 +6,7 @@
 #include <string.h>
 
 #include "leafgraph.h"
+#include "shared_constants.h"
 
 /* A graph of one slot: a Variable with the attributes 1 3 8 8 1, the output. */
 static const uint8_t one_variable[72] = {
@@ -189,6 +190,49 @@ static int count_rewrite_differences(void) {
     count += rewrite_differs("rewriting, short map", 5, all, rule - 1, 9, map - 1,
                              LG_BAD_MAP_LENGTH);
     count += rewrite_differs("rewriting, no map", 4, all, rule, 0, 0, LG_BAD_MAP_LENGTH);
+    return count;
+}
+
+/* The map on done; else it must not be touched. */
+static void put_constants_map(uint8_t *map, unsigned reply) {
+    memset(map, reply == LG_DONE ? 255 : UNTOUCHED, MAP_LENGTH);
+    if (reply == LG_DONE) {
+        memcpy(map, constants_map, sizeof constants_map);
+    }
+}
+
+/* Finds the match of a call with a Const, and rewrites there. A rewriting that
+ * has no room has a match all the same. */
+static int constants_differ(const struct constants_call *call) {
+    uint8_t graph[TABLE_LENGTH], after[TABLE_LENGTH];
+    uint8_t map[MAP_LENGTH], map_after[MAP_LENGTH];
+    const unsigned found = call->reply == LG_NO_MATCH ? LG_NO_MATCH : LG_DONE;
+    int count, same;
+    put_table(graph, &call->before);
+    put_table(after, &call->after);
+    memset(map, UNTOUCHED, sizeof map);
+    count = differs(call->what, lg_find_match(graph, sizeof graph, call->rule, call->rule_len,
+                                              0, map, sizeof map), found);
+    put_constants_map(map_after, found);
+    same = memcmp(map, map_after, sizeof map) == 0;
+    memset(map, UNTOUCHED, sizeof map);
+    count += differs(call->what, lg_rewrite(graph, sizeof graph, call->rule, call->rule_len,
+                                            0, map, sizeof map), call->reply);
+    put_constants_map(map_after, call->reply);
+    same = same && memcmp(map, map_after, sizeof map) == 0;
+    if (!same || memcmp(graph, after, sizeof graph) != 0) {
+        printf("%s: lent bytes are not what they should be\n", call->what);
+        count++;
+    }
+    return count;
+}
+
+static int count_constants_differences(void) {
+    size_t call;
+    int count = 0;
+    for (call = 0; call < sizeof constants_calls / sizeof constants_calls[0]; call++) {
+        count += constants_differ(&constants_calls[call]);
+    }
     return count;
 }
 

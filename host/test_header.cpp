@@ -47,7 +47,8 @@ static int count_shifted_rewrite_differences() {
 
 int main() {
     const int count = count_differences() + count_find_differences()
-                      + count_rewrite_differences() + count_helper_differences()
+                      + count_rewrite_differences() + count_constants_differences()
+                      + count_helper_differences()
                       + count_shifted_differences() + count_shifted_find_differences()
                       + count_shifted_rewrite_differences();
     if (count == 0) {

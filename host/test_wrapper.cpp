@@ -5,6 +5,7 @@
 #include "leafgraph.hpp" // the include guard
 
 #include "blocks.hpp"
+#include "shared_constants.h"
 
 #include <cstdio>
 #include <cstring>
@@ -166,6 +167,22 @@ void test_result_of_rewriting() {
            "no match is left");
 }
 
+void test_constants() {
+    for (const constants_call &call : constants_calls) {
+        Block graph(TABLE_LENGTH), after(TABLE_LENGTH);
+        put_table(graph.data(), &call.before);
+        put_table(after.data(), &call.after);
+        const Bytes rule(call.rule, call.rule_len);
+        const bool matches = call.reply != LG_NO_MATCH;
+        Map map;
+        expect(leafgraph::find_match(graph, rule, 0, map).done() == matches, call.what);
+        expect(leafgraph::rewrite(graph, rule, 0, map).number() == call.reply, call.what);
+        expect(graph == after, call.what);
+        const bool images = map[0] == 1 && map[1] == 0 && map[2] == 2 && map[3] == Map::no_slot;
+        expect(images == matches, call.what);
+    }
+}
+
 // The same calls through every kind of buffer.
 void test_kinds_of_buffer() {
     const Block graph = two_relus_graph(), rule = two_relus_rule();
@@ -317,6 +334,7 @@ int main() {
     test_rewriting_replies();
     test_search_and_checks();
     test_result_of_rewriting();
+    test_constants();
     test_kinds_of_buffer();
     test_empty_buffers();
     test_null_with_a_length();
