@@ -1,5 +1,6 @@
 #include "dot.hpp"
 
+#include <algorithm>
 #include <vector>
 
 #include "names.hpp"
@@ -10,15 +11,41 @@ namespace {
 
 // Graphviz' names of colours that leave black letters easy to read.
 const std::string rule_input_colour = "lightblue";
+const std::string kept_colour = "palegreen";
 const std::string removed_colour = "lightsalmon";
+
+template <class Element>
+bool contains(const std::vector<Element> &list, const Element &element) {
+    return std::find(list.begin(), list.end(), element) != list.end();
+}
+
+// Whether this slot is a graph output, or is read by a vertex that a rewriting leaves
+// where it is. The colours tell which ones go; a Const's may change yet, but a Const
+// reads nothing.
+bool is_needed(const Graph &graph, unsigned slot, const std::vector<std::string> &colour) {
+    for (std::size_t reader = 0; reader < graph.slots.size(); ++reader) {
+        if (colour[reader] != removed_colour && contains(graph.slots[reader].inputs, slot)) {
+            return true;
+        }
+    }
+    return contains(graph.outputs, slot);
+}
 
 // The fill colour of each slot's node; empty for those that are not matched.
 std::vector<std::string> colours(const Graph &graph, const Match *match) {
     std::vector<std::string> result(graph.slots.size());
-    if (match != nullptr) {
-        for (std::size_t vertex = 0; vertex < match->rule.source.size(); ++vertex) {
-            const bool stays = match->rule.source[vertex].is_rule_input();
-            result.at(match->slots[vertex]) = stays ? rule_input_colour : removed_colour;
+    if (match == nullptr) {
+        return result;
+    }
+    const std::vector<Pattern> &source = match->rule.source;
+    for (std::size_t vertex = 0; vertex < source.size(); ++vertex) {
+        const bool stays = source[vertex].is_rule_input();
+        result.at(match->slots[vertex]) = stays ? rule_input_colour : removed_colour;
+    }
+    for (std::size_t vertex = 0; vertex < source.size(); ++vertex) {
+        const unsigned slot = match->slots[vertex];
+        if (source[vertex].kind == Kind::constant && is_needed(graph, slot, result)) {
+            result[slot] = kept_colour;
         }
     }
     return result;
@@ -58,12 +85,16 @@ std::string output_lines(const std::vector<unsigned> &outputs) {
     return text;
 }
 
-std::string legend(const Match *match) {
+// The line about a Const that stays stands only where there is one.
+std::string legend(const Match *match, const std::vector<std::string> &colour) {
     if (match == nullptr) {
         return "";
     }
+    const std::string kept = contains(colour, kept_colour)
+                                 ? kept_colour + ": a const that stays, needed elsewhere\\n"
+                                 : "";
     return "    label=\"match from start " + std::to_string(match->start) + "\\n"
-           + rule_input_colour + ": rule inputs\\n" + removed_colour
+           + rule_input_colour + ": rule inputs\\n" + kept + removed_colour
            + ": what a rewriting removes\";\n";
 }
 
@@ -71,7 +102,7 @@ std::string legend(const Match *match) {
 
 std::string dot_text(const Graph &graph, const Match *match) {
     const std::vector<std::string> colour = colours(graph, match);
-    std::string text = "digraph leafgraph {\n" + legend(match) + "    node [shape=box];\n";
+    std::string text = "digraph leafgraph {\n" + legend(match, colour) + "    node [shape=box];\n";
     std::string edges;
     for (std::size_t number = 0; number < graph.slots.size(); ++number) {
         const Slot &slot = graph.slots[number];

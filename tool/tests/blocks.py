@@ -15,6 +15,7 @@ COUNTS = [(2, 0), (2, 0), (2, 0), (2, 4), (2, 1), (5, 2), (1, 0),
 
 # Expression nodes: form, a, b, number.
 ANY = (0, 0, 0, 0)
+ZERO = (1, 0, 0, 0)
 
 
 def padded(numbers, count, filler):
@@ -56,6 +57,18 @@ def rule(source, source_outputs, target, target_outputs, nodes=()):
     return block
 
 
+def const(number):
+    """A Const; in a rule the number is that of its node."""
+    return vertex(CONST, attributes=[number])
+
+
+def zeros(count, *others):
+    """A Variable, the Const 0 that all read, a chain of so many additions of it, and
+    other vertices. The last addition is the output."""
+    sums = [call(ADD, [slot if slot > 1 else 0, 1]) for slot in range(1, 1 + count)]
+    return graph([IMAGE, const(0)] + sums + list(others), [1 + count])
+
+
 def gains(*factors):
     """A Variable and a chain of gains, each with the same factor three times."""
     chain = [call(GAIN, [slot], [factor] * 3) for slot, factor in enumerate(factors)]
@@ -86,8 +99,7 @@ BLOCKS = {
     "long.lgt": E1_BLOCK + bytes(100000),
     "empty.lgt": b"",
     # A target that leaves rule input 0 unnamed, and a rule longer than any sound one.
-    "unnamed.lgr": rule([WILDCARD, call(RELU, [0])], [1], [vertex(CONST, attributes=[0])], [16],
-                        [(1, 0, 0, 7)]),
+    "unnamed.lgr": rule([WILDCARD, call(RELU, [0])], [1], [const(0)], [16], [(1, 0, 0, 7)]),
     "long.lgr": TWO_RELUS + bytes(100000),
     # The least graph, the largest blocks, and a byte more.
     "one.lgt": graph([IMAGE], [0]),
@@ -98,14 +110,13 @@ BLOCKS = {
     # Every operator, and every kind of vertex.
     "operators.lgt": graph([IMAGE] + [call(op, [0] * n, range(1, 1 + m))
                                       for op, (n, m) in enumerate(COUNTS, 1)], [14]),
-    "kinds.lgt": graph([IMAGE, vertex(CONST, attributes=[-2147483648]), vertex(TUPLE, 0, [0, 1, 0]),
+    "kinds.lgt": graph([IMAGE, const(-2147483648), vertex(TUPLE, 0, [0, 1, 0]),
                         vertex(PROJ, 0, [2], [2]), EMPTY, call(ADD, [3, 3])], [5, 2]),
     # Every kind of pattern and every form of node.
     "forms.lgr": rule(
-        [WILDCARD, vertex(VARIABLE, attributes=[0] * 5), vertex(CONST, attributes=[0]),
+        [WILDCARD, vertex(VARIABLE, attributes=[0] * 5), const(0),
          vertex(TUPLE, 0, [0, 1, 2]), vertex(PROJ, 0, [3], [1])], [4],
-        [vertex(CONST, attributes=[8]), vertex(TUPLE, 0, [0, 16, 1]),
-         vertex(PROJ, 0, [17], [3])], [18],
+        [const(8), vertex(TUPLE, 0, [0, 16, 1]), vertex(PROJ, 0, [17], [3])], [18],
         [ANY, (1, 0, 0, -3), (2, 1, 5, 0), (2, 4, 1, 0), (3, 1, 2, 0), (4, 4, 1, 0),
          (5, 5, 5, 0), (6, 6, 2, 0), (7, 7, 3, 0)]),
     # A cast is dropped: no target vertex.
@@ -122,10 +133,29 @@ BLOCKS = {
     "growing-gains.lgt": gains(3, 65536, 65536),
     # A Variable plus a Const, which is doubled.
     "double-const.lgr": rule(
-        [vertex(VARIABLE, attributes=[0] * 5), vertex(CONST, attributes=[0]), call(ADD, [0, 1])],
-        [2], [vertex(CONST, attributes=[2]), call(ADD, [0, 16])], [17],
+        [vertex(VARIABLE, attributes=[0] * 5), const(0), call(ADD, [0, 1])],
+        [2], [const(2), call(ADD, [0, 16])], [17],
         [ANY, (2, 1, 1, 0), (3, 1, 1, 0)]),
-    "offset.lgt": graph([IMAGE, vertex(CONST, attributes=[-5]), call(ADD, [0, 1])], [2]),
+    "offset.lgt": graph([IMAGE, const(-5), call(ADD, [0, 1])], [2]),
+    # The same where a gain reads the Const, too; and one slot less, so that all are taken.
+    "shared.lgt": graph([IMAGE, const(-5), call(ADD, [0, 1]), call(GAIN, [1], [2, 2, 2]), EMPTY],
+                        [2, 3]),
+    "shared-full.lgt": graph([IMAGE, const(-5), call(ADD, [0, 1]), call(GAIN, [1], [2, 2, 2])],
+                             [2, 3]),
+    # The same where the Const is a graph output.
+    "shown.lgt": graph([IMAGE, const(-5), call(ADD, [0, 1]), EMPTY], [2, 1]),
+    # A sum whose first input reads the Const that is its second.
+    "fed.lgt": graph([const(0), call(RELU, [0]), call(ADD, [1, 0])], [2]),
+    # An addition of 0 goes. Twenty of them share the Const 0; in the second graph a relu
+    # that nobody reads does, too.
+    "drop-zero.lgr": rule([WILDCARD, const(0), call(ADD, [0, 1])], [2], [], [0], [ZERO]),
+    "twenty.lgt": zeros(20),
+    "twenty-and-one.lgt": zeros(20, call(RELU, [1])),
+    # The sum of two Consts becomes a Const; one graph has two, one has only one.
+    "fold.lgr": rule([const(0), const(0), call(ADD, [0, 1])], [2], [const(3)], [16],
+                     [ANY, (2, 0, 1, 0), (2, 1, 1, 0), (3, 1, 2, 0)]),
+    "fives.lgt": graph([const(5), const(5), call(ADD, [0, 1])], [2]),
+    "five.lgt": graph([const(5), call(ADD, [0, 0])], [1]),
     # One relu becomes two; the graph has two Empty slots.
     "grow.lgr": rule([WILDCARD, call(RELU, [0])], [1], [call(RELU, [0]), call(RELU, [16])], [17]),
     "room.lgt": graph([IMAGE, call(RELU, [0]), EMPTY, EMPTY], [1]),
