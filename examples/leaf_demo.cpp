@@ -1,4 +1,4 @@
-// Rewrites the leaf pipeline by five rules and shows that the number, which is
+// Rewrites the leaf pipeline by six rules and shows that the number, which is
 // measured in one of its branches, stays what it was.
 //
 // Usage: leaf_demo FOLDER, with the folder of the blocks. The exit status is 1 if
@@ -24,12 +24,21 @@ namespace {
 
 using namespace demo;
 
-// An order in which each rule applies: gain_over_gain comes after the merge, since
-// it would change one of the two stages that look alike.
-constexpr std::array<const char *, 5> rule_names = {
-    "conv2d_batch_norm", "relu_over_relu", "shared_stage_merge", "gain_over_gain",
-    "identity_removal"};
-constexpr std::size_t times_expected = 1, times_at_most = 100;
+struct Plan {
+    const char *rule;
+    std::size_t times; // that it applies
+};
+
+// An order in which each rule applies: mul_by_one comes before the merge, since the two
+// stages that look alike read the same vertex only when the stages before them have gone;
+// gain_over_gain comes after it, since it would change one of the two.
+constexpr std::array<Plan, 6> plans = {{{"mul_by_one", 3},
+                                        {"conv2d_batch_norm", 1},
+                                        {"relu_over_relu", 1},
+                                        {"shared_stage_merge", 1},
+                                        {"gain_over_gain", 1},
+                                        {"identity_removal", 1}}};
+constexpr std::size_t times_at_most = 100;
 
 // Counts what was tested, and says what is not as expected.
 class Expectations {
@@ -113,22 +122,76 @@ std::vector<std::size_t> slots_of(const leafgraph::Map &map) {
     return slots;
 }
 
-// Rewrites by a rule until it matches no more, and says where it did.
-Pipeline rewritten(const Pipeline &before, const Rule &rule, Expectations &expectations) {
-    Block block = before.block;
+std::string times(std::size_t count) {
+    return std::to_string(count) + (count == 1 ? " time" : " times");
+}
+
+// One application of a rule: the slots of its match, and the graphs around it.
+struct Application {
+    std::vector<std::size_t> slots;
+    Graph before, after;
+};
+
+// Rewrites by a rule until that is refused; the reply is the last one.
+std::vector<Application> applications(Block &block, const Rule &rule, leafgraph::Reply &reply) {
+    std::vector<Application> done;
     leafgraph::Map map;
+    while (done.size() < times_at_most) {
+        Graph before = leafgraph::tool::read_graph(block);
+        reply = leafgraph::rewrite(block, rule.block, 0, map);
+        if (!reply) {
+            break;
+        }
+        done.push_back({slots_of(map), std::move(before), leafgraph::tool::read_graph(block)});
+    }
+    return done;
+}
+
+// What became of a constant that the rule matched. It must stay as it was while something
+// else reads it, and go with its last reader, which the last application takes.
+void show_constant(const Application &application, std::size_t slot, bool is_last,
+                   Expectations &expectations) {
+    const Slot &before = application.before.slots[slot], &after = application.after.slots[slot];
+    const bool stays = after.kind == Kind::constant;
+    const std::string others = listed(readers(application.after, slot));
+    std::printf("    %s in slot %zu %s.\n", in_words(before).c_str(), slot,
+                stays ? ("stays, still read by" + others).c_str() : "goes with its last reader");
+    expectations.expect(stays == (uses(application.before, slot) > 1),
+                        "a constant does not stay just where something else reads it");
+    expectations.expect(!stays || before.attributes == after.attributes, "a constant changed");
+    expectations.expect(stays != is_last, "a constant is not shared, or outlives its readers");
+}
+
+void show_constants(const std::vector<Application> &done, const Rule &rule,
+                    Expectations &expectations) {
+    const auto source = leafgraph::tool::read_rule(rule.block).source;
+    for (std::size_t vertex = 0; vertex < source.size(); vertex++) {
+        if (source[vertex].kind == Kind::constant) {
+            for (const Application &application : done) {
+                show_constant(application, application.slots[vertex],
+                              &application == &done.back(), expectations);
+            }
+        }
+    }
+}
+
+// Rewrites by a rule until it matches no more, and says where it did.
+Pipeline rewritten(const Pipeline &before, const Rule &rule, std::size_t times_expected,
+                   Expectations &expectations) {
+    Block block = before.block;
     leafgraph::Reply reply(leafgraph::Code::done);
+    const std::vector<Application> done = applications(block, rule, reply);
     std::string matched;
-    std::size_t times = 0;
-    while (times < times_at_most && (reply = leafgraph::rewrite(block, rule.block, 0, map))) {
-        matched += (times == 0 ? ", at slots" : ", then") + listed(slots_of(map));
-        times++;
+    for (const Application &application : done) {
+        matched += (matched.empty() ? ", at slots" : ", then") + listed(application.slots);
     }
     Pipeline after = run(std::move(block));
     const bool kept = same_results(before, after);
-    std::printf("  %-18s  applied %zu time%s%s; the results %s.\n", rule.name.c_str(),
-                times, times == 1 ? "" : "s", matched.c_str(), kept ? "are the same" : "CHANGED");
-    expectations.expect(times == times_expected, rule.name + " does not apply once");
+    std::printf("  %-18s  applied %s%s; the results %s.\n", rule.name.c_str(),
+                times(done.size()).c_str(), matched.c_str(), kept ? "are the same" : "CHANGED");
+    show_constants(done, rule, expectations);
+    expectations.expect(done.size() == times_expected,
+                        rule.name + " does not apply " + times(times_expected));
     expectations.expect(reply.code() == leafgraph::Code::no_match,
                         rule.name + " ends with: " + reply.what());
     expectations.expect(kept, rule.name + " changes a result");
@@ -160,11 +223,12 @@ void show_gain_that_stays(const Graph &graph, const Rule &gain_over_gain, const 
 
 Pipeline rewritten_by_all(const std::string &folder, const Pipeline &before,
                           Expectations &expectations) {
-    std::printf("Five rules, each applied until it matches no more. The slots are those that its "
-                "source\nvertices matched, in order.\n\n");
+    std::printf("Six rules, each applied until it matches no more. The slots are those that its "
+                "source\nvertices matched, in order. A constant that the converter stored once for "
+                "several stages\nstays until the last of them goes.\n\n");
     Pipeline now = before;
-    for (const char *name : rule_names) {
-        now = rewritten(now, read_rule(folder, name), expectations);
+    for (const Plan &plan : plans) {
+        now = rewritten(now, read_rule(folder, plan.rule), plan.times, expectations);
     }
     show_gain_that_stays(now.graph, read_rule(folder, "gain_over_gain"), now.block, expectations);
     return now;

@@ -22,7 +22,7 @@ SCRATCH = BUILD / "examples"
 
 # Every example there is. An example more or less has to be said here, too.
 NAMES = ("conv2d_batch_norm.lgr", "e1.lgt", "gain_over_gain.lgr", "identity_removal.lgr",
-         "leaf_pipeline.lgt", "relu_over_relu.lgr", "shared_stage_merge.lgr")
+         "leaf_pipeline.lgt", "mul_by_one.lgr", "relu_over_relu.lgr", "shared_stage_merge.lgr")
 
 
 def source_of(block_name):
@@ -189,7 +189,8 @@ class Blocks(unittest.TestCase):
 # ---- the demo
 
 # Changes of a source, and what the demo must say then: a rule that does not keep
-# its results, a rule that applies nowhere, a number taken after the boost.
+# its results, a rule that applies nowhere, a number taken after the boost, a constant
+# that has a reader more or is not shared.
 CHANGES = (
     ("gain_over_gain.lgr", {"3 n1 * n2": "3 n1 + n2"}, "gain_over_gain changes a result"),
     ("conv2d_batch_norm.lgr", {"[t0 s3 s4 s5 s6]": "[t0 s3 s5 s4 s6]"},
@@ -202,15 +203,25 @@ CHANGES = (
     ("shared_stage_merge.lgr", {"out t0 t0": "out t0 s0"}, "shared_stage_merge changes a result"),
     ("shared_stage_merge.lgr", {"out t0 t0": "out t0 t1"},
      "shared_stage_merge is refused: bad rule block"),
-    ("identity_removal.lgr", {"0 1": "0 2"}, "identity_removal does not apply once"),
+    ("identity_removal.lgr", {"0 1": "0 2"}, "identity_removal does not apply 1 time"),
+    ("mul_by_one.lgr", {"nodes\n0 1": "nodes\n0 2"}, "mul_by_one does not apply 3 times"),
+    ("leaf_pipeline.lgt", {"22 const [] {1}": "22 const [] {2}"},
+     "mul_by_one does not apply 3 times"),
+    ("leaf_pipeline.lgt", {"22 const [] {1}": "22 const [] {1}\n23 call relu [22] {}"},
+     "a constant is not shared, or outlives its readers"),
+    ("leaf_pipeline.lgt", {"11 call mul [10 22]": "11 call mul [10 23]",
+                           "22 const [] {1}": "22 const [] {1}\n23 const [] {1}"},
+     "a constant is not shared, or outlives its readers"),
     ("leaf_pipeline.lgt", {"20 call mean [19]": "20 call mean [15]"},
      "the number is taken after a boost"),
-    ("leaf_pipeline.lgt", {"18 call gain [10] {3 2 4}": "18 call gain [10] {3 2 5}"},
-     "shared_stage_merge does not apply once"),
+    ("leaf_pipeline.lgt", {"18 call gain [17] {3 2 4}": "18 call gain [17] {3 2 5}"},
+     "shared_stage_merge does not apply 1 time"),
     ("leaf_pipeline.lgt", {"15 call vivid [14] {4}": "15 call vivid [14] {0}"},
      "the fault makes no leaf greener"),
     ("leaf_pipeline.lgt", {"{64 1}": "{65 1}"}, "an operation had to round"),
-    ("leaf_pipeline.lgt", {"graph 24": "graph 21", "7 call": "6 const [] {5}\n7 call"},
+    # A product with its inputs the other way round stays, and with it the constant.
+    ("leaf_pipeline.lgt", {"graph 24": "graph 23", "7 call conv2d": "6 const [] {5}\n7 call conv2d",
+                           "11 call mul [10 22]": "11 call mul [22 10]"},
      "conv2d_batch_norm ends with: more target vertices than"),
     ("leaf_pipeline.lgt", {"7 call conv2d [0 1] {1 1": "7 call conv2d [0 1] {2 1"},
      "the demo gives no meaning to a conv2d whose stride"),

@@ -25,6 +25,21 @@ std::string joined(const Numbers &numbers, const char *separator) {
     return text;
 }
 
+template <class Condition>
+std::vector<std::size_t> slots_with(const Graph &graph, Condition condition) {
+    std::vector<std::size_t> found;
+    for (std::size_t slot = 0; slot < graph.slots.size(); slot++) {
+        if (condition(graph.slots[slot])) {
+            found.push_back(slot);
+        }
+    }
+    return found;
+}
+
+std::size_t occurrences(const std::vector<unsigned> &slots, std::size_t slot) {
+    return static_cast<std::size_t>(std::count(slots.begin(), slots.end(), slot));
+}
+
 } // namespace
 
 Block read_file(const std::string &path) {
@@ -47,13 +62,12 @@ bool is_call(const Slot &slot, Operator op) {
 }
 
 std::vector<std::size_t> calls(const Graph &graph, Operator op) {
-    std::vector<std::size_t> found;
-    for (std::size_t slot = 0; slot < graph.slots.size(); slot++) {
-        if (is_call(graph.slots[slot], op)) {
-            found.push_back(slot);
-        }
-    }
-    return found;
+    return slots_with(graph, [&](const Slot &slot) { return is_call(slot, op); });
+}
+
+std::vector<std::size_t> readers(const Graph &graph, std::size_t slot) {
+    return slots_with(graph,
+                      [&](const Slot &reader) { return occurrences(reader.inputs, slot) > 0; });
 }
 
 std::vector<bool> leading_to(const Graph &graph, std::size_t slot) {
@@ -72,11 +86,11 @@ std::vector<bool> leading_to(const Graph &graph, std::size_t slot) {
 }
 
 std::size_t uses(const Graph &graph, std::size_t slot) {
-    auto count = std::count(graph.outputs.begin(), graph.outputs.end(), slot);
+    std::size_t total = occurrences(graph.outputs, slot);
     for (const Slot &reader : graph.slots) {
-        count += std::count(reader.inputs.begin(), reader.inputs.end(), slot);
+        total += occurrences(reader.inputs, slot);
     }
-    return static_cast<std::size_t>(count);
+    return total;
 }
 
 std::string in_words(const Slot &slot) {

@@ -18,6 +18,7 @@ using Block = std::vector<std::uint8_t>;
 
 // The operators that the leaf pipeline uses, by document 01's numbers.
 enum class Operator : unsigned {
+    mul = 2,
     conv2d = 4,
     bias_add = 5,
     batch_norm = 6,
@@ -41,6 +42,9 @@ std::vector<std::size_t> calls(const Graph &graph, Operator op);
 
 // For each slot, whether there is a path from it to this one; from itself, too.
 std::vector<bool> leading_to(const Graph &graph, std::size_t slot);
+
+// The slots of all vertices that read this one, ascending.
+std::vector<std::size_t> readers(const Graph &graph, std::size_t slot);
 
 // How many input places and outputs name this slot.
 std::size_t uses(const Graph &graph, std::size_t slot);

@@ -65,7 +65,10 @@ void show_graph(const char *when, const Graph &graph) {
     std::printf("  The screen shows slot %u, the number is slot %u.\n", graph.outputs[screen],
                 graph.outputs[number]);
     const std::vector<std::size_t> once = stages(graph, false);
-    if (!once.empty()) {
+    if (once.size() == 1) {
+        std::printf("  Slot%s depends on no photograph: it is worked out once.\n",
+                    listed(once).c_str());
+    } else if (!once.empty()) {
         std::printf("  Slots%s depend on no photograph: they are worked out once.\n",
                     listed(once).c_str());
     }

@@ -76,6 +76,14 @@ double window_sum(const Tensor &image, const Tensor &kernel, const Index &at,
     return sum;
 }
 
+Tensor mul(const Tensor &x, const Tensor &y) {
+    Index shape = x.shape;
+    for (std::size_t axis = 0; axis < shape.size(); axis++) {
+        shape[axis] = std::max(shape[axis], y.shape[axis]);
+    }
+    return filled(shape, [&](const Index &at) { return x.at(at) * y.at(at); });
+}
+
 Tensor conv2d(const Tensor &image, const Tensor &kernel, const Attributes &attributes) {
     require(attributes[0] == 1 && attributes[2] == 1 && attributes[3] == 1,
             "a conv2d whose stride, dilation or groups are not 1");
@@ -157,6 +165,8 @@ Tensor of_its_shape(const Tensor &result, const Attributes &attributes) {
 
 Tensor result_of_call(const Slot &slot, const std::vector<Tensor> &inputs) {
     switch (static_cast<Operator>(slot.op)) {
+    case Operator::mul:
+        return mul(inputs[0], inputs[1]);
     case Operator::conv2d:
         return conv2d(inputs[0], inputs[1], slot.attributes);
     case Operator::bias_add:

@@ -3,6 +3,7 @@
 //
 // An image is ordered batch, channel, row, column; channels are red, green, blue.
 //
+// - mul(x, y): the product, value by value.
 // - conv2d(x, w) {stride padding dilation groups}: the sum of products, with zeros
 //   around the image. Only stride, dilation and groups of 1 are given a meaning.
 // - batch_norm(x, gamma, beta, mean, variance) {epsilon axis}: for the channel
