@@ -1,6 +1,7 @@
 # The C header and the C++ wrapper, tried from C and C++.
 
-WRAPPER_TEST := host/test_wrapper.cpp host/blocks.hpp $(HEADERS)
+HEADER_TEST := host/test_blocks.h host/shared_constants.h include/leafgraph.h
+WRAPPER_TEST := host/test_wrapper.cpp host/blocks.hpp host/shared_constants.h $(HEADERS)
 BUILD_WRAPPER_TEST = $(CXX) $(CXX_WARNINGS) $(CXXFLAGS) -Iinclude -o $@ $< $(ARCHIVE) -lpthread
 SANITIZERS := -g -fsanitize=address,undefined -fno-sanitize-recover=all
 
@@ -20,10 +21,10 @@ host-tests: build/test_header_c build/test_header_cpp build/test_stack \
 	$(MAKE) wrapper-valgrind
 	$(MAKE) plugin-symbols
 
-build/test_header_c: host/test_header.c host/test_blocks.h include/leafgraph.h $(ARCHIVE) | build
+build/test_header_c: host/test_header.c $(HEADER_TEST) $(ARCHIVE) | build
 	$(CC) -std=c99 $(WARNINGS) $(CFLAGS) -Iinclude -o $@ $< $(ARCHIVE)
 
-build/test_header_cpp: host/test_header.cpp host/test_blocks.h include/leafgraph.h $(ARCHIVE) | build
+build/test_header_cpp: host/test_header.cpp $(HEADER_TEST) $(ARCHIVE) | build
 	$(CXX) -std=c++11 $(WARNINGS) $(CXXFLAGS) -Iinclude -o $@ $< $(ARCHIVE)
 
 # Measures a stack, so it needs threads.
