@@ -129,10 +129,10 @@ COLOURS = {
     "match: 2 outputs, none": "#E69F00",
     "match: attributes, last pair": "#CC79A7",
     "match: attributes, none": "#000000",
-    "match: a shared Const, last slot": "#009E73",
+    "match: shared Const, last slot": "#009E73",
     "rewrite: 1 output, last slot": "#0072B2",
     "rewrite: 2 outputs, last pair": "#D55E00",
-    "rewrite: a shared Const, last slot": "#CC79A7",
+    "rewrite: shared Const, last slot": "#CC79A7",
     "rewrite: to the end": "#009E73",
 }
 OTHER = "#009E73"

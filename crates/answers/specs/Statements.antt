@@ -118,7 +118,7 @@ pub record MatchReplies (graph rule : List ℕ) (start : ℕ) (map : List ℕ) (
   pub refusalKeeps : (numberIn reply ≡ 0 → ⊥) → mapAfter ≡ map
   pub written : numberIn reply ≡ 0 → WritesLeast graph rule start mapAfter
 
--- vertex v stays, with every byte of its record, and every place that names it goes on to name it
+-- vertex v stays, with every byte of its record, and what stays and names it goes on to name it: no place that does is redirected
 pub record KeptConst (graph rule images graphAfter : List ℕ) (v : ℕ) : Type 0 where
   pub kept : T (stays (graphOf graph) (ruleOf rule) images v)
   pub named : redirect (graphOf graph) (ruleOf rule) images v ≡ v

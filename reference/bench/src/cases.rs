@@ -44,13 +44,13 @@ const SEARCHES: [(&str, u64, Graph, Rule); 7] = [
     ("match: 2 outputs, none", NONE, |slots| pairs(slots, false), p7_rule),
     ("match: attributes, last pair", FOUND, |slots| gains_and_means(slots, true), gain_and_mean),
     ("match: attributes, none", NONE, |slots| gains_and_means(slots, false), gain_and_mean),
-    ("match: a shared Const, last slot", FOUND, shared_const, const_dropped),
+    ("match: shared Const, last slot", FOUND, shared_const, const_dropped),
 ];
 
 const REWRITINGS: [(&str, u64, Graph, Rule, Course); 4] = [
     ("rewrite: 1 output, last slot", FOUND, |slots| double_relus(slots, true), rr, once),
     ("rewrite: 2 outputs, last pair", FOUND, |slots| pairs(slots, true), p7_rule, once),
-    ("rewrite: a shared Const, last slot", FOUND, shared_const, const_dropped, once),
+    ("rewrite: shared Const, last slot", FOUND, shared_const, const_dropped, once),
     ("rewrite: to the end", NONE, chain, rr, to_the_end),
 ];
 
