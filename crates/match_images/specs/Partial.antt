@@ -11,7 +11,7 @@ use Rattle.definitions.specs.Rule.{sideCapacity, Rule, sourceOf, sourceInputs}
 use Rattle.definitions.specs.Match.{imageOf, mustBePrivate, Takes, Match, placesOf}
 
 -- The images of the first `next` source vertices meet every condition of a match; the other places may hold anything. That an
--- interior image is read from inside alone is said by its uses, which do not speak of the images to come.
+-- image is private where it must be is said by its uses, which do not speak of the images to come.
 pub record Partial (g : Graph) (r : Rule) (next : ℕ) (images : List ℕ) : Type 0 where
   pub size : length images ≡ sideCapacity
   pub small : next ≤ length (r .source)

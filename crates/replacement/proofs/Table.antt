@@ -108,7 +108,7 @@ module _ (g : Graph) (r : Rule) (images : List ℕ) (site : Site g r images) whe
       true-not-false h (subst (λ (i : ℕ). isRuleInput r i ≡ false) same (found .inner))) in
       simp (holds (isVertex g (imageOf images j)) (site .isMatch .vertices j inside), kept)
 
-  -- the image of a removed vertex is private to the match, or a replaced output
+  -- what is removed is private to the match, or a replaced output
   removed-private : (v : ℕ) → isRemoved g r images v ≡ true → (member v (outputImages r images) ≡ true) ⊎ Private g r images v
   unfolding mustBePrivate isInterior
   removed-private v t =

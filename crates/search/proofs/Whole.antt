@@ -1,4 +1,4 @@
--- A map of all source vertices whose interior images have the right number of uses is a match.
+-- A map of all source vertices is a match where the images that must be private have the right number of uses.
 -- Assumes nothing.
 use mathlib.Core.Path.{_≡_, sym, ap, _∙_, fun-ext}
 use mathlib.Core.Bool.{true, false}
