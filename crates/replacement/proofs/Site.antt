@@ -1,7 +1,7 @@
 -- What the proofs about the new table ask of a graph, a rule and a match. Sound blocks and a match give it.
 -- Assumes nothing.
 use mathlib.Core.Path.{_≡_, sym, _∙_}
-use mathlib.Core.Bool.{true, false, not, _&&_, and-false}
+use mathlib.Core.Bool.{Bool, true, false, not, _&&_, and-false}
 use mathlib.Core.List.{List, [], List·Memᴰ}
 use Prim.Native.Nat.{ℕ, _<_}
 use native.Mathlib.Omega.{arith}
@@ -34,15 +34,14 @@ pub record Site (g : Graph) (r : Rule) (images : List ℕ) : Type 0 where
   pub targetOutputs : all (originFits r (length (r .target))) (r .targetOutputs) ≡ true
   pub room : hasRoom g r images ≡ true
 
--- an output's kind is 3, 4 or 5
+-- an output's kind is 3, 4 or 5, so it is no Const
 output-other : (r : Rule) → sourceOutputsFit r ≡ true → (o : ℕ) → List·Memᴰ o (r .sourceOutputs) → isConst r o ≡ false
 unfolding sourceOutputsFit isConst
 output-other r fits o m =
     let kind : ℕ = sourceOf r o .kind in
-    let each = needed (all (λ o. within kindCall (sourceOf r o .kind) kindProj && not (any (λ p. member o (p .inputs)) (r .source))) (r .sourceOutputs))
-    fits (λ f. simp (f, and-false)) in
-    let fit = all-member (λ o. within kindCall (sourceOf r o .kind) kindProj && not (any (λ p. member o (p .inputs)) (r .source))) each m in
-    let least = leb-true kindCall kind (needed (leb kindCall kind) fit (λ f. simp f)) in
+    let fit : ℕ → Bool = λ k. within kindCall (sourceOf r k .kind) kindProj && not (any (λ p. member k (p .inputs)) (r .source)) in
+    let good = all-member fit (needed (all fit (r .sourceOutputs)) fits (λ f. simp (f, and-false))) m in
+    let least = leb-true kindCall kind (needed (leb kindCall kind) good (λ f. simp f)) in
     ne-eqb kind kindConst (λ e. omega (arith, least, e))
 
 pub site : (graph rule images : List ℕ) → SoundGraph graph → SoundRule rule → Match (graphOf graph) (ruleOf rule) images
