@@ -12,11 +12,12 @@ use lib.Dec.{eqb, ltb}
 use lib.ListN.{length, getD, set, replicate, length-set}
 use lib.Seq.{getD-set-same, getD-set-other}
 use Rattle.definitions.specs.Graph.{unusedPlace, emptySlot, slotCount, graphOf, inputsOf, hasCycle}
-use Rattle.definitions.specs.Paths.{Reads, Reaches, here, onward, acyclicBelow}
+use Rattle.definitions.specs.Paths.{Reads, Reaches, here, onward, OnCycle}
 use Rattle.laws.proofs.Lists.{decided, allBelow-at, all-member}
 use Rattle.laws.proofs.Graph.{length-slots, inputs-past, reader-inside}
 use Rattle.laws.proofs.Members.{mem-place}
-use Rattle.theory.proofs.Paths.{Table, Grounded, grounded, reaches-trans, cyclic, grounded-acyclic}
+use Rattle.theory.proofs.Paths.{Table, Grounded, grounded, reaches-trans, grounded-acyclic}
+use Rattle.reachability.proofs.Cycles as cycles
 use Rattle.graph_fields.specs.Layout.{Closed}
 use Rattle.acyclic.specs.Search.{Sized, Quiet, Kept, Searched}
 use Rattle.graph_sorted.specs.Sorted.{readsLower, sorted}
@@ -142,13 +143,12 @@ module _ {inputs : ℕ → List ℕ} {n root : ℕ} {before progress parent : Li
       from (finished e g h) = absurd (h (chain-head (s .linked)))
 
   -- an input that is neither finished nor untouched closes a cycle
-  pub closes : Table inputs n → (u : ℕ) → Reads inputs at u → (getD progress u 0 ≡ 0 → ⊥) → (getD progress u 0 ≡ 8 → ⊥)
-      → acyclicBelow inputs n ≡ false
-  closes table u r f g = from (s .knows u)
+  pub closes : (u : ℕ) → Reads inputs at u → (getD progress u 0 ≡ 0 → ⊥) → (getD progress u 0 ≡ 8 → ⊥) → OnCycle inputs at
+  closes u r f g = from (s .knows u)
     where
-      from : Knows inputs (s .chain) u (getD progress u 0) → acyclicBelow inputs n ≡ false
+      from : Knows inputs (s .chain) u (getD progress u 0) → OnCycle inputs at
       from (untouched e h) = absurd (f e)
-      from (entered a b d h m) = cyclic table (u, chain-reaches (s .linked) m, r)
+      from (entered a b d h m) = (u, chain-reaches (s .linked) m, r)
       from (finished e h k) = absurd (g e)
 
   -- a finished slot leads to no cycle
@@ -224,7 +224,7 @@ module _ {inputs : ℕ → List ℕ} {n root : ℕ} {before progress parent : Li
 
   -- the root is finished, and with it the search
   pub end : at < length progress → getD progress at 0 ≡ 1 + length (inputs at) → at ≡ root
-      → Searched inputs n root before (set progress at 8) false
+      → Searched inputs root before (set progress at 8) false
   end l e same = record {
     cycle = λ z. absurd (false≢true z);
     quiet = λ z. every-set (λ (w x : ℕ). (x ≡ 0) ⊎ ((x ≡ 8) × Grounded inputs w)) progress at 8 l
@@ -263,8 +263,8 @@ begin {inputs} {root = root} before parent quiet b l = record {
 }
 
 -- and what was finished before is finished after it
-pub since : {inputs : ℕ → List ℕ} {n root : ℕ} (before : List ℕ) {after : List ℕ} {r : Bool} → root < length before
-    → (getD before root 0 ≡ 8 → ⊥) → Searched inputs n root (set before root 1) after r → Searched inputs n root before after r
+pub since : {inputs : ℕ → List ℕ} {root : ℕ} (before : List ℕ) {after : List ℕ} {r : Bool} → root < length before
+    → (getD before root 0 ≡ 8 → ⊥) → Searched inputs root (set before root 1) after r → Searched inputs root before after r
 since {root = root} before l h s = record {
   cycle = s .cycle;
   quiet = s .quiet;
@@ -274,15 +274,14 @@ since {root = root} before l h s = record {
 }
 
 -- a slot that is finished already needs no search
-pub again : {inputs : ℕ → List ℕ} {n root : ℕ} (before : List ℕ) → Quiet inputs before → getD before root 0 ≡ 8
-    → Searched inputs n root before before false
+pub again : {inputs : ℕ → List ℕ} {root : ℕ} (before : List ℕ) → Quiet inputs before → getD before root 0 ≡ 8
+    → Searched inputs root before before false
 again before quiet e = record { cycle = λ z. absurd (false≢true z); quiet = λ z. quiet; kept = λ z w h. h; reached = λ z. e }
 
 -- where a cycle is found, nothing is promised of the slots
-pub found : {inputs : ℕ → List ℕ} {n : ℕ} (root : ℕ) (before after : List ℕ) → acyclicBelow inputs n ≡ false
-    → Searched inputs n root before after true
-found root before after h = record {
-  cycle = λ z. h;
+pub found : {inputs : ℕ → List ℕ} {v : ℕ} (root : ℕ) (before after : List ℕ) → OnCycle inputs v → Searched inputs root before after true
+found {v = v} root before after c = record {
+  cycle = λ z. (v, c);
   quiet = λ z. absurd (false≢true (sym z));
   kept = λ z. absurd (false≢true (sym z));
   reached = λ z. absurd (false≢true (sym z));
@@ -300,22 +299,24 @@ module _ {block : List ℕ} (closed : Closed block) where
     ends = λ v l. inputs-past (graphOf block) v (rw (length-slots block) l);
   }
 
+  pub slots-table : Table (inputsOf (graphOf block)) (length (graphOf block .slots))
+  slots-table = rw (length-slots block) table
+
   -- one search found a cycle
-  pub cycle-found : acyclicBelow (inputsOf (graphOf block)) (slotCount block) ≡ false → true ≡ hasCycle (graphOf block)
-  unfolding hasCycle
-  cycle-found h = rw (length-slots, h)
+  pub cycle-found : ((v : ℕ) × OnCycle (inputsOf (graphOf block)) v) → true ≡ hasCycle (graphOf block)
+  cycle-found c = sym (cycles.cycle-found (graphOf block) slots-table (c .1))
+
+  -- every slot leads to no cycle
+  all-grounded : ((v : ℕ) → v < slotCount block → Grounded (inputsOf (graphOf block)) v) → false ≡ hasCycle (graphOf block)
+  all-grounded g = sym (cycles.acyclic-free (graphOf block) slots-table (grounded-acyclic table g))
 
   -- every slot is finished
   pub none-found : (progress : List ℕ) → Quiet (inputsOf (graphOf block)) progress
       → ((v : ℕ) → v < slotCount block → getD progress v 0 ≡ 8) → false ≡ hasCycle (graphOf block)
-  unfolding hasCycle
-  none-found progress quiet h = rw (
-    length-slots,
-    grounded-acyclic table (λ v l. ⊎-elim
-        (λ (z : getD progress v 0 ≡ 0). absurd (omega (arith, h v l)))
-        (λ (z : (getD progress v 0 ≡ 8) × Grounded (inputsOf (graphOf block)) v). z .1)
-        (quiet v)),
-  )
+  none-found progress quiet h = all-grounded (λ v l. ⊎-elim
+      (λ (z : getD progress v 0 ≡ 0). absurd (omega (arith, h v l)))
+      (λ (z : (getD progress v 0 ≡ 8) × Grounded (inputsOf (graphOf block)) v). z .1)
+      (quiet v))
 
   -- in a sorted table the slots below any bound lead to no cycle, by induction on the bound
   sorted-grounded : sorted (inputsOf (graphOf block)) (slotCount block) ≡ true → (n v : ℕ) → v < n → v < slotCount block
@@ -329,5 +330,4 @@ module _ {block : List ℕ} (closed : Closed block) where
 
   -- and so it has no cycle
   pub sorted-acyclic : sorted (inputsOf (graphOf block)) (slotCount block) ≡ true → false ≡ hasCycle (graphOf block)
-  unfolding hasCycle
-  sorted-acyclic h = rw (length-slots, grounded-acyclic table (λ v l. sorted-grounded h (suc v) v (omega arith) l))
+  sorted-acyclic h = all-grounded (λ v l. sorted-grounded h (suc v) v (omega arith) l)

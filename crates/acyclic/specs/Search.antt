@@ -7,7 +7,7 @@ use mathlib.Core.Logic.{_⊎_}
 use Prim.Native.Nat.{ℕ}
 use lib.ListN.{length, getD}
 use Rattle.definitions.specs.Graph.{graphOf, inputsOf}
-use Rattle.definitions.specs.Paths.{acyclicBelow}
+use Rattle.definitions.specs.Paths.{OnCycle}
 use Rattle.theory.proofs.Paths.{Grounded}
 use Rattle.graph_fields.specs.Layout.{ReadableGraph, Closed}
 
@@ -31,8 +31,8 @@ abbrev pub Kept : List ℕ → List ℕ → Type 0
 Kept before after = (w : ℕ) → getD before w 0 ≡ 8 → getD after w 0 ≡ 8
 
 -- The search found a cycle, or it finished the slot with which it began and all to which that one leads.
-pub record Searched (inputs : ℕ → List ℕ) (n root : ℕ) (before after : List ℕ) (found : Bool) : Type 0 where
-  pub cycle : found ≡ true → acyclicBelow inputs n ≡ false
+pub record Searched (inputs : ℕ → List ℕ) (root : ℕ) (before after : List ℕ) (found : Bool) : Type 0 where
+  pub cycle : found ≡ true → (v : ℕ) × OnCycle inputs v
   pub quiet : found ≡ false → Quiet inputs after
   pub kept : found ≡ false → Kept before after
   pub reached : found ≡ false → getD after root 0 ≡ 8

@@ -28,8 +28,7 @@ fn finds_cycle(
     requires { ⌜ Ready (now graph) (now progress) (now parent) ⌝ }
     requires { ⌜ root < slotCount (now graph) ⌝ }
     ensures { λ r. ⌜ Sized (now (progress .exit)) (now (parent .exit)) ⌝ }
-    ensures { λ r. ⌜ Searched (inputsOf (graphOf (now (graph .entry)))) (slotCount (now (graph .entry))) root
-        (now (progress .entry)) (now (progress .exit)) r ⌝ }
+    ensures { λ r. ⌜ Searched (inputsOf (graphOf (now (graph .entry)))) root (now (progress .entry)) (now (progress .exit)) r ⌝ }
 {
     if progress[root] == FINISHED {
         return false;

@@ -1,10 +1,10 @@
--- Replies 1 to 3, said once for every operation that judges the lent blocks before it does its own work: when each is given, and that
--- it leaves every byte as it came.
+-- The replies about lent blocks, said once for every operation that judges them before it does its own work: when each is given, with
+-- which place, and that it leaves every byte as it came.
 -- Assumes nothing.
 use mathlib.Core.Path.{_≡_, refl, sym, ap, _∙_, subst}
-use mathlib.Core.Bool.{true, false}
-use mathlib.Core.List.{List, [], _∷_}
-use mathlib.Core.Logic.{_⊎_, inl, inr, ⊎-elim}
+use mathlib.Core.Bool.{true, false, or-true}
+use mathlib.Core.List.{List, [], _∷_, _++_, List·Memᴰ·tail, Memᴰ·append-right}
+use mathlib.Core.Logic.{⊎-elim}
 use Prim.Native.Nat.{ℕ, _<_, _^_}
 use native.Mathlib.Omega.{arith}
 use borrow.Author.Tests.{eq-eqb, eqb-true, eqb-false}
@@ -14,111 +14,114 @@ use Rattle.definitions.specs.declared.Refusal.{Refusal}
 use Rattle.definitions.specs.declared.Reply.{Reply}
 use Rattle.definitions.specs.declared.Reply.the-variants.{Refused}
 use Rattle.definitions.specs.Lists.{member}
-use Rattle.definitions.specs.Reply.{done, badMapLength, badGraph, badRule, noPlace, refusal, refused, numberOf, indexOf, packed, numberIn, placeIn, valueIn, firstRefusal}
-use Rattle.definitions.specs.Graph.{graphFaults, graphReply, SoundGraph}
-use Rattle.definitions.specs.Rule.{sideLimit, ruleFaults, ruleReply, SoundRule}
+use Rattle.definitions.specs.Reply.{done, badMapLength, refusalAt, refusedAt, refused, numberOf, indexOf, packed, numberIn, placeIn, valueIn, firstRefusal}
+use Rattle.definitions.specs.Graph.{graphReply, SoundGraph}
+use Rattle.definitions.specs.Rule.{ruleReply, SoundRule}
+use Rattle.definitions.specs.Faults.{GraphFault, RuleFault}
 use Rattle.definitions.specs.Operations.{Outcome, Returned, outcome, atReturn, returned, mapBytes, mapReply, blocksReply}
 use Rattle.laws.proofs.Lists.{decided, true-not-false}
-use Rattle.laws.proofs.Reply.{number-packed, place-packed, value-packed, Plain, plain-refused, done-or-refused, judged-either, first-done, first-refused}
-use Rattle.laws.proofs.Operations.{graph-plain, rule-plain}
-use Rattle.graph_check.proofs.Sound as GraphSound
-use Rattle.rule_check.proofs.Sound as RuleSound
-use Rattle.answers.specs.Statements.{WithoutPlace, Good, blockNumbers, BlockReplies, Verdict, CheckedGraph, GraphVerdict, CheckedRule, RuleVerdict}
+use Rattle.laws.proofs.Members.{member-left, mem-member, member-mem}
+use Rattle.laws.proofs.Faults.{Judges, done-every, either}
+use Rattle.laws.proofs.Reply.{number-packed, place-packed, value-packed, Valueless, Plain, plain-done, refused-valueless, first-done, first-refused}
+use Rattle.graph_check.proofs.Sound.{graph-judged}
+use Rattle.rule_check.proofs.Sound.{rule-judged}
+use Rattle.answers.specs.Statements.{Says, graphNumbers, ruleNumbers, Good, blockNumbers, BlockReplies, Verdict, CheckedGraph, GraphVerdict, CheckedRule, RuleVerdict}
+use Rattle.answers.proofs.Faults.{Small, Numbered, graph-listed, graph-small, graph-apart, graph-numbered, rule-listed, rule-small, rule-apart, rule-numbered}
 
--- ---- replies
+-- ---- what the C side reads
 
--- a block whose reply is done exactly where it is sound, and otherwise one number
-module _ {Sound : Type 0} (reply : Reply) (n : ℕ) (either : (reply ≡ done) ⊎ (reply ≡ refused n)) (only : reply ≡ done → Sound)
-    (every : Sound → reply ≡ done) where
-  unsound-refused : (Sound → ⊥) → reply ≡ refused n
-  unsound-refused unsound = ⊎-elim (λ (e : reply ≡ done). absurd (unsound (only e))) (λ (e : reply ≡ refused n). e) either
+read : (answer : Reply) → Small (numberOf answer) (indexOf answer) → Valueless answer → (reply : ℕ) → reply ≡ packed answer
+    → Says reply (numberOf answer) (indexOf answer)
+read answer small none reply contract = record {
+  number = ap numberIn contract ∙ number-packed answer (small .number);
+  place = ap placeIn contract ∙ place-packed answer (small .number) (small .place);
+  value = ap valueIn contract ∙ value-packed answer (small .number) (small .place) ∙ none;
+}
 
-  sound-decided : Sound ⊎ (Sound → ⊥)
-  sound-decided =
-      ⊎-elim (λ (e : reply ≡ done). inl (only e))
-      (λ (e : reply ≡ refused n). inr (λ (s : Sound). done-or-refused n (sym (every s) ∙ e)))
-      either
+-- of done, and of a refusal
+module _ (reply : ℕ) where
+  read-done : reply ≡ packed done → Says reply 0 0
+  unfolding numberOf indexOf
+  read-done e = read done (record { number = omega arith; place = omega arith }) (plain-done .value) reply e
 
-graph-either : (block : List ℕ) → (graphReply block ≡ done) ⊎ (graphReply block ≡ refused badGraph)
-unfolding graphReply
-graph-either block = judged-either badGraph (graphFaults block)
+  read-refused : {n p : ℕ} → Small n p → reply ≡ packed (refusedAt n p) → Says reply n p
+  unfolding refusalAt numberOf indexOf
+  read-refused {n} {p} small e = read (refusedAt n p) small (refused-valueless n p) reply e
 
-rule-either : (block : List ℕ) → (ruleReply block ≡ done) ⊎ (ruleReply block ≡ refused badRule)
-unfolding ruleReply
-rule-either block = judged-either badRule (ruleFaults sideLimit block)
-
-module _ (block : List ℕ) where
-  graph-bad : (SoundGraph block → ⊥) → graphReply block ≡ refused badGraph
-  graph-bad =
-      unsound-refused (graphReply block) badGraph (graph-either block) (GraphSound.only-sound block) (GraphSound.every-sound block)
-
-  graph-decided : SoundGraph block ⊎ (SoundGraph block → ⊥)
-  graph-decided =
-      sound-decided (graphReply block) badGraph (graph-either block) (GraphSound.only-sound block) (GraphSound.every-sound block)
-
-  rule-bad : (SoundRule block → ⊥) → ruleReply block ≡ refused badRule
-  rule-bad =
-      unsound-refused (ruleReply block) badRule (rule-either block) (RuleSound.only-sound block) (RuleSound.every-sound block)
-
-  rule-decided : SoundRule block ⊎ (SoundRule block → ⊥)
-  rule-decided =
-      sound-decided (ruleReply block) badRule (rule-either block) (RuleSound.only-sound block) (RuleSound.every-sound block)
+-- what is read is one number and one place
+same-number : {reply n m p q : ℕ} → Says reply n p → Says reply m q → (n ≡ m) × (p ≡ q)
+same-number one other = (sym (one .number) ∙ other .number, sym (one .place) ∙ other .place)
 
 -- ---- the checks
 
--- what the C side reads of a reply without a place or a value
-module _ {answer : Reply} (plain : Plain answer) (small : numberOf answer < 2 ^ 8) (reply : ℕ) (contract : reply ≡ packed answer) where
-  pub number-read : numberIn reply ≡ numberOf answer
-  number-read = ap numberIn contract ∙ number-packed answer small
+-- A reply that judges a block by its kinds of fault; 0 is none of them.
+module _ {Sound : Type 0} {Fault : ℕ → ℕ → Type 0} {bad : List ℕ} {answer : Reply} (judges : Judges Sound Fault answer)
+    (numbered : Numbered Fault bad) (reply : ℕ) (contract : reply ≡ packed answer) where
+  as-done : Sound → Says reply 0 0
+  as-done sound = read-done reply (contract ∙ ap packed (done-every judges sound))
 
-  pub nothing-else : WithoutPlace reply
-  nothing-else =
-      let low : indexOf answer < 2 ^ 32 = omega (arith, plain .index) in
-      record {
-        place = ap placeIn contract ∙ place-packed answer small low ∙ plain .index;
-        value = ap valueIn contract ∙ value-packed answer small low ∙ plain .value;
-      }
+  as-fault : {n p : ℕ} → Fault n p → Says reply n p
+  as-fault fault = read-refused reply (numbered .small fault) (contract ∙ ap packed (judges .told fault))
 
--- it reads 0 exactly for a sound block, and else the block's number
-module _ {Sound : Type 0} (answer : Reply) (n : ℕ) (some : 0 < n) (small : n < 2 ^ 8) (plain : Plain answer)
-    (either : (answer ≡ done) ⊎ (answer ≡ refused n)) (only : answer ≡ done → Sound) (every : Sound → answer ≡ done)
-    (reply : ℕ) (contract : reply ≡ packed answer) where
-  few : numberOf answer < 2 ^ 8
-  unfolding refusal numberOf
-  few =
-      ⊎-elim (λ (e : answer ≡ done). rw e (omega arith)) (λ (e : answer ≡ refused n). rw e small) either
+  -- what is read is of a sound block, or of a fault
+  data Read : Type 0 where
+    soundRead : Sound → Says reply 0 0 → Read
+    faultRead : {n p : ℕ} → Fault n p → Says reply n p → Read
 
-  as-done : answer ≡ done → numberIn reply ≡ 0
-  unfolding numberOf
-  as-done e = number-read plain few reply contract ∙ ap numberOf e
+  is-read : Read
+  is-read = ⊎-elim (λ (sound : Sound). soundRead sound (as-done sound))
+      (λ (f : (n : ℕ) × (p : ℕ) × Fault n p). faultRead (f .2) (as-fault (f .2)))
+      (either judges)
 
-  as-refused : answer ≡ refused n → numberIn reply ≡ n
-  unfolding refusal numberOf
-  as-refused e = number-read plain few reply contract ∙ ap numberOf e
+  zero-listed : {n : ℕ} → n ≡ 0 → member n bad ≡ true → ⊥
+  zero-listed e t = true-not-false (subst (λ (k : ℕ). member k bad ≡ true) e t) (numbered .apart)
 
-  pub verdict : Verdict Sound n reply
+  pub verdict : Verdict Sound Fault bad reply
+  unfolding member
   verdict = record {
-    done = (
-      λ h. ⊎-elim only (λ (e : answer ≡ refused n). absurd (omega (arith, as-refused e))) either,
-      λ s. as-done (every s),
-    );
-    refused = (
-      λ h s. omega (arith, as-done (every s)),
-      λ unsound. as-refused (unsound-refused answer n either only every unsound),
-    );
-    either = ⊎-elim (λ (e : answer ≡ done). inl (as-done e)) (λ (e : answer ≡ refused n). inr (as-refused e)) either;
-    plain = nothing-else plain few reply contract;
+    done = (by-done is-read, λ sound. as-done sound .number);
+    refused = (by-refused is-read, by-unsound is-read);
+    fault = λ n p. (λ h. by-fault is-read (h .0) (h .1), λ fault. (numbered .listed fault, as-fault fault));
+    either = by-either is-read;
+    plain = by-plain is-read;
+    value = by-value is-read;
   }
+    where
+      by-done : Read → numberIn reply ≡ 0 → Sound
+      by-done (soundRead sound says) h = sound
+      by-done (faultRead fault says) h = absurd (zero-listed (sym (says .number) ∙ h) (numbered .listed fault))
+
+      by-refused : Read → member (numberIn reply) bad ≡ true → Sound → ⊥
+      by-refused (soundRead sound says) h s = zero-listed (says .number) h
+      by-refused (faultRead fault says) h s = judges .apart s fault
+
+      by-unsound : Read → (Sound → ⊥) → member (numberIn reply) bad ≡ true
+      by-unsound (soundRead sound says) unsound = absurd (unsound sound)
+      by-unsound (faultRead fault says) unsound = rw (says .number) (numbered .listed fault)
+
+      by-fault : {n p : ℕ} → Read → member n bad ≡ true → Says reply n p → Fault n p
+      by-fault (soundRead sound says) t h = absurd (zero-listed (same-number h says .0) t)
+      by-fault {n} {p} (faultRead {n = m} {p = q} fault says) t h =
+          let same = same-number says h in
+          subst (λ (k : ℕ). Fault k p) (same .0) (subst (Fault m) (same .1) fault)
+
+      by-either : Read → member (numberIn reply) (0 ∷ bad) ≡ true
+      by-either (soundRead sound says) = rw (says .number) refl
+      by-either (faultRead {n = m} fault says) = rw (says .number, numbered .listed fault) (or-true (eqb m 0))
+
+      by-plain : Read → numberIn reply ≡ 0 → placeIn reply ≡ 0
+      by-plain (soundRead sound says) h = says .place
+      by-plain (faultRead fault says) h = absurd (zero-listed (sym (says .number) ∙ h) (numbered .listed fault))
+
+      by-value : Read → valueIn reply ≡ 0
+      by-value (soundRead sound says) = says .value
+      by-value (faultRead fault says) = says .value
 
 pub graph-verdict : (graph : List ℕ) (reply : ℕ) → CheckedGraph graph reply → GraphVerdict graph reply
-graph-verdict graph reply contract =
-    verdict (graphReply graph) badGraph (omega arith) (omega arith) (graph-plain graph) (graph-either graph)
-    (GraphSound.only-sound graph) (GraphSound.every-sound graph) reply contract
+graph-verdict graph reply contract = verdict (graph-judged graph) (graph-numbered graph) reply contract
 
 pub rule-verdict : (rule : List ℕ) (reply : ℕ) → CheckedRule rule reply → RuleVerdict rule reply
-rule-verdict rule reply contract =
-    verdict (ruleReply rule) badRule (omega arith) (omega arith) (rule-plain rule) (rule-either rule)
-    (RuleSound.only-sound rule) (RuleSound.every-sound rule) reply contract
+rule-verdict rule reply contract = verdict (rule-judged rule) (rule-numbered rule) reply contract
 
 -- ---- the stages, in document 01's order
 
@@ -141,11 +144,11 @@ module _ (graph rule before : List ℕ) where
   after-map size = first-done (graphReply graph ∷ ruleReply rule ∷ []) (map-good before size)
 
   after-graph : length before ≡ mapBytes → SoundGraph graph → blocksReply graph rule before ≡ firstRefusal (ruleReply rule ∷ [])
-  after-graph size sound = after-map size ∙ first-done (ruleReply rule ∷ []) (GraphSound.every-sound graph sound)
+  after-graph size sound = after-map size ∙ first-done (ruleReply rule ∷ []) (done-every (graph-judged graph) sound)
 
   after-rule : Good graph rule before → blocksReply graph rule before ≡ done
   unfolding firstRefusal
-  after-rule good = after-graph (good .0) (good .1) ∙ first-done [] (RuleSound.every-sound rule (good .2))
+  after-rule good = after-graph (good .0) (good .1) ∙ first-done [] (done-every (rule-judged rule) (good .2))
 
 -- ---- an operation on lent blocks
 
@@ -158,6 +161,15 @@ pub record Staged (graph rule before : List ℕ) (whole rest : Outcome) : Type 0
   pub small : numberOf (rest .reply) < 2 ^ 8
   pub plain : Plain (rest .reply)
 
+-- a graph's numbers and a rule's are among the blocks'
+graph-block : (n : ℕ) → member n graphNumbers ≡ true → member n blockNumbers ≡ true
+unfolding member
+graph-block n t = rw (member-left n graphNumbers ruleNumbers t) (or-true (eqb n badMapLength))
+
+rule-block : (n : ℕ) → member n ruleNumbers ≡ true → member n blockNumbers ≡ true
+rule-block n t = mem-member {x = n} {xs = blockNumbers}
+    (List·Memᴰ·tail (Memᴰ·append-right graphNumbers (member-mem n ruleNumbers t)))
+
 module _ {graph rule before : List ℕ} {whole rest : Outcome} (staged : Staged graph rule before whole rest)
     {reply : ℕ} {graphAfter after : List ℕ} (contract : atReturn reply graphAfter after ≡ returned whole) where
   -- at the return: this reply, and these bytes in the graph and in the map
@@ -169,48 +181,39 @@ module _ {graph rule before : List ℕ} {whole rest : Outcome} (staged : Staged 
     ap (λ (x : Returned). x .map) contract ∙ ap (λ (x : Outcome). x .map) e,
   )
 
-  -- at the return: this number and nothing beside it, and every byte as it came
-  pub record Refuses (n : ℕ) : Type 0 where
-    pub number : numberIn reply ≡ n
-    pub nothing : WithoutPlace reply
+  -- at the return: this number with this place, and every byte as it came
+  pub record Refuses (n p : ℕ) : Type 0 where
+    pub says : Says reply n p
     pub keptGraph : graphAfter ≡ graph
     pub keptMap : after ≡ before
 
-  pub refused-ends : (n : ℕ) → n < 2 ^ 8 → whole ≡ outcome (refused n) graph before → Refuses n
-  unfolding refusal numberOf
-  refused-ends n l e =
-      let p = ends (outcome (refused n) graph before) e in
-      record {
-        number = number-read (plain-refused n) l reply (p .0);
-        nothing = nothing-else (plain-refused n) l reply (p .0);
-        keptGraph = p .1;
-        keptMap = p .2;
-      }
+  pub refused-ends : {n p : ℕ} → Small n p → whole ≡ outcome (refusedAt n p) graph before → Refuses n p
+  refused-ends {n} {p} small e =
+      let end = ends (outcome (refusedAt n p) graph before) e in
+      record { says = read-refused reply small (end .0); keptGraph = end .1; keptMap = end .2 }
 
-  blocks-ends : (n : ℕ) → n < 2 ^ 8 → blocksReply graph rule before ≡ refused n → Refuses n
-  unfolding refusal
-  blocks-ends n l e = refused-ends n l (staged .refusing (record { number = n; place = noPlace }) e)
+  blocks-ends : {n p : ℕ} → Small n p → blocksReply graph rule before ≡ refusedAt n p → Refuses n p
+  blocks-ends {n} {p} small e = refused-ends small (staged .refusing (refusalAt n p) e)
 
-  map-ends : (length before ≡ mapBytes → ⊥) → Refuses badMapLength
-  unfolding blocksReply refusal
+  map-ends : (length before ≡ mapBytes → ⊥) → Refuses badMapLength 0
+  unfolding blocksReply
   map-ends other =
-      blocks-ends badMapLength (omega arith) (first-refused _ (graphReply graph ∷ ruleReply rule ∷ []) (map-bad before other))
+      blocks-ends (record { number = omega arith; place = omega arith })
+      (first-refused (refusalAt badMapLength 0) (graphReply graph ∷ ruleReply rule ∷ []) (map-bad before other))
 
-  graph-ends : length before ≡ mapBytes → (SoundGraph graph → ⊥) → Refuses badGraph
-  unfolding refusal
-  graph-ends size unsound =
-      blocks-ends badGraph (omega arith)
-      (after-map graph rule before size ∙ first-refused _ (ruleReply rule ∷ []) (graph-bad graph unsound))
+  graph-ends : {n p : ℕ} → length before ≡ mapBytes → GraphFault graph n p → Refuses n p
+  graph-ends {n} {p} size fault =
+      blocks-ends (graph-small fault)
+      (after-map graph rule before size ∙ first-refused (refusalAt n p) (ruleReply rule ∷ []) (graph-judged graph .told fault))
 
-  rule-ends : length before ≡ mapBytes → SoundGraph graph → (SoundRule rule → ⊥) → Refuses badRule
-  unfolding refusal
-  rule-ends size sound unsound =
-      blocks-ends badRule (omega arith) (after-graph graph rule before size sound ∙ first-refused _ [] (rule-bad rule unsound))
+  rule-ends : {n p : ℕ} → length before ≡ mapBytes → SoundGraph graph → RuleFault rule n p → Refuses n p
+  rule-ends {n} {p} size sound fault =
+      blocks-ends (rule-small fault)
+      (after-graph graph rule before size sound ∙ first-refused (refusalAt n p) [] (rule-judged rule .told fault))
 
   -- at the return from a call on good blocks: what the rest comes to
   pub record Passes : Type 0 where
-    pub number : numberIn reply ≡ numberOf (rest .reply)
-    pub nothing : WithoutPlace reply
+    pub says : Says reply (numberOf (rest .reply)) 0
     pub leftGraph : graphAfter ≡ rest .graph
     pub leftMap : after ≡ rest .map
 
@@ -219,125 +222,148 @@ module _ {graph rule before : List ℕ} {whole rest : Outcome} (staged : Staged 
 
   pub passes : Good graph rule before → Passes
   passes good =
-      let p = ends rest (passed good) in
+      let end = ends rest (passed good) in
+      let plain = staged .plain in
+      let small : Small (numberOf (rest .reply)) (indexOf (rest .reply)) = record {
+        number = staged .small;
+        place = omega (arith, plain .index);
+      } in
       record {
-        number = number-read (staged .plain) (staged .small) reply (p .0);
-        nothing = nothing-else (staged .plain) (staged .small) reply (p .0);
-        leftGraph = p .1;
-        leftMap = p .2;
+        says = subst (Says reply (numberOf (rest .reply))) (plain .index) (read (rest .reply) small (plain .value) reply (end .0));
+        leftGraph = end .1;
+        leftMap = end .2;
       }
 
-  -- by the reply's number: what is so of the blocks where a call is answered with it
-  data Stage : ℕ → Type 0 where
-    wrongMap : (length before ≡ mapBytes → ⊥) → Refuses badMapLength → Stage badMapLength
-    wrongGraph : length before ≡ mapBytes → (SoundGraph graph → ⊥) → Refuses badGraph → Stage badGraph
-    wrongRule : length before ≡ mapBytes → SoundGraph graph → (SoundRule rule → ⊥) → Refuses badRule → Stage badRule
-    allGood : {n : ℕ} → Good graph rule before → member n blockNumbers ≡ false → WithoutPlace reply → Stage n
+  -- what is so of the blocks where a call is answered as it is
+  data Stage : Type 0 where
+    wrongMap : (length before ≡ mapBytes → ⊥) → Refuses badMapLength 0 → Stage
+    wrongGraph : {n p : ℕ} → length before ≡ mapBytes → GraphFault graph n p → Refuses n p → Stage
+    wrongRule : {n p : ℕ} → length before ≡ mapBytes → SoundGraph graph → RuleFault rule n p → Refuses n p → Stage
+    allGood : {n : ℕ} → Good graph rule before → member n blockNumbers ≡ false → Says reply n 0 → Stage
 
   -- every call comes to one of these stages
-  stage-rule : length before ≡ mapBytes → SoundGraph graph → Stage (numberIn reply)
-  stage-rule size sound =
-      ⊎-elim (λ (soundRule : SoundRule rule).
-      let pass = passes (size, sound, soundRule) in
-      allGood (size, sound, soundRule) (rw (pass .number) (staged .own)) (pass .nothing))
-      (λ (unsound : SoundRule rule → ⊥).
-      let end = rule-ends size sound unsound in
-      subst Stage (sym (end .number)) (wrongRule size sound unsound end))
-      (rule-decided rule)
+  stage-rule : length before ≡ mapBytes → SoundGraph graph → Stage
+  stage-rule size sound = ⊎-elim
+      (λ (soundRule : SoundRule rule). allGood (size, sound, soundRule) (staged .own) (passes (size, sound, soundRule) .says))
+      (λ (f : (n : ℕ) × (p : ℕ) × RuleFault rule n p). wrongRule size sound (f .2) (rule-ends size sound (f .2)))
+      (either (rule-judged rule))
 
-  stage-graph : length before ≡ mapBytes → Stage (numberIn reply)
-  stage-graph size =
-      ⊎-elim (λ (sound : SoundGraph graph). stage-rule size sound)
-      (λ (unsound : SoundGraph graph → ⊥).
-      let end = graph-ends size unsound in
-      subst Stage (sym (end .number)) (wrongGraph size unsound end))
-      (graph-decided graph)
+  stage-graph : length before ≡ mapBytes → Stage
+  stage-graph size = ⊎-elim
+      (λ (sound : SoundGraph graph). stage-rule size sound)
+      (λ (f : (n : ℕ) × (p : ℕ) × GraphFault graph n p). wrongGraph size (f .2) (graph-ends size (f .2)))
+      (either (graph-judged graph))
 
-  stage : Stage (numberIn reply)
-  stage =
-      ⊎-elim (λ (t : eqb (length before) mapBytes ≡ true). stage-graph (eqb-true (length before) mapBytes t))
+  stage : Stage
+  stage = ⊎-elim (λ (t : eqb (length before) mapBytes ≡ true). stage-graph (eqb-true (length before) mapBytes t))
       (λ (t : eqb (length before) mapBytes ≡ false).
       let other : length before ≡ mapBytes → ⊥ = eqb-false (length before) mapBytes t in
-      let end = map-ends other in
-      subst Stage (sym (end .number)) (wrongMap other end))
+      wrongMap other (map-ends other))
       (decided (eqb (length before) mapBytes))
 
-  at : (n : ℕ) → numberIn reply ≡ n → Stage n
-  at n e = subst Stage e stage
+  -- a number of the blocks' is not one that a call on good blocks has
+  not-own : (n m : ℕ) → member m blockNumbers ≡ false → n ≡ m → member n blockNumbers ≡ true → ⊥
+  not-own n m own e t = true-not-false t (subst (λ (k : ℕ). member k blockNumbers ≡ false) (sym e) own)
 
-  -- ---- what replies 1 to 3 mean
+  -- ---- what the replies about the blocks mean
 
-  -- Reply 1: the map buffer isn't 32 bytes.
-  pub bad-map-only : numberIn reply ≡ badMapLength → length before ≡ mapBytes → ⊥
+  -- what is read is a number of the graph's only where the graph has the fault
+  graph-only : (n p : ℕ) → Stage → member n graphNumbers ≡ true → Says reply n p → (length before ≡ mapBytes) × GraphFault graph n p
   unfolding member
-  bad-map-only h = elim (at badMapLength h) [
-    | wrongMap other end ↦ other
-    | allGood good own nothing ↦ absurd (true-not-false refl own)
-  ]
+  graph-only n p (wrongMap other end) t h = absurd (true-not-false (rw (same-number h (end .says) .0) at t) refl)
+  graph-only n p (wrongGraph {n = m} {p = q} size fault end) t h =
+      let same = same-number (end .says) h in
+      (size, subst (λ (k : ℕ). GraphFault graph k p) (same .0) (subst (GraphFault graph m) (same .1) fault))
+  graph-only n p (wrongRule {n = m} size sound fault end) t h =
+      absurd (true-not-false (subst (λ (k : ℕ). member k graphNumbers ≡ true) (same-number h (end .says) .0) t) (rule-apart fault))
+  graph-only n p (allGood {n = m} good own says) t h = absurd (not-own n m own (same-number h says .0) (graph-block n t))
 
-  -- And 1 is replied wherever that is so.
-  pub bad-map-every : (length before ≡ mapBytes → ⊥) → numberIn reply ≡ badMapLength
-  bad-map-every other = map-ends other .number
-
-  -- Reply 2: the map has 32 bytes, and the graph block is bad.
-  pub bad-graph-only : numberIn reply ≡ badGraph → (length before ≡ mapBytes) × (SoundGraph graph → ⊥)
+  -- and one of the rule's only where the rule has it
+  rule-only : (n p : ℕ) → Stage → member n ruleNumbers ≡ true → Says reply n p
+      → (length before ≡ mapBytes) × SoundGraph graph × RuleFault rule n p
   unfolding member
-  bad-graph-only h = elim (at badGraph h) [
-    | wrongGraph size unsound end ↦ (size, unsound)
-    | allGood good own nothing ↦ absurd (true-not-false refl own)
-  ]
+  rule-only n p (wrongMap other end) t h = absurd (true-not-false (rw (same-number h (end .says) .0) at t) refl)
+  rule-only n p (wrongGraph {n = m} size fault end) t h =
+      absurd (true-not-false (subst (λ (k : ℕ). member k ruleNumbers ≡ true) (same-number h (end .says) .0) t) (graph-apart fault))
+  rule-only n p (wrongRule {n = m} {p = q} size sound fault end) t h =
+      let same = same-number (end .says) h in
+      (size, sound, subst (λ (k : ℕ). RuleFault rule k p) (same .0) (subst (RuleFault rule m) (same .1) fault))
+  rule-only n p (allGood {n = m} good own says) t h = absurd (not-own n m own (same-number h says .0) (rule-block n t))
 
-  -- And 2 is replied wherever that is so.
-  pub bad-graph-every : length before ≡ mapBytes → (SoundGraph graph → ⊥) → numberIn reply ≡ badGraph
-  bad-graph-every size unsound = graph-ends size unsound .number
-
-  -- Reply 3: the map has 32 bytes, the graph is sound, and the rule block is bad.
-  pub bad-rule-only : numberIn reply ≡ badRule → (length before ≡ mapBytes) × SoundGraph graph × (SoundRule rule → ⊥)
+  map-only : Stage → numberIn reply ≡ badMapLength → length before ≡ mapBytes → ⊥
   unfolding member
-  bad-rule-only h = elim (at badRule h) [
-    | wrongRule size sound unsound end ↦ (size, sound, unsound)
-    | allGood good own nothing ↦ absurd (true-not-false refl own)
-  ]
+  map-only (wrongMap other end) h = other
+  map-only (wrongGraph {n = m} size fault end) h =
+      absurd (true-not-false (subst (λ (k : ℕ). member k graphNumbers ≡ true) (sym (end .says .number) ∙ h) (graph-listed fault)) refl)
+  map-only (wrongRule {n = m} size sound fault end) h =
+      absurd (true-not-false (subst (λ (k : ℕ). member k ruleNumbers ≡ true) (sym (end .says .number) ∙ h) (rule-listed fault)) refl)
+  map-only (allGood {n = m} good own says) h = absurd (not-own badMapLength m own (sym h ∙ says .number) refl)
 
-  -- And 3 is replied wherever that is so.
-  pub bad-rule-every : length before ≡ mapBytes → SoundGraph graph → (SoundRule rule → ⊥) → numberIn reply ≡ badRule
-  bad-rule-every size sound unsound = rule-ends size sound unsound .number
+  -- what is read has no value, and no place where the number is none of the faults'
+  value-zero : Stage → valueIn reply ≡ 0
+  value-zero (wrongMap other end) = end .says .value
+  value-zero (wrongGraph size fault end) = end .says .value
+  value-zero (wrongRule size sound fault end) = end .says .value
+  value-zero (allGood good own says) = says .value
+
+  place-zero : Stage → member (numberIn reply) (graphNumbers ++ ruleNumbers) ≡ false → placeIn reply ≡ 0
+  place-zero (wrongMap other end) f = end .says .place
+  place-zero (wrongGraph {n = m} size fault end) f =
+      absurd (true-not-false (rw (end .says .number) (member-left m graphNumbers ruleNumbers (graph-listed fault))) f)
+  place-zero (wrongRule {n = m} size sound fault end) f = absurd (true-not-false
+      (rw (end .says .number) (mem-member (Memᴰ·append-right graphNumbers (member-mem m ruleNumbers (rule-listed fault))))) f)
+  place-zero (allGood good own says) f = says .place
+
+  as-read : Says reply (numberIn reply) (placeIn reply)
+  as-read = record { number = refl; place = refl; value = value-zero stage }
+
+  graph-refused : length before ≡ mapBytes → (SoundGraph graph → ⊥) → member (numberIn reply) graphNumbers ≡ true
+  graph-refused size unsound = ⊎-elim (λ (sound : SoundGraph graph). absurd (unsound sound))
+      (λ (f : (n : ℕ) × (p : ℕ) × GraphFault graph n p). rw (graph-ends size (f .2) .says .number) (graph-listed (f .2)))
+      (either (graph-judged graph))
+
+  rule-refused : length before ≡ mapBytes → SoundGraph graph → (SoundRule rule → ⊥) → member (numberIn reply) ruleNumbers ≡ true
+  rule-refused size sound unsound = ⊎-elim (λ (soundRule : SoundRule rule). absurd (unsound soundRule))
+      (λ (f : (n : ℕ) × (p : ℕ) × RuleFault rule n p). rw (rule-ends size sound (f .2) .says .number) (rule-listed (f .2)))
+      (either (rule-judged rule))
 
   -- Either a call is answered with a number of the blocks' and leaves every byte as it came, or its blocks are good.
   pub by-blocks {ℓ} : (P : Type ℓ) → (member (numberIn reply) blockNumbers ≡ true → graphAfter ≡ graph → after ≡ before → P)
       → (Good graph rule before → P) → P
   unfolding member
-  by-blocks P bad good = judge stage
+  by-blocks P bad passing = judge stage
     where
-      judge : {n : ℕ} → Stage n → P
-      judge (wrongMap other end) = bad (rw (end .number) refl) (end .keptGraph) (end .keptMap)
-      judge (wrongGraph size unsound end) = bad (rw (end .number) refl) (end .keptGraph) (end .keptMap)
-      judge (wrongRule size sound unsound end) = bad (rw (end .number) refl) (end .keptGraph) (end .keptMap)
-      judge (allGood blocks own nothing) = good blocks
+      judge : Stage → P
+      judge (wrongMap other end) = bad (rw (end .says .number) refl) (end .keptGraph) (end .keptMap)
+      judge (wrongGraph {n = m} size fault end) =
+          bad (rw (end .says .number) (graph-block m (graph-listed fault))) (end .keptGraph) (end .keptMap)
+      judge (wrongRule {n = m} size sound fault end) =
+          bad (rw (end .says .number) (rule-block m (rule-listed fault))) (end .keptGraph) (end .keptMap)
+      judge (allGood blocks own says) = passing blocks
 
-  -- Any other reply is given for good blocks only.
+  -- Any number that is not about the blocks is given for good blocks only.
   pub good-only : member (numberIn reply) blockNumbers ≡ false → Good graph rule before
   good-only other =
       by-blocks (Good graph rule before)
       (λ about keptGraph keptMap. absurd (true-not-false about other))
       (λ good. good)
 
-  -- No reply has a place or a value.
-  pub without-place : WithoutPlace reply
-  without-place = judge stage
-    where
-      judge : {n : ℕ} → Stage n → WithoutPlace reply
-      judge (wrongMap other end) = end .nothing
-      judge (wrongGraph size unsound end) = end .nothing
-      judge (wrongRule size sound unsound end) = end .nothing
-      judge (allGood blocks own nothing) = nothing
-
-  -- Replies 1 to 3 are given exactly where they are due.
+  -- The replies about the blocks are given exactly where they are due.
   pub block-replies : BlockReplies graph rule before reply
   block-replies = record {
-    wrongMap = (bad-map-only, bad-map-every);
-    wrongGraph = (bad-graph-only, λ w. bad-graph-every (w .0) (w .1));
-    wrongRule = (bad-rule-only, λ w. bad-rule-every (w .0) (w .1) (w .2));
+    wrongMap = (map-only stage, λ other. map-ends other .says .number);
+    wrongGraph = (
+      λ t. let w = graph-only (numberIn reply) (placeIn reply) stage t as-read in (w .0, λ sound. graph-judged graph .apart sound (w .1)),
+      λ w. graph-refused (w .0) (w .1),
+    );
+    wrongRule = (
+      λ t. let w = rule-only (numberIn reply) (placeIn reply) stage t as-read in
+          (w .0, w .1, λ sound. rule-judged rule .apart sound (w .2)),
+      λ w. rule-refused (w .0) (w .1) (w .2),
+    );
+    graphFault = λ n p. (λ h. graph-only n p stage (h .0) (h .1), λ w. (graph-listed (w .1), graph-ends (w .0) (w .1) .says));
+    ruleFault = λ n p. (λ h. rule-only n p stage (h .0) (h .1), λ w. (rule-listed (w .2), rule-ends (w .0) (w .1) (w .2) .says));
     good = good-only;
-    plain = without-place;
+    plain = place-zero stage;
+    value = value-zero stage;
   }

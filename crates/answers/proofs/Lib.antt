@@ -1,4 +1,5 @@
 pub mod Maps
+pub mod Faults
 pub mod Blocks
 pub mod Matching
 pub mod Fit

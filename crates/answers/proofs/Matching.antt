@@ -10,7 +10,7 @@ use native.Mathlib.Omega.{arith}
 use lib.Dec.{eqb}
 use lib.ListN.{length}
 use Rattle.definitions.specs.Lists.{member}
-use Rattle.definitions.specs.Reply.{done, noMatch, refusal, refused, numberOf, numberIn}
+use Rattle.definitions.specs.Reply.{done, noMatch, refusalAt, refused, numberOf, numberIn}
 use Rattle.definitions.specs.Graph.{Graph, graphOf, SoundGraph}
 use Rattle.definitions.specs.Rule.{sourceCount, Rule, ruleOf, SoundRule}
 use Rattle.definitions.specs.Match.{MatchFrom, outputImages, NotAfter, leastMatch}
@@ -48,7 +48,7 @@ module _ (graph rule : List ℕ) (start : ℕ) (before : List ℕ) where
   -- the search's own numbers
   own-number : (member (numberOf (matched graph rule start before .reply)) blockNumbers ≡ false)
       × (numberOf (matched graph rule start before .reply) < 2 ^ 8)
-  unfolding refusal numberOf member
+  unfolding refusalAt numberOf member
   own-number =
       ⊎-elim (λ (e : leastMatch g r start ≡ none). rw (none-matched e) (refl, omega arith))
       (λ (f : (images : List ℕ) × (leastMatch g r start ≡ some images)). rw (found-matched (f .0) (f .1)) (refl, omega arith))
@@ -72,8 +72,9 @@ module _ (graph rule : List ℕ) (start : ℕ) (before : List ℕ) where
     module _ (good : Good graph rule before) where
       none-ends : leastMatch g r start ≡ none → (numberIn reply ≡ noMatch) × (graphAfter ≡ graph) × (after ≡ before)
       none-ends e =
-          let end = Blocks.refused-ends staged contract noMatch (omega arith) (Blocks.passed staged contract good ∙ none-matched e) in
-          (end .number, end .keptGraph, end .keptMap)
+          let end = Blocks.refused-ends staged contract (record { number = omega arith; place = omega arith })
+          (Blocks.passed staged contract good ∙ none-matched e) in
+          (end .says .number, end .keptGraph, end .keptMap)
 
       found-ends : (images : List ℕ) → leastMatch g r start ≡ some images
           → (numberIn reply ≡ 0) × (graphAfter ≡ graph) × (after ≡ mapBlock images)
@@ -81,7 +82,7 @@ module _ (graph rule : List ℕ) (start : ℕ) (before : List ℕ) where
       found-ends images e =
           let pass = Blocks.passes staged contract good in
           let same = found-matched images e in (
-            pass .number ∙ ap (λ (o : Outcome). numberOf (o .reply)) same,
+            pass .says .number ∙ ap (λ (o : Outcome). numberOf (o .reply)) same,
             pass .leftGraph ∙ ap (λ (o : Outcome). o .graph) same,
             pass .leftMap ∙ ap (λ (o : Outcome). o .map) same,
           )
@@ -145,7 +146,7 @@ module _ (graph rule : List ℕ) (start : ℕ) (before : List ℕ) where
     none-every size sound soundRule never =
         none-ends (size, sound, soundRule) (none-found g r (sound-fixing rule soundRule) start never) .0
 
-    -- a call is refused with one of 1 to 4, and then every byte is as it came, or it is done, and the graph is as it came
+    -- a call is refused, and then every byte is as it came, or it is done, and the graph is as it came
     abbrev Ended : Type 0
     Ended = (graphAfter ≡ graph) × (member (numberIn reply) matchNumbers ≡ true) × ((numberIn reply ≡ 0) ⊎ (after ≡ before))
 
@@ -163,9 +164,9 @@ module _ (graph rule : List ℕ) (start : ℕ) (before : List ℕ) where
         (end .1, rw (end .0) refl, inl (end .0)))
         (option-either (leastMatch g r start)))
 
-    -- Matching gives 0 to 4.
-    pub one-of-five : member (numberIn reply) matchNumbers ≡ true
-    one-of-five = ended .1
+    -- Matching gives no other number than these.
+    pub listed : member (numberIn reply) matchNumbers ≡ true
+    listed = ended .1
 
     -- ---- what is written
 
@@ -200,7 +201,7 @@ module _ (graph rule : List ℕ) (start : ℕ) (before : List ℕ) where
       blocks = Blocks.block-replies staged contract;
       done = (λ h. let d = done-only h in ((d .0, d .1, d .2), d .3), λ w. done-every (w .0 .0) (w .0 .1) (w .0 .2) (w .1 .0) (w .1 .1));
       none = (λ h. let d = none-only h in ((d .0, d .1, d .2), d .3), λ w. none-every (w .0 .0) (w .0 .1) (w .0 .2) (w .1));
-      oneOfFive = one-of-five;
+      listed = listed;
       graphKept = graph-unchanged;
       refusalKeeps = unchanged;
       written = written;

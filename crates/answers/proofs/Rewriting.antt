@@ -1,20 +1,19 @@
 -- What the replies to a request for a rewriting mean, for the C side: theorems from the contract of lg_rewrite alone.
 -- Assumes nothing.
-use mathlib.Core.Path.{_≡_, refl, sym, ap, _∙_, subst}
-use mathlib.Core.Bool.{true, false, not, or-true}
+use mathlib.Core.Path.{_≡_, refl, sym, _∙_, subst}
+use mathlib.Core.Bool.{true, false, or-true}
 use mathlib.Core.List.{List, [], _∷_}
 use mathlib.Core.Logic.{⊎-elim}
 use mathlib.Core.Option.{none, some}
 use Prim.Native.Nat.{ℕ, _<_, _^_}
 use native.Mathlib.Omega.{arith}
-use borrow.Author.Tests.{not-false}
 use lib.Dec.{eqb}
 use lib.IntN.{ℤ}
 use lib.ListN.{length}
 use Rattle.definitions.specs.Lists.{member}
 use Rattle.definitions.specs.Paths.{Acyclic}
 use Rattle.definitions.specs.Reply as Reply
-use Rattle.definitions.specs.Reply.{noMatch, noResult, noRoom, newCycle, refusal, refused, numberOf, numberIn}
+use Rattle.definitions.specs.Reply.{noMatch, noResult, noRoom, newCycle, refusalAt, refusal, refused, numberOf, numberIn}
 use Rattle.definitions.specs.Graph.{Graph, graphOf, inputsOf, graphBlock, hasCycle, SoundGraph}
 use Rattle.definitions.specs.Rule.{sourceCount, Rule, ruleOf, SoundRule}
 use Rattle.definitions.specs.Match.{readAttribute, Match, MatchFrom, outputImages, NotAfter, LeastFrom, leastMatch}
@@ -24,10 +23,11 @@ use Rattle.laws.proofs.Lists.{decided, true-not-false, option-either}
 use Rattle.laws.proofs.Members.{member-left}
 use Rattle.laws.proofs.Reply.{Plain, plain-done, plain-refused}
 use Rattle.laws.proofs.Rewriting.{rewritten-unfit, rewritten-full, rewritten-cyclic, rewritten-done}
-use Rattle.theory.proofs.Paths.{Table, acyclic-sound, acyclic-complete}
+use Rattle.theory.proofs.Paths.{Table}
 use Rattle.theory.proofs.Results.{named-table}
 use Rattle.theory.proofs.Fixing.{sound-fixing}
 use Rattle.theory.proofs.Least.{none-left, search-least}
+use Rattle.reachability.proofs.Cycles as cycles
 use Rattle.replacement.proofs.Site.{Site, site}
 use Rattle.replacement.proofs.Table.{new-inputs}
 use Rattle.answers.specs.Written.{imagesIn}
@@ -48,12 +48,10 @@ module _ (g : Graph) (r : Rule) (images : List ℕ) (values : List (List ℤ)) (
   new-slots = named-table (newGraph g r images values) (new-inputs g r images values at)
 
   pub free-acyclic : hasCycle (newGraph g r images values) ≡ false → Acyclic (inputsOf (newGraph g r images values))
-  unfolding hasCycle
-  free-acyclic h = acyclic-sound new-slots (not-false _ h)
+  free-acyclic h = cycles.free-acyclic (newGraph g r images values) new-slots h
 
   acyclic-free : Acyclic (inputsOf (newGraph g r images values)) → hasCycle (newGraph g r images values) ≡ false
-  unfolding hasCycle
-  acyclic-free acyclic = ap not (acyclic-complete new-slots acyclic)
+  acyclic-free acyclic = cycles.acyclic-free (newGraph g r images values) new-slots acyclic
 
 -- ---- what good blocks come to, in document 01's order
 
@@ -166,7 +164,7 @@ module _ (graph rule : List ℕ) (start : ℕ) (before : List ℕ) where
   reason-number (cyclic images values least have h c) = (record { own = refl; listed = refl; small = omega arith }, λ z. omega arith)
 
   outcome-number : {o : Outcome} → Tested o → OwnNumber (numberOf (o .reply))
-  unfolding refusal numberOf member
+  unfolding refusalAt numberOf member
   outcome-number (refusing n why) = reason-number why .0
   outcome-number (done images values least have h c) = record { own = refl; listed = refl; small = omega arith }
 
@@ -186,7 +184,7 @@ module _ (graph rule : List ℕ) (start : ℕ) (before : List ℕ) where
       × (graphAfter ≡ graphBlock (new images values)) × (hasRoom g r images ≡ true) × (hasCycle (new images values) ≡ false)
 
   outcome-leaves : {o : Outcome} → Tested o → numberOf (o .reply) ≡ 0 → Leaves (o .graph) (o .map)
-  unfolding refusal numberOf
+  unfolding refusalAt numberOf
   outcome-leaves (refusing n why) z = absurd (reason-number why .1 z)
   outcome-leaves (done images values least have h c) z = (images, values, least, have, refl, refl, h, c)
 
@@ -211,7 +209,7 @@ module _ (graph rule : List ℕ) (start : ℕ) (before : List ℕ) where
         (λ acyclic. true-not-false c (acyclic-free g r images values (at-match images least h) acyclic))
 
     outcome-due : {o : Outcome} → Tested o → Due g r start (numberOf (o .reply))
-    unfolding refusal numberOf
+    unfolding refusalAt numberOf
     outcome-due (refusing n why) = reason-due why
     outcome-due (done images values least have h c) =
         Due.done images values (is-least images least) (some-fit g r images values have) have (room-enough g r images (is-match images least) h)
@@ -245,9 +243,9 @@ module _ (graph rule : List ℕ) (start : ℕ) (before : List ℕ) (reply : ℕ)
   -- at the return from a call on good blocks
   ends : Good graph rule before → (numberIn reply ≡ numberOf (rest graph rule start before .reply))
       × (graphAfter ≡ rest graph rule start before .graph) × (after ≡ rest graph rule start before .map)
-  ends blocks = let pass = Blocks.passes stages met blocks in (pass .number, pass .leftGraph, pass .leftMap)
+  ends blocks = let pass = Blocks.passes stages met blocks in (pass .says .number, pass .leftGraph, pass .leftMap)
 
-  -- Replies 1 to 3 are given exactly where they are due.
+  -- The replies about the blocks are given exactly where they are due.
   pub block-replies : BlockReplies graph rule before reply
   block-replies = Blocks.block-replies stages met
 
@@ -272,10 +270,10 @@ module _ (graph rule : List ℕ) (start : ℕ) (before : List ℕ) (reply : ℕ)
   replied size sound soundRule n is =
       due-one (graphOf graph) (ruleOf rule) (sound-fixing rule soundRule) start (numberIn reply) n (due size sound soundRule) is
 
-  -- Rewriting gives 0 to 7.
-  pub one-of-eight : member (numberIn reply) rewriteNumbers ≡ true
+  -- Rewriting gives no other number than these.
+  pub listed : member (numberIn reply) rewriteNumbers ≡ true
   unfolding member
-  one-of-eight =
+  listed =
       Blocks.by-blocks stages met (member (numberIn reply) rewriteNumbers ≡ true)
       (λ about keptGraph keptMap.
       member-left (numberIn reply) matchNumbers (noResult ∷ noRoom ∷ newCycle ∷ [])

@@ -2,7 +2,7 @@
 -- Assumes nothing.
 use mathlib.Core.Path.{_≡_, subst}
 use mathlib.Core.List.{List}
-use Prim.Native.Nat.{ℕ}
+use Prim.Native.Nat.{ℕ, _+_, _*_, _^_}
 use native.Mathlib.Omega.{arith}
 use Rattle.definitions.specs.Reply.{numberIn, placeIn, valueIn}
 use Rattle.definitions.specs.Graph.{graphOf}
@@ -10,17 +10,17 @@ use Rattle.definitions.specs.Rule.{sourceCount, ruleOf}
 use Rattle.definitions.specs.Results.{Meaning}
 use Rattle.answers.specs.Written.{imagesIn}
 use Rattle.answers.specs.Rewritten.{Due}
-use Rattle.answers.specs.Statements.{WithoutPlace, CheckedGraph, CheckedRule, Searched, Rewrote, GraphVerdict, RuleVerdict, MatchReplies, Yields, RewriteReplies, Demand3}
+use Rattle.answers.specs.Statements.{Says, CheckedGraph, CheckedRule, Searched, Rewrote, GraphVerdict, RuleVerdict, MatchReplies, Yields, RewriteReplies, Demand3}
 use Rattle.answers.proofs.Blocks.{graph-verdict, rule-verdict}
 use Rattle.answers.proofs.Matching.{match-replies}
-use Rattle.answers.proofs.Rewriting.{block-replies, due, replied, one-of-eight, refusal-keeps, written}
+use Rattle.answers.proofs.Rewriting.{block-replies, due, replied, listed, refusal-keeps, written}
 use Rattle.answers.proofs.Demands.{yields-sound, yields-table, demand-3}
 use Rattle.answers.proofs.Unchanged.{keeps-record, keeps-constant}
 
--- A reply without a place and a value is its number, so what is said of `numberIn reply` is said of all that the C side gets.
-pub whole-word : (reply : ℕ) → WithoutPlace reply → reply ≡ numberIn reply
+-- Number and place are all that the C side gets: what is said of them is said of the whole reply.
+pub whole-word : (reply n p : ℕ) → Says reply n p → reply ≡ n + 2 ^ 8 * p
 unfolding numberIn placeIn valueIn
-whole-word reply plain = omega (arith, plain .place, plain .value)
+whole-word reply n p says = omega (arith, says .number, says .place, says .value)
 
 -- lg_check_graph
 pub checked-graph : (graph : List ℕ) (reply : ℕ) → CheckedGraph graph reply → GraphVerdict graph reply
@@ -58,7 +58,7 @@ module _ (graph rule : List ℕ) (start : ℕ) (map : List ℕ) (reply : ℕ) (g
             (due graph rule start map reply graphAfter mapAfter contract (good .0) (good .1) (good .2)),
         replied graph rule start map reply graphAfter mapAfter contract (good .0) (good .1) (good .2) n,
       );
-      oneOfEight = one-of-eight graph rule start map reply graphAfter mapAfter contract;
+      listed = listed graph rule start map reply graphAfter mapAfter contract;
       refusalKeeps = refusal-keeps graph rule start map reply graphAfter mapAfter contract;
       written = written graph rule start map reply graphAfter mapAfter contract;
       yields = yielded;

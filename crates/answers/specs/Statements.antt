@@ -7,7 +7,7 @@
 use mathlib.Core.Path.{_≡_}
 use mathlib.Core.Bool.{true, false}
 use mathlib.Core.List.{List, [], _∷_, _++_}
-use mathlib.Core.Logic.{_⊎_, _↔_}
+use mathlib.Core.Logic.{_↔_}
 use mathlib.Core.Option.{some}
 use Prim.Native.Nat.{ℕ, _+_, _*_, _<_, _≤_}
 use lib.Dec.{T}
@@ -15,9 +15,10 @@ use lib.IntN.{ℤ}
 use lib.ListN.{length}
 use Rattle.definitions.specs.Lists.{member}
 use Rattle.definitions.specs.Fields.{Bytes, byteAt, u16At}
-use Rattle.definitions.specs.Reply.{badMapLength, badGraph, badRule, noMatch, noResult, noRoom, newCycle, packed, numberIn, placeIn, valueIn}
+use Rattle.definitions.specs.Reply.{badMapLength, badGraphHeader, badGraphRecord, badGraphName, graphHasCycle, badRuleHeader, badRuleRecord, badRuleOrder, badRuleOutputs, badRuleExpression, noMatch, noResult, noRoom, newCycle, packed, numberIn, placeIn, valueIn}
 use Rattle.definitions.specs.Graph.{unusedPlace, slotBytes, recordAt, graphOf, graphBlock, graphReply, SoundGraph}
 use Rattle.definitions.specs.Rule.{sourceCount, ruleOf, ruleReply, SoundRule}
+use Rattle.definitions.specs.Faults.{GraphFault, RuleFault}
 use Rattle.definitions.specs.Match.{readAttribute, MatchFrom, LeastFrom}
 use Rattle.definitions.specs.Rewriting.{targetResults, stays, redirect, newGraph}
 use Rattle.definitions.specs.Operations.{atReturn, returned, mapPlaces, mapBytes, findMatch, rewrite}
@@ -50,25 +51,39 @@ pub record Rewrote (graph rule : List ℕ) (start : ℕ) (map : List ℕ) (reply
 
 -- ==== what follows: the checks
 
--- A reply has a number, in bits 0 to 7 of what the C side gets; 0 is done. No request names a place or a value yet: both are zero.
-pub record WithoutPlace (reply : ℕ) : Type 0 where
-  pub place : placeIn reply ≡ 0
+-- The C side reads number n in bits 0 to 7 of a reply, where 0 is done, and place p in bits 8 to 39. No request names a value yet.
+pub record Says (reply n p : ℕ) : Type 0 where
+  pub number : numberIn reply ≡ n
+  pub place : placeIn reply ≡ p
   pub value : valueIn reply ≡ 0
 
--- "Checking a graph gives 0 or 2, a rule 0 or 3": 0 exactly where the block is sound, and the other exactly where it isn't.
-pub record Verdict (Sound : Type 0) (bad reply : ℕ) : Type 0 where
+-- the kinds of fault of a graph block, and of a rule block
+abbrev pub graphNumbers : List ℕ
+graphNumbers = badGraphHeader ∷ badGraphRecord ∷ badGraphName ∷ graphHasCycle ∷ []
+
+abbrev pub ruleNumbers : List ℕ
+ruleNumbers = badRuleHeader ∷ badRuleRecord ∷ badRuleOrder ∷ badRuleOutputs ∷ badRuleExpression ∷ []
+
+-- What a check says of a block, `bad` being the kinds of fault that it can have.
+pub record Verdict (Sound : Type 0) (Fault : ℕ → ℕ → Type 0) (bad : List ℕ) (reply : ℕ) : Type 0 where
+  -- 0 exactly where the block is sound
   pub done : (numberIn reply ≡ 0) ↔ Sound
-  pub refused : (numberIn reply ≡ bad) ↔ (Sound → ⊥)
-  pub either : (numberIn reply ≡ 0) ⊎ (numberIn reply ≡ bad)
-  pub plain : WithoutPlace reply
+  -- one of these numbers exactly where it isn't
+  pub refused : (member (numberIn reply) bad ≡ true) ↔ (Sound → ⊥)
+  -- "The first kind that holds anywhere is given": n with place p exactly where n is that kind and p its lowest place.
+  pub fault : (n p : ℕ) → ((member n bad ≡ true) × Says reply n p) ↔ Fault n p
+  -- no other number, no place beside 0, and never a value
+  pub either : member (numberIn reply) (0 ∷ bad) ≡ true
+  pub plain : numberIn reply ≡ 0 → placeIn reply ≡ 0
+  pub value : valueIn reply ≡ 0
 
--- follows from CheckedGraph
+-- "20 to 23 replace 2". Follows from CheckedGraph
 abbrev pub GraphVerdict : List ℕ → ℕ → Type 0
-GraphVerdict graph reply = Verdict (SoundGraph graph) badGraph reply
+GraphVerdict graph reply = Verdict (SoundGraph graph) (GraphFault graph) graphNumbers reply
 
--- follows from CheckedRule
+-- "30 to 34 replace 3". Follows from CheckedRule
 abbrev pub RuleVerdict : List ℕ → ℕ → Type 0
-RuleVerdict rule reply = Verdict (SoundRule rule) badRule reply
+RuleVerdict rule reply = Verdict (SoundRule rule) (RuleFault rule) ruleNumbers reply
 
 -- ==== what follows: matching and rewriting
 
@@ -78,19 +93,26 @@ Good graph rule map = (length map ≡ mapBytes) × SoundGraph graph × SoundRule
 
 -- the numbers that are about the lent blocks; an operation's own are none of these
 abbrev pub blockNumbers : List ℕ
-blockNumbers = badMapLength ∷ badGraph ∷ badRule ∷ []
+blockNumbers = badMapLength ∷ graphNumbers ++ ruleNumbers
 
--- "Bad ones are refused by number": replies 1 to 3, "tested in that order, the lowest that applies"
+-- "Bad ones are refused by number": 1, then the graph's faults, then the rule's, "in place and in document 01's order"
 pub record BlockReplies (graph rule map : List ℕ) (reply : ℕ) : Type 0 where
   -- "1: map buffer isn't 32 bytes"
   pub wrongMap : (numberIn reply ≡ badMapLength) ↔ (length map ≡ mapBytes → ⊥)
-  -- "2: bad graph block"
-  pub wrongGraph : (numberIn reply ≡ badGraph) ↔ ((length map ≡ mapBytes) × (SoundGraph graph → ⊥))
-  -- "3: bad rule block"
-  pub wrongRule : (numberIn reply ≡ badRule) ↔ ((length map ≡ mapBytes) × SoundGraph graph × (SoundRule rule → ⊥))
+  -- "20 to 23 replace 2": a bad graph block
+  pub wrongGraph : (member (numberIn reply) graphNumbers ≡ true) ↔ ((length map ≡ mapBytes) × (SoundGraph graph → ⊥))
+  -- "30 to 34 replace 3": a bad rule block
+  pub wrongRule : (member (numberIn reply) ruleNumbers ≡ true)
+      ↔ ((length map ≡ mapBytes) × SoundGraph graph × (SoundRule rule → ⊥))
+  -- of these, n with place p exactly where n is the first kind that holds and p its lowest place
+  pub graphFault : (n p : ℕ) → ((member n graphNumbers ≡ true) × Says reply n p) ↔ ((length map ≡ mapBytes) × GraphFault graph n p)
+  pub ruleFault : (n p : ℕ) → ((member n ruleNumbers ≡ true) × Says reply n p)
+      ↔ ((length map ≡ mapBytes) × SoundGraph graph × RuleFault rule n p)
   -- every other reply is for good blocks only
   pub good : member (numberIn reply) blockNumbers ≡ false → Good graph rule map
-  pub plain : WithoutPlace reply
+  -- "wherever no request names a place, 0"; and no request names a value yet
+  pub plain : member (numberIn reply) (graphNumbers ++ ruleNumbers) ≡ false → placeIn reply ≡ 0
+  pub value : valueIn reply ≡ 0
 
 -- "Done, in matching and in rewriting, writes the map: sixteen 16-bit numbers, 65535 from S on." The first S of them are the images.
 pub record WritesLeast (graph rule : List ℕ) (start : ℕ) (mapAfter : List ℕ) : Type 0 where
@@ -111,8 +133,8 @@ pub record MatchReplies (graph rule : List ℕ) (start : ℕ) (map : List ℕ) (
   -- "4: no match from s"
   pub none : (numberIn reply ≡ noMatch)
       ↔ (Good graph rule map × ((images : List ℕ) → MatchFrom (graphOf graph) (ruleOf rule) start images → ⊥))
-  -- "matching 0 to 4"
-  pub oneOfFive : member (numberIn reply) matchNumbers ≡ true
+  -- "matching 0 to 4", with 20 to 23 for 2 and 30 to 34 for 3
+  pub listed : member (numberIn reply) matchNumbers ≡ true
   -- "Only rewriting writes the graph." "After a refusal each lent byte is as it came."
   pub graphKept : graphAfter ≡ graph
   pub refusalKeeps : (numberIn reply ≡ 0 → ⊥) → mapAfter ≡ map
@@ -150,8 +172,8 @@ pub record RewriteReplies (graph rule : List ℕ) (start : ℕ) (map : List ℕ)
   -- "No match, an attribute without a fit result, no room and a cycle are each reported exactly when they are so and nothing earlier in
   -- document 01's order is." Done is due where none of them is so.
   pub due : Good graph rule map → (n : ℕ) → (numberIn reply ≡ n) ↔ (Due (graphOf graph) (ruleOf rule) start n)
-  -- "rewriting 0 to 7"
-  pub oneOfEight : member (numberIn reply) rewriteNumbers ≡ true
+  -- "rewriting 0 to 7", likewise
+  pub listed : member (numberIn reply) rewriteNumbers ≡ true
   -- "After a refusal each lent byte is as it came."
   pub refusalKeeps : (numberIn reply ≡ 0 → ⊥) → (graphAfter ≡ graph) × (mapAfter ≡ map)
   pub written : numberIn reply ≡ 0 → WritesLeast graph rule start mapAfter

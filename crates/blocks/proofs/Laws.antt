@@ -21,7 +21,7 @@ use Rattle.definitions.specs.Operations.{mapPlaces, mapBytes, mapBlock, mapRepl
 use Rattle.laws.proofs.Lists.{decided}
 use Rattle.laws.proofs.Padded.{length-padded, padded-at, taken-at}
 use Rattle.laws.proofs.Reply.{done-or-refused, first-all}
-use Rattle.laws.proofs.Operations.{map-plain, graph-plain, rule-plain}
+use Rattle.laws.proofs.Operations.{map-valueless, graph-valueless, rule-valueless}
 use Rattle.graph_check.proofs.Sound as GraphSound
 use Rattle.rule_check.proofs.Sound as RuleSound
 
@@ -41,7 +41,7 @@ pub map-bytes : (n : ℕ) (images : List ℕ) → length images ≡ mapPlaces �
 unfolding mapBlock
 map-bytes n images size small rest = sym (ap (concatMap u16Bytes) (filled-up n images size small rest))
 
--- ---- past replies 1 to 3
+-- ---- past the replies about the blocks
 
 map-done : (images : List ℕ) → mapReply images ≡ done → length images ≡ mapBytes
 unfolding mapReply
@@ -49,14 +49,14 @@ map-done images h =
     ⊎-elim (λ (t : eqb (length images) mapBytes ≡ true). eqb-true (length images) mapBytes t)
     (λ (t : eqb (length images) mapBytes ≡ false).
     let e : refused badMapLength ≡ done = simp t at h in
-    absurd (done-or-refused badMapLength (sym e)))
+    absurd (done-or-refused badMapLength 0 (sym e)))
     (decided (eqb (length images) mapBytes))
 
 pub blocks-done : {value : ℕ} (graph rule images : List ℕ) → blocksReply graph rule images ≡ Done value
     → (length images ≡ mapBytes) × SoundGraph graph × SoundRule rule
 unfolding blocksReply
 blocks-done graph rule images h =
-    let first = first-all (mapReply images) (graphReply graph ∷ ruleReply rule ∷ []) (map-plain images) h in
-    let second = first-all (graphReply graph) (ruleReply rule ∷ []) (graph-plain graph) (first .1) in
-    let third = first-all (ruleReply rule) [] (rule-plain rule) (second .1) in
+    let first = first-all (mapReply images) (graphReply graph ∷ ruleReply rule ∷ []) (map-valueless images) h in
+    let second = first-all (graphReply graph) (ruleReply rule ∷ []) (graph-valueless graph) (first .1) in
+    let third = first-all (ruleReply rule) [] (rule-valueless rule) (second .1) in
     (map-done images (first .0), GraphSound.only-sound graph (second .0), RuleSound.only-sound rule (third .0))

@@ -1,4 +1,4 @@
-// The blocks that a caller of matching or rewriting lends: replies 1 to 3 about them, and the bytes of the map.
+// The blocks that a caller of matching or rewriting lends: the replies about them, and the bytes of the map.
 use definitions::MAP_BYTES;
 use definitions::Reply;
 use definitions::SIDE_CAPACITY;
@@ -22,7 +22,7 @@ fn check_map(map: &[u8]) -> Reply
     Reply::Done(0)
 }
 
-// Replies 1 to 3, in that order: the map, the graph, the rule.
+// The first refusal of the map, the graph and the rule, in that order.
 pub fn check_blocks(graph: &[u8], rule: &[u8], map: &[u8]) -> Reply
     ensures { λ r. ⌜ r ≡ blocksReply (now (graph .entry)) (now (rule .entry)) (now (map .entry)) ⌝ }
 {

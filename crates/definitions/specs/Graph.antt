@@ -3,7 +3,6 @@
 use mathlib.Core.Path.{_≡_}
 use mathlib.Core.Bool.{Bool, true, false, not, _&&_, _||_}
 use mathlib.Core.List.{List, [], _∷_, _++_, List·Memᴰ}
-use mathlib.Core.Option.{Option}
 use Prim.Native.Nat.{ℕ, _+_, _-_, _*_, _<_}
 use lib.Dec.{eqb, ltb}
 use lib.IntN.{ℤ, pos, negsuc}
@@ -12,8 +11,8 @@ use Rattle.definitions.specs.declared.Reply.{Reply}
 use Rattle.definitions.specs.Lists.{within, lowest, total, tabulate, all, padded, concatMap, count}
 use Rattle.definitions.specs.Fields.{byteAt, u16At, u32At, filled, markFits, signed, u16Bytes, u32Bytes}
 use Rattle.definitions.specs.Operators.{kindEmpty, kindProj, shapeFits}
-use Rattle.definitions.specs.Paths.{Reads, Acyclic, acyclicBelow}
-use Rattle.definitions.specs.Reply.{badGraph, flag, place, judged}
+use Rattle.definitions.specs.Paths.{Reads, Acyclic, onCycle}
+use Rattle.definitions.specs.Reply.{badGraphHeader, badGraphRecord, badGraphName, graphHasCycle, Fault, fault, flag, place, judged}
 
 -- ---- sizes
 
@@ -203,22 +202,26 @@ badInputs g k = not (all (isVertex g) (inputsOf g k))
 unfoldable pub badOutput : Graph → ℕ → Bool
 badOutput g i = not (isVertex g (getD (g .outputs) i unusedPlace))
 
+-- the lowest slot on a cycle, or the number of slots where there is none
+unfoldable pub lowestOnCycle : Graph → ℕ
+lowestOnCycle g = lowest (onCycle (inputsOf g) (length (g .slots))) (length (g .slots))
+
 unfoldable pub hasCycle : Graph → Bool
-hasCycle g = not (acyclicBelow (inputsOf g) (length (g .slots)))
+hasCycle g = ltb (lowestOnCycle g) (length (g .slots))
 
 -- all kinds of fault; an output is looked at after all inputs
-unfoldable pub graphFaults : List ℕ → List (Option ℕ)
+unfoldable pub graphFaults : List ℕ → List Fault
 graphFaults block =
-    flag (not (headerFits block))
-    ∷ place (slotCount block) (lowest (badRecord block) (slotCount block))
-    ∷ place (slotCount block) (lowest (badInputs (graphOf block)) (slotCount block))
-    ∷ place (outputCount block) (lowest (badOutput (graphOf block)) (outputCount block))
-    ∷ flag (hasCycle (graphOf block))
+    fault badGraphHeader (flag (not (headerFits block)))
+    ∷ fault badGraphRecord (place (slotCount block) (lowest (badRecord block) (slotCount block)))
+    ∷ fault badGraphName (place (slotCount block) (lowest (badInputs (graphOf block)) (slotCount block)))
+    ∷ fault badGraphName (place (outputCount block) (lowest (badOutput (graphOf block)) (outputCount block)))
+    ∷ fault graphHasCycle (place (slotCount block) (lowestOnCycle (graphOf block)))
     ∷ []
 
 -- what checking a graph gives
 unfoldable pub graphReply : List ℕ → Reply
-graphReply block = judged badGraph (graphFaults block)
+graphReply block = judged (graphFaults block)
 
 -- ---- a sound graph; it is proved that the reply is done exactly for these
 

@@ -7,6 +7,7 @@ pub mod Reply
 pub mod Paths
 pub mod Graph
 pub mod Rule
+pub mod Faults
 pub mod Attributes
 pub mod Match
 pub mod Rewriting

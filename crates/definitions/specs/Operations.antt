@@ -52,7 +52,7 @@ mapBlock images = concatMap u16Bytes (padded mapPlaces unusedPlace images)
 unfoldable pub mapReply : List ℕ → Reply
 mapReply map = cond (eqb (length map) mapBytes) done (refused badMapLength)
 
--- replies 1 to 3: the lent blocks, in that order
+-- the replies about the lent blocks: 1 about the map, then the graph's faults, then the rule's
 unfoldable pub blocksReply : List ℕ → List ℕ → List ℕ → Reply
 blocksReply graph rule map = firstRefusal (mapReply map ∷ graphReply graph ∷ ruleReply rule ∷ [])
 

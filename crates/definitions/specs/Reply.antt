@@ -5,7 +5,6 @@ use mathlib.Core.Option.{Option, none, some}
 use mathlib.Core.Bool.{Bool, cond}
 use Prim.Native.Nat.{ℕ, _+_, _*_, _/_, _%_, _^_}
 use lib.Dec.{ltb}
-use Rattle.definitions.specs.declared.Place.{Place}
 use Rattle.definitions.specs.declared.Refusal.{Refusal}
 use Rattle.definitions.specs.declared.Reply.{Reply}
 use Rattle.definitions.specs.declared.Reply.the-variants.{Done, Refused}
@@ -13,11 +12,35 @@ use Rattle.definitions.specs.declared.Reply.the-variants.{Done, Refused}
 abbrev pub badMapLength : ℕ
 badMapLength = 1
 
-abbrev pub badGraph : ℕ
-badGraph = 2
+-- what is wrong with a graph block: length or header; a record against its kind; an input or output that names no vertex; a cycle
+abbrev pub badGraphHeader : ℕ
+badGraphHeader = 20
 
-abbrev pub badRule : ℕ
-badRule = 3
+abbrev pub badGraphRecord : ℕ
+badGraphRecord = 21
+
+abbrev pub badGraphName : ℕ
+badGraphName = 22
+
+abbrev pub graphHasCycle : ℕ
+graphHasCycle = 23
+
+-- what is wrong with a rule block: length or header; a record, with its input places; visiting order; outputs and connection; an
+-- expression
+abbrev pub badRuleHeader : ℕ
+badRuleHeader = 30
+
+abbrev pub badRuleRecord : ℕ
+badRuleRecord = 31
+
+abbrev pub badRuleOrder : ℕ
+badRuleOrder = 32
+
+abbrev pub badRuleOutputs : ℕ
+badRuleOutputs = 33
+
+abbrev pub badRuleExpression : ℕ
+badRuleExpression = 34
 
 abbrev pub noMatch : ℕ
 noMatch = 4
@@ -35,15 +58,19 @@ newCycle = 7
 abbrev pub done : Reply
 done = Done 0
 
--- no request names a place yet, nor a value beside it
-unfoldable pub noPlace : Place
-noPlace = record { index = 0; value = 0 }
+-- no request names a value beside the place yet
+unfoldable pub refusalAt : ℕ → ℕ → Refusal
+refusalAt number index = record { number = number; place = record { index = index; value = 0 } }
 
-unfoldable pub refusal : ℕ → Refusal
-refusal number = record { number = number; place = noPlace }
+abbrev pub refusedAt : ℕ → ℕ → Reply
+refusedAt number index = Refused (refusalAt number index)
+
+-- "wherever no request names a place, 0"
+abbrev pub refusal : ℕ → Refusal
+refusal number = refusalAt number 0
 
 abbrev pub refused : ℕ → Reply
-refused number = Refused (refusal number)
+refused number = refusedAt number 0
 
 -- the paper's number for each case, the place, and the value of done or beside the place
 unfoldable pub numberOf : Reply → ℕ
@@ -76,8 +103,12 @@ placeIn word = word / 2 ^ 8 % 2 ^ 32
 unfoldable pub valueIn : ℕ → ℕ
 valueIn word = word / 2 ^ 40
 
--- A block's faults are listed by kind, in document 01's order; each kind has the lowest place with that fault, or none.
--- Such a fault without a place counts as at 0.
+-- A block's faults are listed by kind, in document 01's order. Each kind has its number, and the lowest place with that fault, or none
+-- where no place has it.
+pub data Fault : Type 0 where
+  fault : ℕ → Option ℕ → Fault
+
+-- a fault for which no request names a place: it counts as at 0
 unfoldable pub flag : Bool → Option ℕ
 flag holds = cond holds (some 0) none
 
@@ -85,12 +116,11 @@ flag holds = cond holds (some 0) none
 unfoldable pub place : ℕ → ℕ → Option ℕ
 place n found = cond (ltb found n) (some found) none
 
--- The reply for a list of faults: the first kind that holds refuses. For now the kinds are not told apart: one number
--- stands for all of them, and the place is zero.
-unfoldable pub judged : ℕ → List (Option ℕ) → Reply
-judged number [] = done
-judged number (none ∷ faults) = judged number faults
-judged number (some at ∷ faults) = refused number
+-- The reply for a list of faults: "the first kind that holds anywhere is given", with its place.
+unfoldable pub judged : List Fault → Reply
+judged [] = done
+judged (fault number none ∷ faults) = judged faults
+judged (fault number (some at) ∷ faults) = refusedAt number at
 
 -- the first refusal of a list of replies, or done
 unfoldable pub firstRefusal : List Reply → Reply

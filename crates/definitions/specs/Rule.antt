@@ -3,18 +3,17 @@
 use mathlib.Core.Path.{_≡_}
 use mathlib.Core.Bool.{Bool, true, false, cond, not, _&&_, _||_}
 use mathlib.Core.List.{List, [], _∷_, _++_, List·Memᴰ}
-use mathlib.Core.Option.{Option}
 use Prim.Native.Nat.{ℕ, zero, suc, _+_, _-_, _*_, _<_}
 use lib.Dec.{eqb, ltb, leb}
 use lib.IntN.{ℤ}
 use lib.ListN.{length, getD}
 use Rattle.definitions.specs.declared.Reply.{Reply}
-use Rattle.definitions.specs.Lists.{within, allBelow, anyBelow, lowest, tabulate, build, all, any, foldl, allPairs, member, distinct, range}
+use Rattle.definitions.specs.Lists.{within, allBelow, anyBelow, lowest, tabulate, build, all, any, foldl, member, distinct, range}
 use Rattle.definitions.specs.Fields.{byteAt, u16At, u32At, filled, markFits, signed}
 use Rattle.definitions.specs.Operators.{kindEmpty, kindVariable, kindCall, kindProj, shapeFits}
 use Rattle.definitions.specs.Graph.{attributeLimit}
 use Rattle.definitions.specs.Paths.{Reaches}
-use Rattle.definitions.specs.Reply.{badRule, flag, place, judged}
+use Rattle.definitions.specs.Reply.{badRuleHeader, badRuleRecord, badRuleOrder, badRuleOutputs, badRuleExpression, Fault, fault, flag, place, judged}
 
 -- ---- sizes
 
@@ -257,8 +256,9 @@ visit r (suc d) done v =
 unfoldable pub traversal : Rule → List ℕ
 traversal r = foldl (visit r (length (r .source))) [] (r .sourceOutputs)
 
-unfoldable pub inVisitingOrder : Rule → Bool
-inVisitingOrder r = allPairs eqb (traversal r) (range 0 (length (r .source)))
+-- the j-th visited vertex is not j, or the traversal ends before it; no source vertex has the number S
+unfoldable pub outOfOrder : Rule → ℕ → Bool
+outOfOrder r j = not (eqb (getD (traversal r) j (length (r .source))) j)
 
 -- What computes "source vertex v reaches w", for every w: built from the lowest w up, since inputs are lower. It is proved that
 -- this is a path.
@@ -336,22 +336,31 @@ badUse block v =
     not (allBelow (λ i. useFits block v (byteAt block (vertexAt v + 10 + i))) (byteAt block (vertexAt v + 3)))
 
 -- all kinds of fault, of a block with at most `limit` vertices a side; nodes are looked at before their uses
-unfoldable pub ruleFaults : ℕ → List ℕ → List (Option ℕ)
+unfoldable pub ruleFaults : ℕ → List ℕ → List Fault
 ruleFaults limit block =
     let vertices = sourceCount block + targetCount block in
-    flag (not (ruleHeaderFits limit block))
-    ∷ place vertices (lowest (badVertex block) vertices)
-    ∷ flag (not (inVisitingOrder (ruleOf block)))
-    ∷ flag (not (outputsFit (ruleOf block)))
-    ∷ place (nodeCount block) (lowest (badNode block) (nodeCount block))
-    ∷ place vertices (lowest (badUse block) vertices)
+    fault badRuleHeader (flag (not (ruleHeaderFits limit block)))
+    ∷ fault badRuleRecord (place vertices (lowest (badVertex block) vertices))
+    ∷ fault badRuleOrder (place (sourceCount block) (lowest (outOfOrder (ruleOf block)) (sourceCount block)))
+    ∷ fault badRuleOutputs (flag (not (outputsFit (ruleOf block))))
+    ∷ fault badRuleExpression (place (nodeCount block) (lowest (badNode block) (nodeCount block)))
+    ∷ fault badRuleExpression (place vertices (lowest (badUse block) vertices))
     ∷ []
 
 -- what checking a rule gives
 unfoldable pub ruleReply : List ℕ → Reply
-ruleReply block = judged badRule (ruleFaults sideLimit block)
+ruleReply block = judged (ruleFaults sideLimit block)
 
 -- ---- a sound rule; it is proved that the reply is done exactly for these
+
+-- 'Outputs and connection, with unnamed rule inputs, unused target vertices and bad target outputs'
+pub record GoodOutputs (block : List ℕ) : Type 0 where
+  pub source : sourceOutputsFit (ruleOf block) ≡ true
+  -- with two outputs some source vertex reaches both, and with one it reaches itself
+  pub connection : (v : ℕ) × (v < sourceCount block)
+      × ((o : ℕ) → List·Memᴰ o (ruleOf block .sourceOutputs) → Reaches (sourceInputs (ruleOf block)) v o)
+  pub target : all (originFits (ruleOf block) (targetCount block)) (ruleOf block .targetOutputs) ≡ true
+  pub names : allNamed (ruleOf block) ≡ true
 
 -- The paper's sentences and no tests are: order ("in the visiting order of 002's traversal from the listed outputs", the traversal being
 -- the function above) and connection ("some source vertex reaches both", by a path). The other parts are the tests above, for each
@@ -362,12 +371,7 @@ pub record SoundWithin (limit : ℕ) (block : List ℕ) : Type 0 where
   pub lowerInputs : (j : ℕ) → j < sourceCount block → sourceInputsFit (ruleOf block) j ≡ true
   pub namedInputs : (t : ℕ) → t < targetCount block → targetInputsFit (ruleOf block) t ≡ true
   pub order : traversal (ruleOf block) ≡ range 0 (sourceCount block)
-  pub outputs : sourceOutputsFit (ruleOf block) ≡ true
-  -- with two outputs some source vertex reaches both, and with one it reaches itself
-  pub connection : (v : ℕ) × (v < sourceCount block)
-      × ((o : ℕ) → List·Memᴰ o (ruleOf block .sourceOutputs) → Reaches (sourceInputs (ruleOf block)) v o)
-  pub namedOutputs : all (originFits (ruleOf block) (targetCount block)) (ruleOf block .targetOutputs) ≡ true
-  pub names : allNamed (ruleOf block) ≡ true
+  pub outputs : GoodOutputs block
   pub nodes : (k : ℕ) → k < nodeCount block → nodeFits block k ≡ true
   pub uses : (v i : ℕ) → v < sourceCount block + targetCount block → i < byteAt block (vertexAt v + 3)
       → useFits block v (byteAt block (vertexAt v + 10 + i)) ≡ true

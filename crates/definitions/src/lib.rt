@@ -94,7 +94,7 @@ pub const MAP_PLACES: usize = 16;
 
 pub const MAP_BYTES: usize = 2 * MAP_PLACES;
 
-// Where a refusal's fault lies, and a value beside it, a count or a reason. Both are zero for now.
+// Where a refusal's fault lies, and a value beside it, a count or a reason, which is zero for now.
 pub struct Place {
     pub index: u32,
     pub value: u32,

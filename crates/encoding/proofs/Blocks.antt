@@ -12,7 +12,7 @@ use lib.ListN.{length, getD, List·getD-eq-default}
 use Rattle.definitions.specs.Fields.{byteAt, signed, filled}
 use Rattle.definitions.specs.Operators.{kindEmpty, kindProj, shapeFits}
 use Rattle.definitions.specs.Paths.{Acyclic}
-use Rattle.definitions.specs.Graph.{headerBytes, slotBytes, tailOffset, slotLimit, outputLimit, inputLimit, attributeLimit, unusedPlace, slotCount, recordAt, Slot, Graph, emptySlot, slotFrom, graphOf, slotOf, inputsOf, isVertex, slotTail, recordBlock, recordsBlock, headerBlock, graphBlock, atLeastOne, hasCycle, SoundGraph}
+use Rattle.definitions.specs.Graph.{headerBytes, slotBytes, tailOffset, slotLimit, outputLimit, inputLimit, attributeLimit, unusedPlace, slotCount, recordAt, Slot, Graph, emptySlot, slotFrom, graphOf, slotOf, inputsOf, isVertex, slotTail, recordBlock, recordsBlock, headerBlock, graphBlock, atLeastOne, lowestOnCycle, hasCycle, SoundGraph}
 use Rattle.laws.proofs.Lists.{decided, and-left, and-right}
 use Rattle.laws.proofs.Members.{mem-at}
 use Rattle.laws.proofs.Operators.{few-inputs, few-attributes}
@@ -188,7 +188,7 @@ module _ (g : Graph) (table : Table g) where
 
   -- and a cycle is one of both or of none
   pub block-cycle : hasCycle (graphOf (graphBlock g)) ≡ hasCycle g
-  unfolding hasCycle
+  unfolding hasCycle lowestOnCycle
   block-cycle =
       let same : inputsOf (graphOf (graphBlock g)) ≡ inputsOf g = fun-ext block-inputs in
       let size : length (graphOf (graphBlock g) .slots) ≡ length (g .slots) = length-slots (graphBlock g) ∙ block-slots in

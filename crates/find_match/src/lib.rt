@@ -1,4 +1,4 @@
-// Finding a match in lent blocks: replies 0 to 4 in order, and the map of the least match where there is one.
+// Finding a match in lent blocks: the replies about the blocks, then 4, and the map of the least match where there is one.
 use blocks::check_blocks;
 use blocks::write_map;
 use definitions::Reply;

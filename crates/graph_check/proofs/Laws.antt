@@ -10,8 +10,8 @@ use lib.ListN.{length, getD}
 use Rattle.definitions.specs.Lists.{lowest, all}
 use Rattle.definitions.specs.Fields.{byteAt}
 use Rattle.definitions.specs.Operators.{shapeFits}
-use Rattle.definitions.specs.Reply.{done, badGraph, refused, flag, place, judged}
-use Rattle.definitions.specs.Graph.{unusedPlace, slotCount, outputCount, recordAt, Slot, graphOf, inputsOf, isVertex, headerFits, recordFits, badRecord, badInputs, badOutput, hasCycle, graphFaults, graphReply}
+use Rattle.definitions.specs.Reply.{badGraphHeader, badGraphRecord, badGraphName, graphHasCycle, done, refusedAt, refused, flag, place, judged}
+use Rattle.definitions.specs.Graph.{unusedPlace, slotCount, outputCount, recordAt, Slot, graphOf, inputsOf, isVertex, headerFits, recordFits, badRecord, badInputs, badOutput, lowestOnCycle, graphFaults, graphReply}
 use Rattle.laws.proofs.Lists.{lowest-passed, all-at}
 use Rattle.laws.proofs.Graph.{vertex-inside, length-slots, slot-of, length-inputs, length-attributes, header-size, few-slots, few-outputs, record-shape}
 use Rattle.laws.proofs.Operators.{few-inputs, few-attributes}
@@ -54,33 +54,36 @@ module _ (block : List ℕ) where
         (all-at (isVertex (graphOf block)) unusedPlace (inputsOf (graphOf block) k) i good m));
   }
 
-  -- ---- the reply, fault by fault: each kind refuses once those before it do not
+  -- ---- the reply, fault by fault: each kind refuses, with its place, once those before it do not
 
-  pub refused-header : headerFits block ≡ false → refused badGraph ≡ graphReply block
+  pub refused-header : headerFits block ≡ false → refused badGraphHeader ≡ graphReply block
   unfolding graphReply graphFaults flag judged
   refused-header h = simp h
 
   module _ (header : headerFits block ≡ true) where
-    pub refused-record : lowest (badRecord block) (slotCount block) < slotCount block → refused badGraph ≡ graphReply block
+    pub refused-record : lowest (badRecord block) (slotCount block) < slotCount block
+        → refusedAt badGraphRecord (lowest (badRecord block) (slotCount block)) ≡ graphReply block
     unfolding graphReply graphFaults flag place judged
     refused-record l = simp (header, lt-ltb _ _ l)
 
     module _ (records : slotCount block ≤ lowest (badRecord block) (slotCount block)) where
-      pub refused-input : lowest (badInputs (graphOf block)) (slotCount block) < slotCount block → refused badGraph ≡ graphReply block
+      pub refused-input : lowest (badInputs (graphOf block)) (slotCount block) < slotCount block
+          → refusedAt badGraphName (lowest (badInputs (graphOf block)) (slotCount block)) ≡ graphReply block
       unfolding graphReply graphFaults flag place judged
       refused-input l = simp (header, le-ltb _ _ records, lt-ltb _ _ l)
 
       module _ (inputs : slotCount block ≤ lowest (badInputs (graphOf block)) (slotCount block)) where
         pub refused-output : lowest (badOutput (graphOf block)) (outputCount block) < outputCount block
-            → refused badGraph ≡ graphReply block
+            → refusedAt badGraphName (lowest (badOutput (graphOf block)) (outputCount block)) ≡ graphReply block
         unfolding graphReply graphFaults flag place judged
         refused-output l = simp (header, le-ltb _ _ records, le-ltb _ _ inputs, lt-ltb _ _ l)
 
         module _ (outputs : outputCount block ≤ lowest (badOutput (graphOf block)) (outputCount block)) where
-          pub refused-cycle : hasCycle (graphOf block) ≡ true → refused badGraph ≡ graphReply block
+          pub refused-cycle : lowestOnCycle (graphOf block) < slotCount block
+              → refusedAt graphHasCycle (lowestOnCycle (graphOf block)) ≡ graphReply block
           unfolding graphReply graphFaults flag place judged
-          refused-cycle t = simp (header, le-ltb _ _ records, le-ltb _ _ inputs, le-ltb _ _ outputs, t)
+          refused-cycle l = simp (header, le-ltb _ _ records, le-ltb _ _ inputs, le-ltb _ _ outputs, lt-ltb _ _ l)
 
-          pub sound : hasCycle (graphOf block) ≡ false → done ≡ graphReply block
+          pub sound : slotCount block ≤ lowestOnCycle (graphOf block) → done ≡ graphReply block
           unfolding graphReply graphFaults flag place judged
-          sound f = simp (header, le-ltb _ _ records, le-ltb _ _ inputs, le-ltb _ _ outputs, f)
+          sound l = simp (header, le-ltb _ _ records, le-ltb _ _ inputs, le-ltb _ _ outputs, le-ltb _ _ l)

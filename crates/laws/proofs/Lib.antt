@@ -1,4 +1,5 @@
 pub mod Lists
+pub mod Faults
 pub mod Tests
 pub mod Graph
 pub mod Rule
@@ -19,4 +20,5 @@ pub mod Rewriting
 pub mod Parts
 pub mod Operations
 pub mod Sums
+pub mod Tallies
 pub mod Counts

@@ -26,6 +26,10 @@ true-not-false {b} t f = false≢true (sym f ∙ t)
 pub fails : {b : Bool} → (b ≡ true → ⊥) → b ≡ false
 fails {b} h = ⊎-elim (λ (t : b ≡ true). absurd (h t)) (λ (t : b ≡ false). t) (decided b)
 
+-- a test that cannot fail holds
+pub passes : {b : Bool} → (b ≡ false → ⊥) → b ≡ true
+passes {b} h = ⊎-elim (λ (t : b ≡ true). t) (λ (t : b ≡ false). absurd (h t)) (decided b)
+
 -- an option is none, or it is some value
 pub option-either : {A : Type 0} (o : Option A) → (o ≡ none) ⊎ ((a : A) × (o ≡ some a))
 option-either none = inl refl
@@ -125,6 +129,17 @@ module _ (p : ℕ → Bool) where
       (decided (ltb i n))
 
   -- what a search passed
+  pub lowest-holds : (n : ℕ) → lowest p n < n → p (lowest p n) ≡ true
+  unfolding lowest
+  lowest-holds zero l = absurd (not-suc-le-zero l)
+  lowest-holds (suc n) l = ⊎-elim
+      (λ (t : ltb (lowest p n) n ≡ true). simp t (lowest-holds n (ltb-true (lowest p n) n t)))
+      (λ (t : ltb (lowest p n) n ≡ false). ⊎-elim
+      (λ (s : p n ≡ true). simp (t, s))
+      (λ (s : p n ≡ false). let z : suc n < suc n = simp (t, s) at l in absurd (omega arith))
+      (decided (p n)))
+      (decided (ltb (lowest p n) n))
+
   pub lowest-passed : (n k : ℕ) → k < lowest p n → p k ≡ false
   unfolding lowest
   lowest-passed zero k h = absurd (not-suc-le-zero h)
@@ -182,6 +197,15 @@ module _ {ℓ} {A : Type ℓ} (p : A → Bool) where
   unfolding all
   all-member h (List·Memᴰ·head {x = y} {xs = ys} e) = ap p e ∙ and-left (p y) (all p ys) h
   all-member h (List·Memᴰ·tail {x = y} {xs = ys} m) = all-member (and-right (p y) (all p ys) h) m
+
+  -- it fails of some member
+  pub all-some : (xs : List A) → all p xs ≡ false → (x : A) × List·Memᴰ x xs × (p x ≡ false)
+  unfolding all
+  all-some [] h = absurd (true-not-false refl h)
+  all-some (x ∷ xs) h = ⊎-elim
+      (λ (t : p x ≡ true). let s = all-some xs (simp t at h) in (s .0, List·Memᴰ·tail (s .1), s .2))
+      (λ (t : p x ≡ false). (x, List·Memᴰ·head refl, t))
+      (decided (p x))
 
   pub all-members : (xs : List A) → ((x : A) → List·Memᴰ x xs → p x ≡ true) → all p xs ≡ true
   unfolding all

@@ -2,7 +2,7 @@
 -- Assumes nothing.
 use mathlib.Core.Path.{_≡_, refl, sym, ap, _∙_, subst}
 use mathlib.Core.Bool.{Bool, true, false, not, or-true, false≢true}
-use mathlib.Core.List.{List, [], _∷_, _++_, map, List·Memᴰ, List·Memᴰ·head, List·Memᴰ·tail, List·Memᴰ·not-nil, Memᴰ·append-left, Memᴰ·append-right, List·Memᴰ·append-cases}
+use mathlib.Core.List.{List, [], _∷_, _++_, map, List·Memᴰ, List·Memᴰ·head, List·Memᴰ·tail, List·Memᴰ·not-nil, List·Memᴰ·eq-of-singleton, Memᴰ·append-left, Memᴰ·append-right, List·Memᴰ·append-cases}
 use mathlib.Core.Logic.{⊎-elim}
 use Prim.Native.Nat.{ℕ, zero, suc, _+_, _-_, _<_, _≤_}
 use native.Mathlib.Nat.{not-suc-le-zero, le-of-suc-le-suc}
@@ -100,6 +100,18 @@ distinct-places (x ∷ xs) d (suc i) zero h k l e =
     (not-true (member x xs) (and-left (not (member x xs)) (distinct xs) h)))
 distinct-places (x ∷ xs) d (suc i) (suc j) h k l e =
     ap suc (distinct-places xs d i j (and-right (not (member x xs)) (distinct xs) h) (le-of-suc-le-suc k) (le-of-suc-le-suc l) e)
+
+-- a new element after the others
+pub distinct-last : (xs : List ℕ) (v : ℕ) → distinct xs ≡ true → (List·Memᴰ v xs → ⊥) → distinct (xs ++ v ∷ []) ≡ true
+unfolding distinct member
+distinct-last [] v d new = refl
+distinct-last (x ∷ xs) v d new =
+    let others : member x xs ≡ false = not-true (member x xs) (and-left (not (member x xs)) (distinct xs) d) in
+    let apart : member x (xs ++ v ∷ []) ≡ false = no-member x (xs ++ v ∷ []) (λ m. ⊎-elim
+    (λ (k : List·Memᴰ x xs). true-not-false (mem-member k) others)
+    (λ (k : List·Memᴰ x (v ∷ [])). new (List·Memᴰ·head (sym (List·Memᴰ·eq-of-singleton k))))
+    (List·Memᴰ·append-cases xs m)) in
+    simp (apart, distinct-last xs v (and-right (not (member x xs)) (distinct xs) d) (λ m. new (List·Memᴰ·tail m)))
 
 pub places-distinct : (xs : List ℕ) (d : ℕ)
     → ((i j : ℕ) → i < length xs → j < length xs → getD xs i d ≡ getD xs j d → i ≡ j) → distinct xs ≡ true

@@ -1,4 +1,4 @@
--- No request names a place or a value yet: every reply of matching and of rewriting is without them.
+-- No request names a value yet: every reply is without one. The replies that are not about a lent block are without a place, too.
 -- Assumes nothing.
 use mathlib.Core.Path.{_≡_, refl, subst}
 use mathlib.Core.Bool.{Bool, true, false, cond}
@@ -12,43 +12,44 @@ use lib.ListN.{length}
 use Rattle.definitions.specs.declared.Refusal.{Refusal}
 use Rattle.definitions.specs.declared.Reply.{Reply}
 use Rattle.definitions.specs.declared.Reply.the-variants.{Done, Refused}
-use Rattle.definitions.specs.Reply.{done, badMapLength, badGraph, badRule, noMatch, noResult, noRoom, newCycle, refusal, refused, firstRefusal}
+use Rattle.definitions.specs.Reply.{done, badMapLength, noMatch, noResult, noRoom, newCycle, refusalAt, refusal, refused, firstRefusal}
 use Rattle.definitions.specs.Graph.{Graph, graphOf, hasCycle, graphFaults, graphReply}
 use Rattle.definitions.specs.Rule.{sideLimit, Rule, ruleOf, ruleFaults, ruleReply}
 use Rattle.definitions.specs.Match.{readAttribute, leastMatch}
 use Rattle.definitions.specs.Rewriting.{targetResults, hasRoom, newGraph}
 use Rattle.definitions.specs.Operations.{mapBytes, mapReply, blocksReply, matched, findMatch, Rewritten, accepted, turnedDown, rewrittenWith, rewritten, replaced, rewrite}
-use Rattle.laws.proofs.Reply.{Plain, plain-done, plain-refused, judged-plain}
+use Rattle.laws.proofs.Reply.{Valueless, Plain, plain-done, plain-refused, refused-valueless, judged-valueless}
 
 -- ---- the lent blocks
 
-pub graph-plain : (block : List ℕ) → Plain (graphReply block)
+pub graph-valueless : (block : List ℕ) → Valueless (graphReply block)
 unfolding graphReply
-graph-plain block = judged-plain badGraph (graphFaults block)
+graph-valueless block = judged-valueless (graphFaults block)
 
-pub rule-plain : (block : List ℕ) → Plain (ruleReply block)
+pub rule-valueless : (block : List ℕ) → Valueless (ruleReply block)
 unfolding ruleReply
-rule-plain block = judged-plain badRule (ruleFaults sideLimit block)
+rule-valueless block = judged-valueless (ruleFaults sideLimit block)
 
-pub map-plain : (map : List ℕ) → Plain (mapReply map)
+pub map-valueless : (map : List ℕ) → Valueless (mapReply map)
 unfolding mapReply
-map-plain map = either (eqb (length map) mapBytes)
+map-valueless map = either (eqb (length map) mapBytes)
   where
-    either : (b : Bool) → Plain (cond b done (refused badMapLength))
-    either true = plain-done
-    either false = plain-refused badMapLength
+    either : (b : Bool) → Valueless (cond b done (refused badMapLength))
+    either true = plain-done .value
+    either false = refused-valueless badMapLength 0
 
-first-plain : (reply : Reply) (replies : List Reply) → Plain reply → Plain (firstRefusal replies) → Plain (firstRefusal (reply ∷ replies))
+first-valueless : (reply : Reply) (replies : List Reply) → Valueless reply → Valueless (firstRefusal replies)
+    → Valueless (firstRefusal (reply ∷ replies))
 unfolding firstRefusal
-first-plain (Done value) replies plain rest = rest
-first-plain (Refused why) replies plain rest = plain
+first-valueless (Done value) replies own rest = rest
+first-valueless (Refused why) replies own rest = own
 
-pub blocks-plain : (graph rule map : List ℕ) → Plain (blocksReply graph rule map)
+blocks-valueless : (graph rule map : List ℕ) → Valueless (blocksReply graph rule map)
 unfolding blocksReply firstRefusal
-blocks-plain graph rule map =
-    first-plain (mapReply map) (graphReply graph ∷ ruleReply rule ∷ []) (map-plain map)
-    (first-plain (graphReply graph) (ruleReply rule ∷ []) (graph-plain graph)
-    (first-plain (ruleReply rule) [] (rule-plain rule) plain-done))
+blocks-valueless graph rule map =
+    first-valueless (mapReply map) (graphReply graph ∷ ruleReply rule ∷ []) (map-valueless map)
+    (first-valueless (graphReply graph) (ruleReply rule ∷ []) (graph-valueless graph)
+    (first-valueless (ruleReply rule) [] (rule-valueless rule) (plain-done .value)))
 
 -- ---- matching
 
@@ -60,13 +61,13 @@ matched-plain graph rule start map = by (leastMatch (graphOf graph) (ruleOf rule
     by none e = rw (e, matched) (plain-refused noMatch)
     by (some found) e = rw (e, matched) plain-done
 
-pub match-plain : (graph rule : List ℕ) (start : ℕ) (map : List ℕ) → Plain (findMatch graph rule start map .reply)
+pub match-valueless : (graph rule : List ℕ) (start : ℕ) (map : List ℕ) → Valueless (findMatch graph rule start map .reply)
 unfolding findMatch
-match-plain graph rule start map = by (blocksReply graph rule map) refl
+match-valueless graph rule start map = by (blocksReply graph rule map) refl
   where
-    by : (reply : Reply) → blocksReply graph rule map ≡ reply → Plain (findMatch graph rule start map .reply)
-    by (Done value) e = rw (e, findMatch) (matched-plain graph rule start map)
-    by (Refused why) e = rw (e, findMatch) (subst Plain e (blocks-plain graph rule map))
+    by : (reply : Reply) → blocksReply graph rule map ≡ reply → Valueless (findMatch graph rule start map .reply)
+    by (Done value) e = rw (e, findMatch) (matched-plain graph rule start map .value)
+    by (Refused why) e = rw (e, findMatch) (subst Valueless e (blocks-valueless graph rule map))
 
 -- ---- rewriting
 
@@ -76,7 +77,7 @@ Modest best = (why : Refusal) → best ≡ turnedDown why → Plain (Refused why
 
 module _ (g : Graph) (r : Rule) (found : List ℕ) where
   refused-modest : (n : ℕ) → Modest (turnedDown (refusal n))
-  unfolding refusal
+  unfolding refusalAt
   refused-modest n why e = let same : refusal n ≡ why = cc in subst (λ (x : Refusal). Plain (Refused x)) same (plain-refused n)
 
   with-modest : (values : List (List ℤ)) → Modest (rewrittenWith g r found values)
@@ -105,15 +106,15 @@ replaced-plain graph rule map found = by (rewritten (graphOf graph) (ruleOf rule
     by (turnedDown why) e = rw (e, replaced) (rewritten-modest (graphOf graph) (ruleOf rule) found why e)
     by (accepted new) e = rw (e, replaced) plain-done
 
-pub rewrite-plain : (graph rule : List ℕ) (start : ℕ) (map : List ℕ) → Plain (rewrite graph rule start map .reply)
+pub rewrite-valueless : (graph rule : List ℕ) (start : ℕ) (map : List ℕ) → Valueless (rewrite graph rule start map .reply)
 unfolding rewrite
-rewrite-plain graph rule start map = by (blocksReply graph rule map) refl
+rewrite-valueless graph rule start map = by (blocksReply graph rule map) refl
   where
     least : {value : ℕ} → blocksReply graph rule map ≡ Done value → (found : Option (List ℕ))
-        → leastMatch (graphOf graph) (ruleOf rule) start ≡ found → Plain (rewrite graph rule start map .reply)
-    least e none l = rw (e, l, rewrite) (plain-refused noMatch)
-    least e (some found) l = rw (e, l, rewrite) (replaced-plain graph rule map found)
+        → leastMatch (graphOf graph) (ruleOf rule) start ≡ found → Valueless (rewrite graph rule start map .reply)
+    least e none l = rw (e, l, rewrite) (refused-valueless noMatch 0)
+    least e (some found) l = rw (e, l, rewrite) (replaced-plain graph rule map found .value)
 
-    by : (reply : Reply) → blocksReply graph rule map ≡ reply → Plain (rewrite graph rule start map .reply)
+    by : (reply : Reply) → blocksReply graph rule map ≡ reply → Valueless (rewrite graph rule start map .reply)
     by (Done value) e = least e (leastMatch (graphOf graph) (ruleOf rule) start) refl
-    by (Refused why) e = rw (e, rewrite) (subst Plain e (blocks-plain graph rule map))
+    by (Refused why) e = rw (e, rewrite) (subst Valueless e (blocks-valueless graph rule map))

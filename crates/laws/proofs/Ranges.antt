@@ -10,7 +10,7 @@ use borrow.Author.Tests.{eq-eqb, eqb-true}
 use lib.Dec.{eqb}
 use lib.ListN.{length, getD}
 use Rattle.definitions.specs.Lists.{tabulate, allPairs, range}
-use Rattle.laws.proofs.Lists.{fails, and-left, and-right, length-tabulate, getD-tabulate}
+use Rattle.laws.proofs.Lists.{and-left, and-right, length-tabulate, getD-tabulate}
 
 pub length-range : (n : ℕ) → length (range 0 n) ≡ n
 unfolding range
@@ -45,6 +45,3 @@ pub same-self : (xs : List ℕ) → allPairs eqb xs xs ≡ true
 unfolding allPairs
 same-self [] = refl
 same-self (x ∷ xs) = simp (eq-eqb x x refl, same-self xs)
-
-pub other-lists : (xs ys : List ℕ) → (xs ≡ ys → ⊥) → allPairs eqb xs ys ≡ false
-other-lists xs ys h = fails (λ t. h (same-lists xs ys t))

@@ -142,3 +142,18 @@ total-parts f n (x ∷ ws) d h =
       here,
       others,
     )
+
+-- so there are no more than n distinct numbers below n
+pub distinct-few : (n : ℕ) (ws : List ℕ) → distinct ws ≡ true → ((w : ℕ) → List·Memᴰ w ws → w < n) → length ws ≤ n
+unfolding sumOver
+distinct-few n ws d h =
+    omega (
+      arith,
+      total-parts (λ w. 1) n ws d h,
+      ones ws,
+      total-most (λ w. 1) n 1 (λ w l. omega arith),
+    )
+  where
+    ones : (xs : List ℕ) → sumOver (λ w. 1) xs ≡ length xs
+    ones [] = refl
+    ones (x ∷ xs) = omega (arith, ones xs)

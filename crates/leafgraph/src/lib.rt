@@ -4,7 +4,7 @@
 use reply::pack;
 ghost use Rattle.answers.specs.Statements.{CheckedGraph, CheckedRule, Searched, Rewrote};
 
-// Checks a graph block: 0 or 2.
+// Checks a graph block: 0, or 20 to 23 with a place.
 #[no_mangle]
 pub extern "C" fn lg_check_graph(graph: &[u8]) -> u64
     ensures { λ r. ⌜ CheckedGraph (now (graph .entry)) r ⌝ }
@@ -12,7 +12,7 @@ pub extern "C" fn lg_check_graph(graph: &[u8]) -> u64
     pack(graph_check::check(graph))
 }
 
-// Checks a rule block: 0 or 3.
+// Checks a rule block: 0, or 30 to 34 with a place.
 #[no_mangle]
 pub extern "C" fn lg_check_rule(rule: &[u8]) -> u64
     ensures { λ r. ⌜ CheckedRule (now (rule .entry)) r ⌝ }
@@ -20,7 +20,7 @@ pub extern "C" fn lg_check_rule(rule: &[u8]) -> u64
     pack(rule_check::check(rule))
 }
 
-// Finds the least match from `start`: 0 to 4. Done writes the map; a refusal leaves every byte as it came.
+// Finds the least match from `start`: 1, what the checks refuse, 4, or 0. Done writes the map; a refusal leaves every byte as it came.
 #[no_mangle]
 pub extern "C" fn lg_find_match(graph: &[u8], rule: &[u8], start: usize, map: &mut [u8]) -> u64
     ensures { λ r. ⌜ Searched (now (graph .entry)) (now (rule .entry)) start (now (map .entry))
@@ -29,7 +29,7 @@ pub extern "C" fn lg_find_match(graph: &[u8], rule: &[u8], start: usize, map: &m
     pack(find_match::find_match(graph, rule, start, map))
 }
 
-// Rewrites at the least match from `start`: 0 to 7. Done writes the graph and the map; a refusal leaves every byte as it came.
+// Rewrites at the least match from `start`: 1, what the checks refuse, 4 to 7, or 0. Done writes the graph and the map; a refusal leaves every byte as it came.
 #[no_mangle]
 pub extern "C" fn lg_rewrite(graph: &mut [u8], rule: &[u8], start: usize, map: &mut [u8]) -> u64
     ensures { λ r. ⌜ Rewrote (now (graph .entry)) (now (rule .entry)) start (now (map .entry))

@@ -127,7 +127,7 @@ sound-resolvable block sound =
           (and-right (not (inputKind (targetOf r t .kind))) (all (originFits r t) (targetOf r t .inputs)) (sound .namedInputs t l)) k in
           fits-inside r t (getD (targetOf r t .inputs) i (made 255)) sources (omega arith) named;
       outputs = λ i l.
-          let named = all-at (originFits r (targetCount block)) (made 255) (r .targetOutputs) i (sound .namedOutputs)
+          let named = all-at (originFits r (targetCount block)) (made 255) (r .targetOutputs) i (sound .outputs .target)
           (omega (arith, length-target-outputs block)) in
           fits-inside r (targetCount block) (getD (r .targetOutputs) i (made 255)) sources targets named;
     }

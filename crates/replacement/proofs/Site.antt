@@ -58,7 +58,7 @@ site graph rule images soundGraph soundRule match room =
           const-plain rule j inside (soundRule .patterns j (omega arith)) c;
       sourceOutputs = λ o m. (
         rw (length-source rule) (outputs-below rule sideLimit (soundRule .header) o m),
-        output-other r (soundRule .outputs) o m,
+        output-other r (soundRule .outputs .source) o m,
       );
       sameCount = length-target-outputs rule ∙ sym (length-source-outputs rule);
       targetKinds = λ t l. not-true (inputKind (targetOf r t .kind))
@@ -66,6 +66,6 @@ site graph rule images soundGraph soundRule match room =
           (soundRule .namedInputs t (rw (length-target rule) at l)));
       targetInputs = λ t l. and-right (not (inputKind (targetOf r t .kind))) (all (originFits r t) (targetOf r t .inputs))
           (soundRule .namedInputs t (rw (length-target rule) at l));
-      targetOutputs = rw (length-target rule) (soundRule .namedOutputs);
+      targetOutputs = rw (length-target rule) (soundRule .outputs .target);
       room = room;
     }

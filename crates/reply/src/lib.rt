@@ -9,9 +9,25 @@ ghost use Rattle.definitions.specs.Reply as answer;
 // The reply table's numbers.
 pub const BAD_MAP_LENGTH: u8 = 1;
 
-pub const BAD_GRAPH: u8 = 2;
+// What is wrong with a graph block.
+pub const BAD_GRAPH_HEADER: u8 = 20;
 
-pub const BAD_RULE: u8 = 3;
+pub const BAD_GRAPH_RECORD: u8 = 21;
+
+pub const BAD_GRAPH_NAME: u8 = 22;
+
+pub const GRAPH_HAS_CYCLE: u8 = 23;
+
+// What is wrong with a rule block.
+pub const BAD_RULE_HEADER: u8 = 30;
+
+pub const BAD_RULE_RECORD: u8 = 31;
+
+pub const BAD_RULE_ORDER: u8 = 32;
+
+pub const BAD_RULE_OUTPUTS: u8 = 33;
+
+pub const BAD_RULE_EXPRESSION: u8 = 34;
 
 pub const NO_MATCH: u8 = 4;
 
@@ -21,14 +37,21 @@ pub const NO_ROOM: u8 = 6;
 
 pub const NEW_CYCLE: u8 = 7;
 
-// The refusal with this number. No request names a place yet.
-pub fn refuse(number: u8) -> Reply
-    ensures { λ r. ⌜ r ≡ answer.refused number ⌝ }
+// The refusal with this number and this place. No request names a value beside the place yet.
+pub fn refuse_at(number: u8, index: u32) -> Reply
+    ensures { λ r. ⌜ r ≡ answer.refusedAt number index ⌝ }
 {
     Reply::Refused(Refusal {
         number,
-        place: Place { index: 0, value: 0 },
+        place: Place { index, value: 0 },
     })
+}
+
+// The refusal with this number, for which no request names a place.
+pub fn refuse(number: u8) -> Reply
+    ensures { λ r. ⌜ r ≡ answer.refused number ⌝ }
+{
+    refuse_at(number, 0)
 }
 
 // In the number that the C side gets, where the place begins, at bit 8, and where the value does, at bit 40.

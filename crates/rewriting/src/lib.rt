@@ -1,4 +1,4 @@
-// Rewriting in lent blocks: replies 0 to 7 in order. The new table is made beside the old one and judged there; the lent blocks are
+// Rewriting in lent blocks: the replies about the blocks, then 4 to 7, in order. The new table is made beside the old one and judged there; the lent blocks are
 // written last, once the answer is sure.
 use blocks::check_blocks;
 use blocks::write_map;

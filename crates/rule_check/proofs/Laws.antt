@@ -10,8 +10,8 @@ use lib.Dec.{eqb, leb, ltb}
 use lib.ListN.{length, getD}
 use Rattle.definitions.specs.Lists.{lowest, all, allBelow}
 use Rattle.definitions.specs.Fields.{byteAt}
-use Rattle.definitions.specs.Reply.{done, badRule, refused, flag, place, judged}
-use Rattle.definitions.specs.Rule.{sideLimit, nodeLimit, sourceCount, targetCount, ruleOutputCount, nodeCount, vertexAt, nodeAt, ruleOf, sourceInputs, ruleSizesFit, ruleOutputPlacesFit, ruleHeaderFits, patternFits, sourceInputsFit, targetInputsFit, badVertex, inVisitingOrder, outputsFit, badNode, badUse, ruleFaults, ruleReply}
+use Rattle.definitions.specs.Reply.{badRuleHeader, badRuleRecord, badRuleOrder, badRuleOutputs, badRuleExpression, done, refusedAt, refused, flag, place, judged}
+use Rattle.definitions.specs.Rule.{sideLimit, nodeLimit, sourceCount, targetCount, ruleOutputCount, nodeCount, vertexAt, nodeAt, ruleOf, sourceInputs, ruleSizesFit, ruleOutputPlacesFit, ruleHeaderFits, patternFits, sourceInputsFit, targetInputsFit, badVertex, outOfOrder, outputsFit, badNode, badUse, ruleFaults, ruleReply}
 use Rattle.laws.proofs.Lists.{needed, lowest-passed, all-at, allBelow-at}
 use Rattle.laws.proofs.Rule.{source-output-of, few-sources, few-targets, few-rule-outputs}
 use Rattle.rule_records.proofs.Laws.{pattern-inputs, pattern-attributes}
@@ -66,40 +66,53 @@ module _ (block : List ℕ) where
           (ltb-true (byteAt block (10 + i)) (sourceCount block) (allBelow-at below (ruleOutputCount block) i listed l));
     }
 
-  -- ---- the reply, fault by fault: each kind refuses once those before it do not
+  -- ---- the reply, fault by fault: each kind refuses, with its place, once those before it do not
 
-  pub refused-header : ruleHeaderFits sideLimit block ≡ false → refused badRule ≡ ruleReply block
+  pub refused-header : ruleHeaderFits sideLimit block ≡ false → refused badRuleHeader ≡ ruleReply block
   unfolding ruleReply ruleFaults flag judged
   refused-header h = simp h
 
+  -- how many vertices there are, and what the search for each fault finds
+  abbrev vertexCount : ℕ
+  vertexCount = sourceCount block + targetCount block
+
+  abbrev vertexFound : ℕ
+  vertexFound = lowest (badVertex block) vertexCount
+
+  abbrev orderFound : ℕ
+  orderFound = lowest (outOfOrder (ruleOf block)) (sourceCount block)
+
+  abbrev nodeFound : ℕ
+  nodeFound = lowest (badNode block) (nodeCount block)
+
+  abbrev useFound : ℕ
+  useFound = lowest (badUse block) vertexCount
+
   module _ (header : ruleHeaderFits sideLimit block ≡ true) where
-    pub refused-vertex : lowest (badVertex block) (sourceCount block + targetCount block) < sourceCount block + targetCount block
-        → refused badRule ≡ ruleReply block
+    pub refused-vertex : vertexFound < vertexCount → refusedAt badRuleRecord vertexFound ≡ ruleReply block
     unfolding ruleReply ruleFaults flag place judged
     refused-vertex l = simp (header, lt-ltb _ _ l)
 
-    module _ (vertices : sourceCount block + targetCount block ≤ lowest (badVertex block) (sourceCount block + targetCount block)) where
-      pub refused-order : inVisitingOrder (ruleOf block) ≡ false → refused badRule ≡ ruleReply block
+    module _ (vertices : vertexCount ≤ vertexFound) where
+      pub refused-order : orderFound < sourceCount block → refusedAt badRuleOrder orderFound ≡ ruleReply block
       unfolding ruleReply ruleFaults flag place judged
-      refused-order f = simp (header, le-ltb _ _ vertices, f)
+      refused-order l = simp (header, le-ltb _ _ vertices, lt-ltb _ _ l)
 
-      module _ (order : inVisitingOrder (ruleOf block) ≡ true) where
-        pub refused-outputs : outputsFit (ruleOf block) ≡ false → refused badRule ≡ ruleReply block
+      module _ (order : sourceCount block ≤ orderFound) where
+        pub refused-outputs : outputsFit (ruleOf block) ≡ false → refused badRuleOutputs ≡ ruleReply block
         unfolding ruleReply ruleFaults flag place judged
-        refused-outputs f = simp (header, le-ltb _ _ vertices, order, f)
+        refused-outputs f = simp (header, le-ltb _ _ vertices, le-ltb _ _ order, f)
 
         module _ (outputs : outputsFit (ruleOf block) ≡ true) where
-          pub refused-node : lowest (badNode block) (nodeCount block) < nodeCount block → refused badRule ≡ ruleReply block
+          pub refused-node : nodeFound < nodeCount block → refusedAt badRuleExpression nodeFound ≡ ruleReply block
           unfolding ruleReply ruleFaults flag place judged
-          refused-node l = simp (header, le-ltb _ _ vertices, order, outputs, lt-ltb _ _ l)
+          refused-node l = simp (header, le-ltb _ _ vertices, le-ltb _ _ order, outputs, lt-ltb _ _ l)
 
-          module _ (nodes : nodeCount block ≤ lowest (badNode block) (nodeCount block)) where
-            pub refused-use : lowest (badUse block) (sourceCount block + targetCount block) < sourceCount block + targetCount block
-                → refused badRule ≡ ruleReply block
+          module _ (nodes : nodeCount block ≤ nodeFound) where
+            pub refused-use : useFound < vertexCount → refusedAt badRuleExpression useFound ≡ ruleReply block
             unfolding ruleReply ruleFaults flag place judged
-            refused-use l = simp (header, le-ltb _ _ vertices, order, outputs, le-ltb _ _ nodes, lt-ltb _ _ l)
+            refused-use l = simp (header, le-ltb _ _ vertices, le-ltb _ _ order, outputs, le-ltb _ _ nodes, lt-ltb _ _ l)
 
-            pub sound : sourceCount block + targetCount block ≤ lowest (badUse block) (sourceCount block + targetCount block)
-                → done ≡ ruleReply block
+            pub sound : vertexCount ≤ useFound → done ≡ ruleReply block
             unfolding ruleReply ruleFaults flag place judged
-            sound l = simp (header, le-ltb _ _ vertices, order, outputs, le-ltb _ _ nodes, le-ltb _ _ l)
+            sound l = simp (header, le-ltb _ _ vertices, le-ltb _ _ order, outputs, le-ltb _ _ nodes, le-ltb _ _ l)

@@ -1,50 +1,53 @@
-// Checking a rule block: the five kinds of fault, in document 01's order.
+// Checking a rule block: the five kinds of fault, in document 01's order, each with the lowest place that has it. Target vertex t counts
+// as S + t.
 use definitions::Reply;
 use definitions::SIDE_LIMIT;
-use reply::BAD_RULE;
+use reply::BAD_RULE_EXPRESSION;
+use reply::BAD_RULE_HEADER;
+use reply::BAD_RULE_ORDER;
+use reply::BAD_RULE_OUTPUTS;
+use reply::BAD_RULE_RECORD;
 use reply::refuse;
+use reply::refuse_at;
 use rule_accesses::bad_use;
 use rule_expressions::bad_node;
 use rule_fields::node_count;
 use rule_fields::source_count;
 use rule_fields::target_count;
 use rule_header::header_fits;
-use rule_order::in_visiting_order;
+use rule_order::first_misplaced;
 use rule_outputs::outputs_fit;
 use rule_records::bad_vertex;
 ghost use mathlib.Core.Path.{_≡_};
-ghost use Rattle.definitions.specs.Reply as answer;
 ghost use Rattle.definitions.specs.Rule.{ruleReply};
-
-// The refusal of a rule block, for now the same for every kind of fault.
-fn bad_rule() -> Reply
-    ensures { λ r. ⌜ r ≡ answer.refused answer.badRule ⌝ }
-{
-    refuse(BAD_RULE)
-}
 
 // The reply for any bytes as a rule block.
 pub fn check(rule: &[u8]) -> Reply
     ensures { λ r. ⌜ r ≡ ruleReply (now (rule .entry)) ⌝ }
 {
     if !header_fits(rule, SIDE_LIMIT) {
-        return bad_rule();
+        return refuse(BAD_RULE_HEADER);
     }
-    let vertices = source_count(rule) + target_count(rule);
-    if bad_vertex(rule) < vertices {
-        return bad_rule();
+    let sources = source_count(rule);
+    let vertices = sources + target_count(rule);
+    let unfit = bad_vertex(rule);
+    if unfit < vertices {
+        return refuse_at(BAD_RULE_RECORD, unfit as u32);
     }
-    if !in_visiting_order(rule) {
-        return bad_rule();
+    let misplaced = first_misplaced(rule);
+    if misplaced < sources {
+        return refuse_at(BAD_RULE_ORDER, misplaced as u32);
     }
     if !outputs_fit(rule) {
-        return bad_rule();
+        return refuse(BAD_RULE_OUTPUTS);
     }
-    if bad_node(rule) < node_count(rule) {
-        return bad_rule();
+    let node = bad_node(rule);
+    if node < node_count(rule) {
+        return refuse_at(BAD_RULE_EXPRESSION, node as u32);
     }
-    if bad_use(rule) < vertices {
-        return bad_rule();
+    let user = bad_use(rule);
+    if user < vertices {
+        return refuse_at(BAD_RULE_EXPRESSION, user as u32);
     }
     Reply::Done(0)
 }

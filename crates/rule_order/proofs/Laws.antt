@@ -3,23 +3,23 @@
 -- Assumes nothing.
 use mathlib.Core.Path.{_≡_, refl, sym, ap, _∙_}
 use mathlib.Core.Bool.{Bool, true, false, false≢true}
-use mathlib.Core.List.{List, [], _∷_, _++_, append-assoc, append-nil}
+use mathlib.Core.List.{List, [], _∷_, _++_, append-assoc}
 use mathlib.Core.Logic.{⊎-elim}
 use Prim.Native.Nat.{ℕ, zero, suc, _+_, _<_, _≤_}
 use native.Mathlib.Numerals.{add-one}
 use native.Mathlib.Nat.{not-suc-le-zero, le-of-suc-le-suc}
 use native.Mathlib.Omega.{arith}
-use borrow.Author.Tests.{eqb-true, eqb-false}
-use lib.Dec.{eqb}
-use lib.ListN.{length, getD, drop, length-append, drop-of-length-le}
+use borrow.Author.Tests.{ltb-true, ltb-false, eq-eqb, ne-eqb}
+use lib.Dec.{ltb}
+use lib.ListN.{length, getD, drop, drop-of-length-le, List·getD-append, List·getD-eq-default}
 use lib.Seq.{getD-at, drop-cons}
-use Rattle.definitions.specs.Lists.{tabulate, foldl, member, range}
-use Rattle.definitions.specs.Rule.{Rule, sourceCount, ruleOutputCount, ruleOf, sourceInputs, visit, traversal, inVisitingOrder}
-use Rattle.laws.proofs.Lists.{decided, true-not-false}
+use Rattle.definitions.specs.Lists.{lowest, tabulate, foldl, member, range}
+use Rattle.definitions.specs.Rule.{Rule, sourceCount, ruleOutputCount, ruleOf, sourceInputs, visit, traversal, outOfOrder}
+use Rattle.laws.proofs.Lists.{decided, true-not-false, lowest-none, lowest-found}
 use Rattle.laws.proofs.Members.{mem-member, no-member, mem-range, range-mem}
-use Rattle.laws.proofs.Ranges.{length-range, range-at, range-more, same-self, other-lists}
+use Rattle.laws.proofs.Ranges.{length-range, range-at, range-more}
 use Rattle.laws.proofs.Rule.{length-source, length-source-outputs}
-use Rattle.rule_order.specs.Order.{OutOfOrder, Counts, Visits, VisitsInputs}
+use Rattle.rule_order.specs.Order.{DiffersAt, Counts, Visits, VisitsInputs}
 
 -- ---- 0, 1, .. n - 1
 
@@ -31,17 +31,13 @@ unvisited v n h = no-member v (range 0 n) (λ m. omega (arith, range-mem 0 n m .
 
 -- ---- lists that are out of order
 
-out-of-order-more : (done later : List ℕ) → OutOfOrder done → OutOfOrder (done ++ later)
-unfolding OutOfOrder
-out-of-order-more done later h rest n e = h (later ++ rest) n (sym (append-assoc done later rest) ∙ e)
-
--- n vertices in order, and then another than n
-other-out-of-order : (n v : ℕ) → (v ≡ n → ⊥) → OutOfOrder (range 0 n ++ v ∷ [])
-unfolding OutOfOrder
-other-out-of-order n v h rest m e =
-    let whole : range 0 n ++ v ∷ rest ≡ range 0 m = sym (append-assoc (range 0 n) (v ∷ []) rest) ∙ e in
-    let longer : n < m = omega (arith, length-append (range 0 n) (v ∷ rest), ap length whole, length-range n, length-range m) in
-    h (sym (getD-at (range 0 n) v rest 0 n (length-range n)) ∙ ap (λ (l : List ℕ). getD l n 0) whole ∙ range-at m n 0 longer)
+differs-more : {j : ℕ} {done : List ℕ} (more : List ℕ) → DiffersAt done j → DiffersAt (done ++ more) j
+differs-more {j} more d = record {
+  other = d .other;
+  later = d .later ++ more;
+  apart = d .apart;
+  visited = ap (λ (l : List ℕ). l ++ more) (d .visited) ∙ append-assoc (range 0 j) (d .other ∷ d .later) more;
+}
 
 foldl-keeps : (P : List ℕ → Type 0) (f : List ℕ → ℕ → List ℕ) → ((done : List ℕ) (v : ℕ) → P done → P (f done v))
     → (vs done : List ℕ) → P done → P (foldl f done vs)
@@ -50,13 +46,13 @@ foldl-keeps P f keeps [] done h = h
 foldl-keeps P f keeps (v ∷ vs) done h = foldl-keeps P f keeps vs (f done v) (keeps done v h)
 
 module _ (r : Rule) where
-  visit-keeps : (d : ℕ) (done : List ℕ) (v : ℕ) → OutOfOrder done → OutOfOrder (visit r d done v)
+  visit-keeps : {j : ℕ} (d : ℕ) (done : List ℕ) (v : ℕ) → DiffersAt done j → DiffersAt (visit r d done v) j
   unfolding visit
   visit-keeps zero done v h = h
-  visit-keeps (suc d) done v h = ⊎-elim
+  visit-keeps {j} (suc d) done v h = ⊎-elim
       (λ (t : member v done ≡ true). rw t h)
       (λ (t : member v done ≡ false). rw t
-      (out-of-order-more (foldl (visit r d) done (sourceInputs r v)) (v ∷ []) (foldl-keeps OutOfOrder (visit r d) (visit-keeps d) (sourceInputs r v) done h)))
+      (differs-more (v ∷ []) (foldl-keeps (λ (l : List ℕ). DiffersAt l j) (visit r d) (visit-keeps d) (sourceInputs r v) done h)))
       (decided (member v done))
 
   -- ---- one vertex
@@ -81,17 +77,17 @@ module _ (r : Rule) where
     unfolding foldl
     one-first done u h e = rw (drop-cons vs i 255 h, ← e, add-one)
 
-    one-wrong : (n u : ℕ) → i < length vs → u ≡ getD vs i 255 → OutOfOrder (visit r d (range 0 n) u)
-        → OutOfOrder (foldl (visit r d) (range 0 n) (drop i vs))
-    one-wrong n u h e l = rw (one-first (range 0 n) u h e)
-        (foldl-keeps OutOfOrder (visit r d) (visit-keeps d) (drop (i + 1) vs) (visit r d (range 0 n) u) l)
+    one-wrong : {j : ℕ} (n u : ℕ) → i < length vs → u ≡ getD vs i 255 → DiffersAt (visit r d (range 0 n) u) j
+        → DiffersAt (foldl (visit r d) (range 0 n) (drop i vs)) j
+    one-wrong {j} n u h e l = rw (one-first (range 0 n) u h e)
+        (foldl-keeps (λ (xs : List ℕ). DiffersAt xs j) (visit r d) (visit-keeps d) (drop (i + 1) vs) (visit r d (range 0 n) u) l)
 
 -- ---- what the code's functions give
 
 right-count : {done : List ℕ} {next : ℕ} → done ≡ range 0 next → Counts done true next
 right-count e = record { right = λ t. e; wrong = λ f. absurd (false≢true (sym f)) }
 
-wrong-count : {done : List ℕ} {ok : Bool} {next : ℕ} → ok ≡ false → OutOfOrder done → Counts done ok next
+wrong-count : {done : List ℕ} {ok : Bool} {next : ℕ} → ok ≡ false → DiffersAt done next → Counts done ok next
 wrong-count f h = record { right = λ t. absurd (true-not-false t f); wrong = λ z. h }
 
 module _ (block : List ℕ) (v next : ℕ) (fits : next ≤ sourceCount block) where
@@ -108,15 +104,20 @@ module _ (block : List ℕ) (v next : ℕ) (fits : next ≤ sourceCount block) w
     pub inputs-wrong : {ok : Bool} {after : ℕ} → VisitsInputs block v 0 next ok after → ok ≡ false → Visits block v next ok after
     inputs-wrong i f = record {
       counts = above (λ d l. wrong-count f (rw (entered (ruleOf block) d next v fresh)
-          (out-of-order-more (foldl (visit (ruleOf block) d) (range 0 next) (sourceInputs (ruleOf block) v)) (v ∷ []) (i .counts d l .wrong f))));
+          (differs-more (v ∷ []) (i .counts d l .wrong f))));
       small = i .small;
     }
 
     pub not-next : {ok : Bool} {after : ℕ} → VisitsInputs block v 0 next ok after → ok ≡ true → (v ≡ after → ⊥)
-        → Visits block v next false next
+        → Visits block v next false after
     not-next {after = after} i t h = record {
-      counts = above (λ d l. wrong-count refl (rw (entered (ruleOf block) d next v fresh, i .counts d l .right t) (other-out-of-order after v h)));
-      small = fits;
+      counts = above (λ d l. wrong-count refl (record {
+        other = v;
+        later = [];
+        apart = h;
+        visited = entered (ruleOf block) d next v fresh ∙ ap (λ (xs : List ℕ). xs ++ v ∷ []) (i .counts d l .right t);
+      }));
+      small = i .small;
     }
 
     pub is-next : {ok : Bool} {after : ℕ} → VisitsInputs block v 0 next ok after → ok ≡ true → v ≡ after → v < sourceCount block
@@ -151,18 +152,46 @@ module _ (block : List ℕ) (v i next : ℕ) where
 -- ---- the whole traversal
 
 module _ (r : Rule) where
-  order-wrong : OutOfOrder (traversal r) → inVisitingOrder r ≡ false
-  unfolding OutOfOrder inVisitingOrder
-  order-wrong h = other-lists (traversal r) (range 0 (length (r .source)))
-      (λ e. h [] (length (r .source)) (append-nil (traversal r) ∙ e))
+  pub in-place : (k : ℕ) → getD (traversal r) k (length (r .source)) ≡ k → outOfOrder r k ≡ false
+  unfolding outOfOrder
+  in-place k e = simp (eq-eqb (getD (traversal r) k (length (r .source))) k e)
 
-  order-counted : (next : ℕ) → traversal r ≡ range 0 next → inVisitingOrder r ≡ eqb next (length (r .source))
-  unfolding inVisitingOrder
-  order-counted next e = rw e (⊎-elim
-      (λ (t : eqb next (length (r .source)) ≡ true). rw (t, ← eqb-true next (length (r .source)) t) (same-self (range 0 next)))
-      (λ (t : eqb next (length (r .source)) ≡ false). rw t (other-lists (range 0 next) (range 0 (length (r .source)))
-      (λ q. eqb-false next (length (r .source)) t (sym (length-range next) ∙ ap length q ∙ length-range (length (r .source))))))
-      (decided (eqb next (length (r .source)))))
+  pub out-of-place : (k : ℕ) → (getD (traversal r) k (length (r .source)) ≡ k → ⊥) → outOfOrder r k ≡ true
+  unfolding outOfOrder
+  out-of-place k h = simp (ne-eqb (getD (traversal r) k (length (r .source))) k h)
+
+-- The place at which the order ends is the first that is out of order: below it the traversal visits each vertex in its place, and there
+-- it visits another or ends.
+module _ (r : Rule) (j : ℕ) (small : j ≤ length (r .source)) where
+  first-misplaced : ((k : ℕ) → k < j → getD (traversal r) k (length (r .source)) ≡ k)
+      → (getD (traversal r) j (length (r .source)) ≡ j → j ≡ length (r .source)) → j ≡ lowest (outOfOrder r) (length (r .source))
+  first-misplaced before here = ⊎-elim
+      (λ (t : ltb j (length (r .source)) ≡ true).
+      let inside = ltb-true j (length (r .source)) t in
+      sym (lowest-found (outOfOrder r) (length (r .source)) j inside (λ k l. in-place r k (before k l))
+      (out-of-place r j (λ e. omega (arith, here e)))))
+      (λ (t : ltb j (length (r .source)) ≡ false).
+      let whole : j ≡ length (r .source) = omega (arith, ltb-false j (length (r .source)) t) in
+      whole ∙ sym (lowest-none (outOfOrder r) (length (r .source)) (λ k l. in-place r k (before k (omega arith)))))
+      (decided (ltb j (length (r .source))))
+
+  -- another vertex is visited there
+  misplaced : DiffersAt (traversal r) j → j ≡ lowest (outOfOrder r) (length (r .source))
+  misplaced d =
+      let s = length (r .source) in
+      first-misplaced
+      (λ k l. ap (λ (xs : List ℕ). getD xs k s) (d .visited)
+      ∙ List·getD-append (range 0 j) (d .other ∷ d .later) s k (omega (arith, length-range j)) ∙ range-at j k s l)
+      (λ e. absurd (d .apart (sym (getD-at (range 0 j) (d .other) (d .later) s j (length-range j))
+      ∙ ap (λ (xs : List ℕ). getD xs j s) (sym (d .visited)) ∙ e)))
+
+  -- the traversal ends there
+  ended : traversal r ≡ range 0 j → j ≡ lowest (outOfOrder r) (length (r .source))
+  ended e =
+      let s = length (r .source) in
+      first-misplaced
+      (λ k l. ap (λ (xs : List ℕ). getD xs k s) e ∙ range-at j k s l)
+      (λ h. sym (sym (List·getD-eq-default (range 0 j) s (omega (arith, length-range j))) ∙ ap (λ (xs : List ℕ). getD xs j s) (sym e) ∙ h))
 
 -- where i outputs are visited and no vertex is out of order, the other outputs complete the traversal
 abbrev pub Continues : List ℕ → ℕ → ℕ → Type 0
@@ -173,22 +202,25 @@ pub outputs-begin : (block : List ℕ) → Continues block 0 0
 unfolding traversal range tabulate
 outputs-begin block = rw (length-source block)
 
-pub outputs-done : (block : List ℕ) (i next : ℕ) → Continues block i next → ruleOutputCount block ≤ i
-    → eqb next (sourceCount block) ≡ inVisitingOrder (ruleOf block)
-outputs-done block i next more h =
+pub outputs-done : (block : List ℕ) (i next : ℕ) → Continues block i next → ruleOutputCount block ≤ i → next ≤ sourceCount block
+    → next ≡ lowest (outOfOrder (ruleOf block)) (sourceCount block)
+outputs-done block i next more h small =
     let all : length (ruleOf block .sourceOutputs) ≤ i = rw (length-source-outputs block) h in
     let counted : traversal (ruleOf block) ≡ range 0 next =
     sym more ∙ none-left (ruleOf block) (sourceCount block) (ruleOf block .sourceOutputs) i (range 0 next) all in
-    rw (← length-source block) (sym (order-counted (ruleOf block) next counted))
+    rw (length-source block) at (ended (ruleOf block) next (rw (length-source block) small) counted)
 
 module _ (block : List ℕ) (i next u : ℕ) (more : Continues block i next) (h : i < ruleOutputCount block)
     (e : u ≡ getD (ruleOf block .sourceOutputs) i 255) (inside : u < sourceCount block) where
   within : i < length (ruleOf block .sourceOutputs)
   within = rw (length-source-outputs block) h
 
-  pub output-wrong : {ok : Bool} {after : ℕ} → Visits block u next ok after → ok ≡ false → false ≡ inVisitingOrder (ruleOf block)
-  output-wrong one f = sym (order-wrong (ruleOf block) (rw (← more)
-      (one-wrong (ruleOf block) (sourceCount block) (ruleOf block .sourceOutputs) i next u within e (one .counts (sourceCount block) inside .wrong f))))
+  pub output-wrong : {ok : Bool} {after : ℕ} → Visits block u next ok after → ok ≡ false
+      → after ≡ lowest (outOfOrder (ruleOf block)) (sourceCount block)
+  output-wrong {after = after} one f =
+      let differs : DiffersAt (traversal (ruleOf block)) after = rw (← more) (one-wrong (ruleOf block) (sourceCount block)
+      (ruleOf block .sourceOutputs) i next u within e (one .counts (sourceCount block) inside .wrong f)) in
+      rw (length-source block) at (misplaced (ruleOf block) after (rw (length-source block) (one .small)) differs)
 
   pub output-passed : {ok : Bool} {after : ℕ} → Visits block u next ok after → ok ≡ true → Continues block (i + 1) after
   output-passed one t =

@@ -2,7 +2,7 @@
 -- Assumes nothing.
 use mathlib.Core.Path.{_≡_}
 use mathlib.Core.Bool.{Bool, true, false}
-use mathlib.Core.List.{List, _++_}
+use mathlib.Core.List.{List, _∷_, _++_}
 use Prim.Native.Nat.{ℕ, _<_, _≤_}
 use lib.ListN.{drop}
 use Rattle.definitions.specs.Lists.{foldl, range}
@@ -15,14 +15,17 @@ pub record MayVisit (block : List ℕ) (v next : ℕ) : Type 0 where
   pub vertex : v < sourceCount block
   pub count : next ≤ sourceCount block
 
--- Whatever is visited later, the vertices do not stand in order.
-unfoldable pub OutOfOrder : List ℕ → Type 0
-OutOfOrder done = (later : List ℕ) (n : ℕ) → done ++ later ≡ range 0 n → ⊥
+-- The first vertices visited are 0, 1, .. j - 1, and the next one is not j. This stays so whatever is visited later.
+pub record DiffersAt (done : List ℕ) (j : ℕ) : Type 0 where
+  pub other : ℕ
+  pub later : List ℕ
+  pub apart : other ≡ j → ⊥
+  pub visited : done ≡ range 0 j ++ other ∷ later
 
--- The vertices visited so far are 0, 1, .. next - 1, or they are out of order for good.
+-- The vertices visited so far are 0, 1, .. next - 1, or they are out of order for good, from place next on.
 pub record Counts (done : List ℕ) (ok : Bool) (next : ℕ) : Type 0 where
   pub right : ok ≡ true → done ≡ range 0 next
-  pub wrong : ok ≡ false → OutOfOrder done
+  pub wrong : ok ≡ false → DiffersAt done next
 
 -- The depth d is the definition's; above v, it is enough, whatever it is.
 pub record Visits (block : List ℕ) (v next : ℕ) (ok : Bool) (after : ℕ) : Type 0 where

@@ -1,20 +1,21 @@
-// Whether a rule's source vertices stand in visiting order: a vertex's inputs before the vertex, left to right, each vertex once,
-// from the listed outputs. As long as the order is right, the vertices visited so far are 0, 1, .. next - 1 in this order, so the
-// search keeps next alone, and enters each vertex at most once.
+// The first source vertex of a rule that does not stand in visiting order: a vertex's inputs before the vertex, left to right, each
+// vertex once, from the listed outputs. As long as the order is right, the vertices visited so far are 0, 1, .. next - 1 in this order,
+// so the search keeps next alone, and enters each vertex at most once.
 use rule_fields::output_count;
-use rule_fields::source_count;
 use rule_fields::source_input;
 use rule_fields::source_input_count;
 use rule_fields::source_output;
 ghost use mathlib.Core.Path.{_≡_};
 ghost use Prim.Native.Nat.{_≤_};
 ghost use lib.ListN.{length};
-ghost use Rattle.definitions.specs.Rule.{ruleOf, sourceInputs, inVisitingOrder};
+ghost use Rattle.definitions.specs.Lists.{lowest};
+ghost use Rattle.definitions.specs.Rule.{sourceCount, ruleOf, sourceInputs, outOfOrder};
 ghost use Rattle.rule_fields.specs.Layout.{LayeredRule};
 ghost use Rattle.rule_order.specs.Order.{MayVisit, Visits, VisitsInputs};
 
-// Whether the order is right so far, and how many vertices are visited where it is. Once it is wrong it stays wrong: a visit only
-// adds vertices after those that are visited.
+// Whether the order is right so far, and how many vertices are visited in order. Where it is wrong, that is the first vertex in whose
+// place another one is visited; and it stays wrong, from the same vertex on, since a visit only adds vertices after those that are
+// visited.
 struct Visited {
     ok: bool,
     next: usize,
@@ -33,7 +34,10 @@ fn visit(rule: &[u8], v: usize, next: usize) -> Visited
         return inputs;
     }
     if v != inputs.next {
-        return Visited { ok: false, next };
+        return Visited {
+            ok: false,
+            next: inputs.next,
+        };
     }
     Visited {
         ok: true,
@@ -57,10 +61,11 @@ fn visit_inputs(rule: &[u8], v: usize, i: usize, next: usize) -> Visited
     visit_inputs(rule, v, i + 1, input.next)
 }
 
-// Whether the traversal from the outputs gives the source vertices in their order, each of them.
-pub fn in_visiting_order(rule: &[u8]) -> bool
+// The first source vertex in whose place the traversal from the outputs visits another, or before which it ends; or the number of
+// source vertices.
+pub fn first_misplaced(rule: &[u8]) -> usize
     requires { ⌜ LayeredRule (now rule) ⌝ }
-    ensures { λ r. ⌜ r ≡ inVisitingOrder (ruleOf (now (rule .entry))) ⌝ }
+    ensures { λ r. ⌜ r ≡ lowest (outOfOrder (ruleOf (now (rule .entry)))) (sourceCount (now (rule .entry))) ⌝ }
 {
     let outputs = output_count(rule);
     let mut next = 0;
@@ -68,10 +73,10 @@ pub fn in_visiting_order(rule: &[u8]) -> bool
     while i < outputs {
         let output = visit(rule, source_output(rule, i), next);
         if !output.ok {
-            return false;
+            return output.next;
         }
         next = output.next;
         i += 1;
     }
-    next == source_count(rule)
+    next
 }

@@ -8,5 +8,4 @@ pub mod Fixing
 pub mod Choices
 pub mod Least
 pub mod Fields
-pub mod Reply
 pub mod Inside

@@ -6,13 +6,13 @@ use mathlib.Core.List.{List}
 use Prim.Native.Nat.{ℕ, zero, suc}
 use lib.Dec.{T}
 use lib.ListN.{length}
-use Rattle.definitions.specs.Paths.{Reads, Acyclic, shallow, acyclicBelow}
+use Rattle.definitions.specs.Paths.{Reads, Acyclic}
 use Rattle.definitions.specs.Graph.{Graph, inputsOf, isVertex}
 use Rattle.definitions.specs.Results.{Meaning, resultAt, AreResults}
-use Rattle.laws.proofs.Lists.{allBelow-at, all-member, map-same}
+use Rattle.laws.proofs.Lists.{all-member, map-same}
 use Rattle.laws.proofs.Graph.{inputs-past, vertex-inside}
 use Rattle.laws.proofs.Members.{holds}
-use Rattle.theory.proofs.Paths.{Table, Grounded, grounded, acyclic-complete, acyclic-grounded}
+use Rattle.theory.proofs.Paths.{Table, Grounded, grounded, shallow, acyclic-shallow, acyclic-grounded}
 
 -- a table whose inputs name vertices, and which has no cycle
 pub record Layout (g : Graph) : Type 0 where
@@ -25,10 +25,6 @@ pub record Layout (g : Graph) : Type 0 where
 pub named-table : (g : Graph) → ((k v : ℕ) → Reads (inputsOf g) k v → isVertex g v ≡ true) → Table (inputsOf g) (length (g .slots))
 named-table g named = record { closed = λ v u m. vertex-inside g u (named v u m); ends = inputs-past g }
 
--- and it passes the test for cycles
-layout-passes : (g : Graph) → Layout g → acyclicBelow (inputsOf g) (length (g .slots)) ≡ true
-layout-passes g layout = acyclic-complete (named-table g (layout .vertices)) (layout .acyclic)
-
 -- ---- going from inputs to readers
 
 grounded-all {ℓ} : {inputs : ℕ → List ℕ} (P : ℕ → Type ℓ)
@@ -39,7 +35,7 @@ grounded-all P step (grounded {v} g) = step v (λ u m. grounded-all P step (g u 
 pub along-edges {ℓ} : (g : Graph) → Layout g → (P : ℕ → Type ℓ)
     → ((v : ℕ) → ((u : ℕ) → Reads (inputsOf g) v u → P u) → P v) → (v : ℕ) → P v
 along-edges g layout P step v =
-    grounded-all P step (acyclic-grounded (named-table g (layout .vertices)) (layout-passes g layout) v)
+    grounded-all P step (acyclic-grounded (named-table g (layout .vertices)) (layout .acyclic) v)
 
 -- ---- a result depends on the results of the inputs alone
 
@@ -73,11 +69,10 @@ module _ {ℓ} {R : Type ℓ} (m : Meaning R) (g : Graph) where
 
   -- Results exist: evaluated as deep as the table has slots, every vertex has the result that its inputs' results make.
   pub results-exist : Layout g → (results : ℕ → R) × AreResults m g results
-  unfolding deep acyclicBelow
+  unfolding deep
   results-exist layout = (
     deep (length (g .slots)),
     λ v t.
         deep-settled (length (g .slots)) v
-        (allBelow-at (shallow (inputsOf g) (length (g .slots))) (length (g .slots)) v (layout-passes g layout)
-        (vertex-inside g v (holds (isVertex g v) t))),
+        (acyclic-shallow (named-table g (layout .vertices)) (layout .acyclic) v (vertex-inside g v (holds (isVertex g v) t))),
   )

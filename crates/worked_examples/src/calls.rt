@@ -2,6 +2,7 @@
 use crate::lines::graph_lines;
 use crate::lines::number;
 use crate::lines::print_numbers;
+use crate::lines::print_reply;
 use definitions::MAP_BYTES;
 use leafgraph::lg_check_graph;
 use leafgraph::lg_check_rule;
@@ -59,25 +60,25 @@ fn append(text: &[u8], block: &mut [u8], from: usize) -> usize {
 // Asks the library and prints what it answers, without the last line's end. False where no operation has this letter.
 fn ask(letter: u8, graph: &mut [u8], rule: &[u8], start: usize, map: &mut [u8]) -> bool {
     if letter == b'G' {
-        io::print_decimal(1, lg_check_graph(graph));
+        print_reply(lg_check_graph(graph));
         return true;
     }
     if letter == b'R' {
-        io::print_decimal(1, lg_check_rule(rule));
+        print_reply(lg_check_rule(rule));
         return true;
     }
     if letter == b'F' {
-        io::print_decimal(1, lg_find_match(graph, rule, start, map));
+        print_reply(lg_find_match(graph, rule, start, map));
         return true;
     }
     if letter == b'M' {
-        io::print_decimal(1, lg_find_match(graph, rule, start, map));
+        print_reply(lg_find_match(graph, rule, start, map));
         io::write_all(1, b"\nmap:");
         print_numbers(map, 0, map.len(), 2);
         return true;
     }
     if letter == b'W' {
-        io::print_decimal(1, lg_rewrite(graph, rule, start, map));
+        print_reply(lg_rewrite(graph, rule, start, map));
         io::write_all(1, b"\nmap:");
         print_numbers(map, 0, map.len(), 2);
         graph_lines(graph);

@@ -40,6 +40,16 @@ pub fn print_numbers(block: &[u8], from: usize, to: usize, width: usize)
     }
 }
 
+// Prints a reply: its number, and its place where that is not 0. No reply has a value yet.
+pub fn print_reply(reply: u64) {
+    io::print_decimal(1, reply % 256);
+    let place = reply / 256;
+    if place != 0 {
+        io::write_all(1, b" at ");
+        io::print_decimal(1, place);
+    }
+}
+
 // A line for a graph's outputs, and one for each slot: its number, kind, operator, first two input places and first attribute. Each
 // follows a line's end.
 pub fn graph_lines(graph: &[u8]) {

@@ -194,7 +194,7 @@ returns-3 : tie.Need-returns-3 Inv-loop μ-loop
 returns-3 c = let a = c .before .before .before .before .before .before .before in let i = c .before .before .before in (
   a .loop .inv .1,
   found (start a .args .root) (start a .args .progress .now) (a .loop .progress)
-      (closes (a .loop .inv .0) (table (start a .pre .0 .closed)) (i .input-at .result) (input-read i) (c .if5 .left) (c .before .if4 .left)),
+      (closes (a .loop .inv .0) (i .input-at .result) (input-read i) (c .if5 .left) (c .before .if4 .left)),
 )
 
 pub finds-cycle-spec : {M : Type 1} → statement M

@@ -3,7 +3,7 @@
 use mathlib.Core.Path.{sym, _∙_}
 use Rattle.definitions.specs.Operations.{blocksReply}
 use Rattle.laws.proofs.Reply.{first-done, first-refused, first-last}
-use Rattle.laws.proofs.Operations.{rule-plain}
+use Rattle.laws.proofs.Operations.{rule-valueless}
 use borrow.Author.Needs.{needs}
 use Rattle.blocks.proofs.check_blocks.Statement.{statement}
 use Rattle.blocks.proofs.check_blocks.Tie as tie
@@ -53,7 +53,7 @@ returns-3 c =
     let t = g .before in
     let m = t .before .before in
     c .check2 .ensures ∙ sym (first-done _ (sym (m .check-map .ensures) ∙ t .enum-told .given .1)
-    ∙ first-done _ (sym (g .check .ensures) ∙ u .enum-told2 .given .1) ∙ first-last _ (rule-plain _))
+    ∙ first-done _ (sym (g .check .ensures) ∙ u .enum-told2 .given .1) ∙ first-last _ (rule-valueless _))
 
 pub check-blocks-spec : {M : Type 1} → statement M
 check-blocks-spec =

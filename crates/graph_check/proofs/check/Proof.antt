@@ -2,12 +2,13 @@
 -- Assumes nothing.
 use borrow.Author.Needs.{needs}
 use borrow.Author.Tests.{not-true, not-false}
-use mathlib.Core.Path.{_≡_, sym, _∙_}
+use mathlib.Core.Path.{_≡_, sym, ap, _∙_}
 use mathlib.Core.Bool.{true}
 use mathlib.Core.List.{List}
 use Prim.Native.Nat.{ℕ, _≤_}
 use native.Mathlib.Omega.{arith}
 use Rattle.definitions.specs.Lists.{lowest}
+use Rattle.definitions.specs.Reply.{badGraphRecord, badGraphName, graphHasCycle, refusedAt}
 use Rattle.definitions.specs.Graph.{slotCount, outputCount, graphOf, headerFits, badRecord, badInputs, badOutput}
 use Rattle.graph_fields.specs.Layout.{WholeGraph}
 use Rattle.graph_check.proofs.Laws.{whole, readable, closed, refused-header, refused-record, refused-input, refused-output, refused-cycle, sound}
@@ -32,30 +33,30 @@ records : (c : tie.Else2) → let block = block₁ (to₁ c) in slotCount block 
 records c = omega (arith, c .before .bad-record .ensures, c .before .before .slot-count .ensures .0)
 
 abbrev to₂ : tie.Else3 → tie.Else2
-to₂ c = c .before .before
+to₂ c = c .before .before .before .before
 
 inputs : (c : tie.Else3) → let block = block₁ (to₁ (to₂ c)) in slotCount block ≤ lowest (badInputs (graphOf block)) (slotCount block)
-inputs c = omega (arith, c .before .bad-inputs .ensures, to₂ c .before .before .slot-count .ensures .0)
+inputs c = omega (arith, c .before .before .before .bad-inputs .ensures, to₂ c .before .before .slot-count .ensures .0)
 
 abbrev to₃ : tie.Else4 → tie.Else3
-to₃ c = c .before .before .before
+to₃ c = c .before
 
 outputs : (c : tie.Else4)
     → let block = block₁ (to₁ (to₂ (to₃ c))) in outputCount block ≤ lowest (badOutput (graphOf block)) (outputCount block)
-outputs c = omega (arith, c .before .before .bad-output .ensures, c .before .output-count .ensures .0)
+outputs c = omega (arith, to₃ c .before .bad-output .ensures, to₃ c .before .before .output-count .ensures .0)
 
 -- ---- the needs, in the code's order
 
 header-fits-requires : tie.Need-header-fits-requires
 header-fits-requires c κs = search needs
 
-bad-graph-requires : tie.Need-bad-graph-requires
-bad-graph-requires c κs = search needs
+refuse-requires : tie.Need-refuse-requires
+refuse-requires c κs = search needs
 
 returns : tie.Need-returns
 returns c =
     let call = c .before .before in
-    c .bad-graph .ensures
+    c .refuse .ensures
     ∙ refused-header _ (sym (call .header-fits .ensures) ∙ not-true (call .header-fits .result) (c .before .if1 .taken))
 
 slot-count-requires : tie.Need-slot-count-requires
@@ -64,87 +65,108 @@ slot-count-requires c κs = omega (arith, laid-out c .size)
 bad-record-requires : tie.Need-bad-record-requires
 bad-record-requires c κs = laid-out (c .before)
 
-bad-graph-requires-2 : tie.Need-bad-graph-requires-2
-bad-graph-requires-2 c κs = search needs
+cast-refuse-at : tie.Need-cast-refuse-at
+cast-refuse-at c = omega (arith, c .if2 .taken, c .before .before .slot-count .ensures .1)
+
+refuse-at-requires : tie.Need-refuse-at-requires
+refuse-at-requires c κs = search needs
 
 returns-2 : tie.Need-returns-2
 returns-2 c =
     let call = c .before .before in
-    c .bad-graph2 .ensures
+    c .refuse-at .ensures ∙ ap (refusedAt badGraphRecord) (call .bad-record .ensures)
     ∙ refused-record _ (header (call .before .before)) (omega (arith, call .bad-record .ensures, call .before .slot-count .ensures .0))
 
 bad-inputs-requires : tie.Need-bad-inputs-requires
 bad-inputs-requires c κs = readable _ (laid-out (to₁ c)) (records c)
 
-bad-graph-requires-3 : tie.Need-bad-graph-requires-3
-bad-graph-requires-3 c κs = search needs
+output-count-requires : tie.Need-output-count-requires
+output-count-requires c κs = omega (arith, laid-out (to₁ (c .before)) .size)
+
+bad-output-requires : tie.Need-bad-output-requires
+bad-output-requires c κs = laid-out (to₁ (c .before .before))
+
+cast-refuse-at-2 : tie.Need-cast-refuse-at-2
+cast-refuse-at-2 c =
+    let counted = c .before .before in
+    omega (arith, c .if3 .taken, counted .output-count .ensures .1, counted .before .before .before .before .slot-count .ensures .1)
+
+refuse-at-requires-2 : tie.Need-refuse-at-requires-2
+refuse-at-requires-2 c κs = search needs
 
 returns-3 : tie.Need-returns-3
 returns-3 c =
-    let call = c .before .before in
+    let call = c .before .before .before .before in
     let e = call .before in
-    c .bad-graph3 .ensures
-    ∙ refused-input _ (header (to₁ e)) (records e) (omega (arith, call .bad-inputs .ensures, e .before .before .slot-count .ensures .0))
+    c .refuse-at2 .ensures ∙ ap (refusedAt badGraphName) (call .bad-inputs .ensures)
+    ∙ refused-input _ (header (to₁ e)) (records e)
+    (omega (arith, c .before .if3 .taken, call .bad-inputs .ensures, e .before .before .slot-count .ensures .0))
 
-bad-output-requires : tie.Need-bad-output-requires
-bad-output-requires c κs = laid-out (to₁ (to₂ c))
+cast-refuse-at-3 : tie.Need-cast-refuse-at-3
+cast-refuse-at-3 c =
+    let counted = c .before .before .before in
+    omega (arith, c .if4 .taken, counted .output-count .ensures .1, counted .before .before .before .before .slot-count .ensures .1)
 
-output-count-requires : tie.Need-output-count-requires
-output-count-requires c κs = omega (arith, laid-out (to₁ (to₂ (c .before))) .size)
-
-bad-graph-requires-4 : tie.Need-bad-graph-requires-4
-bad-graph-requires-4 c κs = search needs
+refuse-at-requires-3 : tie.Need-refuse-at-requires-3
+refuse-at-requires-3 c κs = search needs
 
 returns-4 : tie.Need-returns-4
 returns-4 c =
-    let call = c .before .before in
-    let e = call .before .before in
-    c .bad-graph4 .ensures
+    let e = c .before .before in
+    c .refuse-at3 .ensures ∙ ap (refusedAt badGraphName) (e .before .bad-output .ensures)
     ∙ refused-output _ (header (to₁ (to₂ e))) (records (to₂ e)) (inputs e)
-    (omega (arith, call .before .bad-output .ensures, call .output-count .ensures .0))
+    (omega (arith, c .before .if4 .taken, e .before .bad-output .ensures, e .before .before .output-count .ensures .0))
 
-has-cycle-requires : tie.Need-has-cycle-requires
-has-cycle-requires c κs =
+lowest-on-cycle-requires : tie.Need-lowest-on-cycle-requires
+lowest-on-cycle-requires c κs =
     let e = to₃ c in
     let r = readable _ (laid-out (to₁ (to₂ e))) (records (to₂ e)) in
     (r, closed _ r (inputs e))
 
-bad-graph-requires-5 : tie.Need-bad-graph-requires-5
-bad-graph-requires-5 c κs = search needs
+cast-refuse-at-4 : tie.Need-cast-refuse-at-4
+cast-refuse-at-4 c = omega (arith, c .if5 .taken, to₂ (to₃ (c .before .before)) .before .before .slot-count .ensures .1)
+
+refuse-at-requires-4 : tie.Need-refuse-at-requires-4
+refuse-at-requires-4 c κs = search needs
 
 returns-5 : tie.Need-returns-5
 returns-5 c =
     let call = c .before .before in
     let e = to₃ (call .before) in
-    c .bad-graph5 .ensures
+    c .refuse-at4 .ensures ∙ ap (refusedAt graphHasCycle) (call .lowest-on-cycle .ensures)
     ∙ refused-cycle _ (header (to₁ (to₂ e))) (records (to₂ e)) (inputs e) (outputs (call .before))
-    (sym (call .has-cycle .ensures) ∙ c .before .if5 .taken)
+    (omega (arith, c .before .if5 .taken, call .lowest-on-cycle .ensures, to₂ e .before .before .slot-count .ensures .0))
 
 returns-6 : tie.Need-returns-6
 returns-6 c =
     let call = c .before in
     let e = to₃ (call .before) in
-    sound _ (header (to₁ (to₂ e))) (records (to₂ e)) (inputs e) (outputs (call .before)) (sym (call .has-cycle .ensures) ∙ c .if5 .left)
+    sound _ (header (to₁ (to₂ e))) (records (to₂ e)) (inputs e) (outputs (call .before))
+    (omega (arith, c .if5 .left, call .lowest-on-cycle .ensures, to₂ e .before .before .slot-count .ensures .0))
 
 pub check-spec : {M : Type 1} → statement M
 check-spec =
     tie.close
     (tie.spec
     header-fits-requires
-    bad-graph-requires
+    refuse-requires
     returns
     slot-count-requires
     bad-record-requires
-    bad-graph-requires-2
+    cast-refuse-at
+    refuse-at-requires
     returns-2
     bad-inputs-requires
-    bad-graph-requires-3
-    returns-3
-    bad-output-requires
     output-count-requires
-    bad-graph-requires-4
+    bad-output-requires
+    cast-refuse-at-2
+    refuse-at-requires-2
+    returns-3
+    cast-refuse-at-3
+    refuse-at-requires-3
     returns-4
-    has-cycle-requires
-    bad-graph-requires-5
+    lowest-on-cycle-requires
+    cast-refuse-at-4
+    refuse-at-requires-4
     returns-5
     returns-6)

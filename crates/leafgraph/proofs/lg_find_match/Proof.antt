@@ -2,8 +2,8 @@
 -- Assumes nothing.
 use mathlib.Core.Path.{ap, _∙_}
 use Rattle.definitions.specs.Operations.{Outcome, atReturn, returned}
-use Rattle.laws.proofs.Reply.{plain-fits}
-use Rattle.laws.proofs.Operations.{match-plain}
+use Rattle.laws.proofs.Reply.{valueless-fits}
+use Rattle.laws.proofs.Operations.{match-valueless}
 use borrow.Author.Needs.{needs}
 use Rattle.leafgraph.proofs.lg_find_match.Statement.{statement}
 use Rattle.leafgraph.proofs.lg_find_match.Tie as tie
@@ -15,7 +15,7 @@ pack-requires : tie.Need-pack-requires
 pack-requires c κs =
     let f = c .before .before in
     let a = f .before .before .before .before .before .args in
-    plain-fits (ap (λ (o : Outcome). o .reply) (f .find-match .ensures)) (match-plain (a .graph .now) (a .rule .now) (a .start) (a .map .now))
+    valueless-fits (ap (λ (o : Outcome). o .reply) (f .find-match .ensures)) (match-valueless (a .graph .now) (a .rule .now) (a .start) (a .map .now))
 
 same-length : tie.Need-same-length
 same-length c = search needs

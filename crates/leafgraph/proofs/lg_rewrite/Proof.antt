@@ -3,8 +3,8 @@
 use mathlib.Core.Path.{ap, _∙_}
 use native.Mathlib.Omega.{arith}
 use Rattle.definitions.specs.Operations.{Outcome, atReturn, returned}
-use Rattle.laws.proofs.Reply.{plain-fits}
-use Rattle.laws.proofs.Operations.{rewrite-plain}
+use Rattle.laws.proofs.Reply.{valueless-fits}
+use Rattle.laws.proofs.Operations.{rewrite-valueless}
 use borrow.Author.Needs.{needs}
 use Rattle.leafgraph.proofs.lg_rewrite.Statement.{statement}
 use Rattle.leafgraph.proofs.lg_rewrite.Tie as tie
@@ -16,7 +16,7 @@ pack-requires : tie.Need-pack-requires
 pack-requires c κs =
     let f = c .before .before .before .before in
     let a = f .before .before .before .before .before .before .args in
-    plain-fits (ap (λ (o : Outcome). o .reply) (f .rewrite .ensures)) (rewrite-plain (a .graph .now) (a .rule .now) (a .start) (a .map .now))
+    valueless-fits (ap (λ (o : Outcome). o .reply) (f .rewrite .ensures)) (rewrite-valueless (a .graph .now) (a .rule .now) (a .start) (a .map .now))
 
 same-length : tie.Need-same-length
 same-length c = search needs

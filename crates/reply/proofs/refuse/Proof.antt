@@ -1,13 +1,14 @@
--- The refusal is built as the definition has it.
+-- A refusal for which no request names a place is one at place 0.
 -- Assumes nothing.
-use mathlib.Core.Path.{refl}
-use Rattle.definitions.specs.Reply.{refusal, noPlace}
+use borrow.Author.Needs.{needs}
 use Rattle.reply.proofs.refuse.Statement.{statement}
 use Rattle.reply.proofs.refuse.Tie as tie
 
+refuse-at-requires : tie.Need-refuse-at-requires
+refuse-at-requires c κs = search needs
+
 returns : tie.Need-returns
-unfolding refusal noPlace
-returns c = refl
+returns c = c .refuse-at .ensures
 
 pub refuse-spec : {M : Type 1} → statement M
-refuse-spec = tie.close (tie.spec returns)
+refuse-spec = tie.close (tie.spec refuse-at-requires returns)

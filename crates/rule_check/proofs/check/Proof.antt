@@ -2,13 +2,14 @@
 -- Assumes nothing.
 use borrow.Author.Needs.{needs}
 use borrow.Author.Tests.{not-true, not-false}
-use mathlib.Core.Path.{_≡_, sym, _∙_}
+use mathlib.Core.Path.{_≡_, sym, ap, _∙_}
 use mathlib.Core.Bool.{true}
 use mathlib.Core.List.{List}
 use Prim.Native.Nat.{ℕ, _+_, _≤_}
 use native.Mathlib.Omega.{arith}
 use Rattle.definitions.specs.Lists.{lowest}
-use Rattle.definitions.specs.Rule.{sideLimit, sourceCount, targetCount, nodeCount, ruleOf, ruleHeaderFits, badVertex, inVisitingOrder, outputsFit, badNode}
+use Rattle.definitions.specs.Reply.{badRuleRecord, badRuleOrder, badRuleExpression, refusedAt}
+use Rattle.definitions.specs.Rule.{sideLimit, sourceCount, targetCount, nodeCount, ruleOf, ruleHeaderFits, badVertex, outOfOrder, outputsFit, badNode}
 use Rattle.rule_fields.specs.Layout.{WholeRule, ReadableRule, LayeredRule}
 use Rattle.rule_check.proofs.Laws.{whole, readable, layered, refused-header, refused-vertex, refused-order, refused-outputs, refused-node, refused-use, sound}
 use Rattle.rule_check.proofs.check.Statement.{statement}
@@ -46,8 +47,9 @@ layers c = record { readable = read c; layered = layered (block₂ c) (vertices 
 abbrev to₂ : tie.Else3 → tie.Else2
 to₂ c = c .before .before
 
-order : (c : tie.Else3) → inVisitingOrder (ruleOf (block₂ (to₂ c))) ≡ true
-order c = sym (c .before .in-visiting-order .ensures) ∙ not-false (c .before .in-visiting-order .result) (c .if3 .left)
+order : (c : tie.Else3)
+    → let block = block₂ (to₂ c) in sourceCount block ≤ lowest (outOfOrder (ruleOf block)) (sourceCount block)
+order c = omega (arith, c .before .first-misplaced .ensures, to₂ c .before .before .before .source-count .ensures .0)
 
 abbrev to₃ : tie.Else4 → tie.Else3
 to₃ c = c .before .before
@@ -69,13 +71,13 @@ nodes c = omega (arith, c .before .before .bad-node .ensures, c .before .node-co
 header-fits-requires : tie.Need-header-fits-requires
 header-fits-requires c κs = search needs
 
-bad-rule-requires : tie.Need-bad-rule-requires
-bad-rule-requires c κs = search needs
+refuse-requires : tie.Need-refuse-requires
+refuse-requires c κs = search needs
 
 returns : tie.Need-returns
 returns c =
     let call = c .before .before in
-    c .bad-rule .ensures
+    c .refuse .ensures
     ∙ refused-header _ (sym (call .header-fits .ensures) ∙ not-true (call .header-fits .result) (c .before .if1 .taken))
 
 source-count-requires : tie.Need-source-count-requires
@@ -90,42 +92,50 @@ add-vertices c = search needs
 bad-vertex-requires : tie.Need-bad-vertex-requires
 bad-vertex-requires c κs = laid-out (c .before .before)
 
-bad-rule-requires-2 : tie.Need-bad-rule-requires-2
-bad-rule-requires-2 c κs = search needs
+cast-refuse-at : tie.Need-cast-refuse-at
+cast-refuse-at c =
+    let counts = c .before .before in
+    omega (arith, c .if2 .taken, counts .target-count .ensures .1, counts .before .source-count .ensures .1)
+
+refuse-at-requires : tie.Need-refuse-at-requires
+refuse-at-requires c κs = search needs
 
 returns-2 : tie.Need-returns-2
 returns-2 c =
     let call = c .before .before in
     let counts = call .before in
-    c .bad-rule2 .ensures
+    c .refuse-at .ensures ∙ ap (refusedAt badRuleRecord) (call .bad-vertex .ensures)
     ∙ refused-vertex _ (header (counts .before .before))
     (omega (arith, call .bad-vertex .ensures, counts .target-count .ensures .0, counts .before .source-count .ensures .0))
 
-in-visiting-order-requires : tie.Need-in-visiting-order-requires
-in-visiting-order-requires c κs = layers c
+first-misplaced-requires : tie.Need-first-misplaced-requires
+first-misplaced-requires c κs = layers c
 
-bad-rule-requires-3 : tie.Need-bad-rule-requires-3
-bad-rule-requires-3 c κs = search needs
+cast-refuse-at-2 : tie.Need-cast-refuse-at-2
+cast-refuse-at-2 c = omega (arith, c .if3 .taken, c .before .before .before .before .before .source-count .ensures .1)
+
+refuse-at-requires-2 : tie.Need-refuse-at-requires-2
+refuse-at-requires-2 c κs = search needs
 
 returns-3 : tie.Need-returns-3
 returns-3 c =
     let call = c .before .before in
     let e = call .before in
-    c .bad-rule3 .ensures
+    c .refuse-at2 .ensures ∙ ap (refusedAt badRuleOrder) (call .first-misplaced .ensures)
     ∙ refused-order _ (header (to₁ e)) (vertices e)
-    (sym (call .in-visiting-order .ensures) ∙ not-true (call .in-visiting-order .result) (c .before .if3 .taken))
+    (omega (arith, c .before .if3 .taken, call .first-misplaced .ensures, e .before .before .before .source-count .ensures .0))
 
 outputs-fit-requires : tie.Need-outputs-fit-requires
 outputs-fit-requires c κs = layers (to₂ c)
 
-bad-rule-requires-4 : tie.Need-bad-rule-requires-4
-bad-rule-requires-4 c κs = search needs
+refuse-requires-2 : tie.Need-refuse-requires-2
+refuse-requires-2 c κs = search needs
 
 returns-4 : tie.Need-returns-4
 returns-4 c =
     let call = c .before .before in
     let e = call .before in
-    c .bad-rule4 .ensures
+    c .refuse2 .ensures
     ∙ refused-outputs _ (header (to₁ (to₂ e))) (vertices (to₂ e)) (order e)
     (sym (call .outputs-fit .ensures) ∙ not-true (call .outputs-fit .result) (c .before .if4 .taken))
 
@@ -135,23 +145,31 @@ bad-node-requires c κs = laid-out (to₁ (to₂ (to₃ c)))
 node-count-requires : tie.Need-node-count-requires
 node-count-requires c κs = omega (arith, laid-out (to₁ (to₂ (to₃ (c .before)))) .size)
 
-bad-rule-requires-5 : tie.Need-bad-rule-requires-5
-bad-rule-requires-5 c κs = search needs
+cast-refuse-at-3 : tie.Need-cast-refuse-at-3
+cast-refuse-at-3 c = omega (arith, c .if5 .taken, c .before .node-count .ensures .1)
+
+refuse-at-requires-3 : tie.Need-refuse-at-requires-3
+refuse-at-requires-3 c κs = search needs
 
 returns-5 : tie.Need-returns-5
 returns-5 c =
     let call = c .before .before in
     let e = call .before .before in
     let d = to₂ (to₃ e) in
-    c .bad-rule5 .ensures
+    c .refuse-at3 .ensures ∙ ap (refusedAt badRuleExpression) (call .before .bad-node .ensures)
     ∙ refused-node _ (header (to₁ d)) (vertices d) (order (to₃ e)) (outputs e)
     (omega (arith, call .before .bad-node .ensures, call .node-count .ensures .0))
 
 bad-use-requires : tie.Need-bad-use-requires
 bad-use-requires c κs = (read (to₂ (to₃ (to₄ c))), nodes c)
 
-bad-rule-requires-6 : tie.Need-bad-rule-requires-6
-bad-rule-requires-6 c κs = search needs
+cast-refuse-at-4 : tie.Need-cast-refuse-at-4
+cast-refuse-at-4 c =
+    let counts = to₂ (to₃ (to₄ (c .before .before))) .before .before in
+    omega (arith, c .if6 .taken, counts .target-count .ensures .1, counts .before .source-count .ensures .1)
+
+refuse-at-requires-4 : tie.Need-refuse-at-requires-4
+refuse-at-requires-4 c κs = search needs
 
 returns-6 : tie.Need-returns-6
 returns-6 c =
@@ -159,7 +177,7 @@ returns-6 c =
     let e = to₄ (call .before) in
     let d = to₂ (to₃ e) in
     let counts = d .before .before in
-    c .bad-rule6 .ensures
+    c .refuse-at4 .ensures ∙ ap (refusedAt badRuleExpression) (call .bad-use .ensures)
     ∙ refused-use _ (header (to₁ d)) (vertices d) (order (to₃ e)) (outputs e) (nodes (call .before))
     (omega (arith, call .bad-use .ensures, counts .target-count .ensures .0, counts .before .source-count .ensures .0))
 
@@ -177,25 +195,29 @@ check-spec =
     tie.close
     (tie.spec
     header-fits-requires
-    bad-rule-requires
+    refuse-requires
     returns
     source-count-requires
     target-count-requires
     add-vertices
     bad-vertex-requires
-    bad-rule-requires-2
+    cast-refuse-at
+    refuse-at-requires
     returns-2
-    in-visiting-order-requires
-    bad-rule-requires-3
+    first-misplaced-requires
+    cast-refuse-at-2
+    refuse-at-requires-2
     returns-3
     outputs-fit-requires
-    bad-rule-requires-4
+    refuse-requires-2
     returns-4
     bad-node-requires
     node-count-requires
-    bad-rule-requires-5
+    cast-refuse-at-3
+    refuse-at-requires-3
     returns-5
     bad-use-requires
-    bad-rule-requires-6
+    cast-refuse-at-4
+    refuse-at-requires-4
     returns-6
     returns-7)

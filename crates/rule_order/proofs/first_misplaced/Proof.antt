@@ -6,8 +6,8 @@ use borrow.Author.Needs.{needs}
 use borrow.Author.Tests.{not-true, not-false}
 use Rattle.definitions.specs.Rule.{sourceCount, ruleOutputCount}
 use Rattle.rule_order.proofs.Laws.{Continues, outputs-begin, outputs-done, output-wrong, output-passed}
-use Rattle.rule_order.proofs.in_visiting_order.Statement.{statement}
-use Rattle.rule_order.proofs.in_visiting_order.Tie as tie
+use Rattle.rule_order.proofs.first_misplaced.Statement.{statement}
+use Rattle.rule_order.proofs.first_misplaced.Tie as tie
 
 abbrev Inv-loop : tie.InvT-loop
 Inv-loop rule outputs next₀ i₀ next i = (i ≤ outputs) × (next ≤ sourceCount rule) × Continues rule i next
@@ -58,16 +58,13 @@ loop-again c =
           (place (o .before)) (o .source-output .ensures .0) (inside o) (c .before .before .visit .ensures) (not-false _ (c .if1 .left)),
     )
 
-source-count-requires : tie.Need-source-count-requires Inv-loop μ-loop
-source-count-requires c κs = search needs
-
 returns-2 : tie.Need-returns-2 Inv-loop μ-loop
 returns-2 c =
-    let l = c .before .before in
-    rw (c .source-count .ensures .0) (outputs-done (l .before .before .before .args .rule .now) (l .loop .i) (l .loop .next) (l .loop .inv .2) (omega arith))
+    let l = c .before in
+    outputs-done (l .before .before .before .args .rule .now) (l .loop .i) (l .loop .next) (l .loop .inv .2) (omega arith) (l .loop .inv .1)
 
-pub in-visiting-order-spec : {M : Type 1} → statement M
-in-visiting-order-spec =
+pub first-misplaced-spec : {M : Type 1} → statement M
+first-misplaced-spec =
     tie.close
     (tie.spec
     Inv-loop
@@ -80,5 +77,4 @@ in-visiting-order-spec =
     add-i
     loop-less
     loop-again
-    source-count-requires
     returns-2)
