@@ -1,4 +1,6 @@
-//! "No vertex has a path of one or more edges to itself."
+//! "No vertex has a path of one or more edges to itself." Whether one has is
+//! told by one walk over the whole graph; which slots have one, by a search for
+//! each of them.
 
 use crate::graph::{Graph, MAX_SLOTS};
 
@@ -59,4 +61,32 @@ impl Walk {
         self.path[self.depth] = (number, 0);
         self.depth += 1;
     }
+}
+
+/// "for a cycle, the lowest slot on one". A slot that only reads from a cycle,
+/// or is only read by one, is not on it. All inputs must name slots below N.
+pub fn lowest_on_cycle(graph: Graph) -> Option<usize> {
+    // Of most graphs no slot is searched from.
+    if !has_cycle(graph) {
+        return None;
+    }
+    (0..graph.slot_count()).find(|&slot| reads_itself(graph, slot))
+}
+
+/// Whether a slot is met again on the way from it to its inputs, to theirs and
+/// so on.
+fn reads_itself(graph: Graph, slot: usize) -> bool {
+    let mut seen = [false; MAX_SLOTS];
+    let mut open = vec![slot];
+    while let Some(reader) = open.pop() {
+        for input in graph.slot(reader).inputs().map(usize::from) {
+            if input == slot {
+                return true;
+            }
+            if !std::mem::replace(&mut seen[input], true) {
+                open.push(input);
+            }
+        }
+    }
+    false
 }

@@ -1,9 +1,9 @@
 //! The graph block: a view of its fields, and the check.
 
-use crate::cycle::has_cycle;
+use crate::cycle::lowest_on_cycle;
 use crate::fields::{all_zero, i32_at, put_i32, put_u16, u16_at};
 use crate::operators::{counts_fit, EMPTY, PLACES, PROJ};
-use crate::reply::Refusal;
+use crate::reply::{refuse_at, Refusal, GRAPH_CYCLE, GRAPH_NAME, GRAPH_RECORD};
 
 /// "N slots, 1 to 512."
 pub const MAX_SLOTS: usize = 512;
@@ -33,21 +33,21 @@ pub struct Slot<'a> {
 impl<'a> Graph<'a> {
     /// The graph in these bytes, if they are a sound block. The kinds of
     /// fault, in order: "length or header; a record against its kind; an
-    /// input or output that names no vertex; a cycle".
+    /// input or output that names no vertex; a cycle". "The first kind that
+    /// holds anywhere is given", with "the lowest slot [...] with that fault";
+    /// a graph output is "looked at after all inputs".
     pub fn parse(bytes: &'a [u8]) -> Result<Graph<'a>, Refusal> {
         if !header_is_sound(bytes) {
-            return Err(Refusal::BAD_GRAPH);
+            return Err(Refusal::GRAPH_HEADER);
         }
         let graph = Graph::view(bytes);
-        let sound = graph.slots().all(Slot::is_sound)
-            && graph.slots().all(|slot| graph.inputs_name_vertices(slot))
-            && graph.outputs().all(|output| graph.names_vertex(output))
-            && !has_cycle(graph);
-        if sound {
-            Ok(graph)
-        } else {
-            Err(Refusal::BAD_GRAPH)
-        }
+        refuse_at(GRAPH_RECORD, graph.slots().position(|slot| !slot.is_sound()))?;
+        let misnamed = graph.slots().position(|slot| !graph.inputs_name_vertices(slot));
+        refuse_at(GRAPH_NAME, misnamed)?;
+        let misnamed = graph.outputs().position(|output| !graph.names_vertex(output));
+        refuse_at(GRAPH_NAME, misnamed)?;
+        refuse_at(GRAPH_CYCLE, lowest_on_cycle(graph))?;
+        Ok(graph)
     }
 
     /// The same view without the check, for a table still being made.
@@ -87,29 +87,37 @@ impl<'a> Graph<'a> {
     }
 
     /// "Each input and each output names a slot that isn't Empty."
-    fn names_vertex(self, number: u16) -> bool {
+    pub(crate) fn names_vertex(self, number: u16) -> bool {
         let number = usize::from(number);
         number < self.slot_count() && !self.slot(number).is_empty()
     }
 
-    fn inputs_name_vertices(self, slot: Slot) -> bool {
+    pub(crate) fn inputs_name_vertices(self, slot: Slot) -> bool {
         slot.inputs().all(|input| self.names_vertex(input))
     }
 }
 
 /// "Header: bytes 0-2 `LGT`; 3 zero; 4-5 version 1; 6-7 N; 8-9 output count,
-/// 1 to 4; 10-17 four output numbers; 18-23 zero", and the length.
-fn header_is_sound(bytes: &[u8]) -> bool {
-    if bytes.len() < HEADER || bytes[..4] != *b"LGT\0" || u16_at(bytes, 4) != 1 {
-        return false;
-    }
+/// 1 to 4; 10-17 four output numbers; 18-23 zero", and the length. Whether each
+/// part is right, for a block that has a header. "Unused output places count as
+/// header."
+pub(crate) fn header_parts(bytes: &[u8]) -> [bool; 8] {
     let graph = Graph::view(bytes);
     let (slots, outputs) = (graph.slot_count(), graph.output_count());
-    (1..=MAX_SLOTS).contains(&slots)
-        && (1..=OUTPUT_PLACES).contains(&outputs)
-        && (outputs..OUTPUT_PLACES).all(|place| u16_at(bytes, 10 + 2 * place) == UNUSED)
-        && all_zero(&bytes[18..24])
-        && bytes.len() == HEADER + RECORD * slots
+    [
+        bytes[..3] == *b"LGT",
+        bytes[3] == 0,
+        u16_at(bytes, 4) == 1,
+        (1..=MAX_SLOTS).contains(&slots),
+        (1..=OUTPUT_PLACES).contains(&outputs),
+        (outputs..OUTPUT_PLACES).all(|place| u16_at(bytes, 10 + 2 * place) == UNUSED),
+        all_zero(&bytes[18..24]),
+        bytes.len() == HEADER + RECORD * slots,
+    ]
+}
+
+fn header_is_sound(bytes: &[u8]) -> bool {
+    bytes.len() >= HEADER && header_parts(bytes) == [true; 8]
 }
 
 impl<'a> Slot<'a> {
@@ -158,7 +166,7 @@ impl<'a> Slot<'a> {
 
     /// The record against its kind: the table, unused places, "40-47 zero",
     /// and a Proj's "index, at least 1".
-    fn is_sound(self) -> bool {
+    pub(crate) fn is_sound(self) -> bool {
         let [kind, operator, inputs, attributes] = self.head();
         counts_fit(kind, operator, inputs, attributes)
             && (self.input_count()..PLACES).all(|place| self.input(place) == UNUSED)

@@ -1,14 +1,13 @@
-//! The second program of leafgraph: document 01, with request 1/13 of document
-//! 02, in plain Rust.
+//! The second program of leafgraph: document 01, with requests 1/13 and 2/13 of
+//! document 02, in plain Rust.
 //!
 //! It is written from these papers alone, not from the proved library, so that
 //! an error of reading in one of the two shows up as a difference between
-//! them. Sentences in quotation marks are document 01's, or the request's where
-//! it is named.
+//! them. Sentences in quotation marks are document 01's or a request's.
 //!
 //! "Four operations: check a graph, check a rule, find a match, rewrite."
 //! Each answers any bytes of any length. The reply holds its number in bits 0
-//! to 7; the other bits are 0 for now.
+//! to 7 and its place in bits 8 to 39; the other bits are 0 for now.
 #![forbid(unsafe_code)]
 
 pub mod attributes;
@@ -35,24 +34,25 @@ use rule::Rule;
 /// "map buffer isn't 32 bytes": the only length of a map that is taken.
 pub const MAP_LENGTH: usize = 32;
 
-/// "Checking a graph gives 0 or 2"; "the checks write nothing".
+/// "Checking a graph gives 0 or 2", and "20 to 23 replace 2"; "the checks write
+/// nothing".
 pub fn check_graph(graph: &[u8]) -> u64 {
     reply_of(Graph::parse(graph).map(|_| ()))
 }
 
-/// "a rule 0 or 3".
+/// "a rule 0 or 3", and "30 to 34 replace 3".
 pub fn check_rule(rule: &[u8]) -> u64 {
     reply_of(Rule::parse(rule).map(|_| ()))
 }
 
-/// "matching 0 to 4". "Done, in matching and in rewriting, writes the map."
+/// "matching 0 to 4", where the numbers that replace 2 and 3 stand "in place".
+/// "Done, in matching and in rewriting, writes the map."
 /// A start is any number and is compared with N as it is.
 pub fn find_match(graph: &[u8], rule: &[u8], start: usize, map: &mut [u8]) -> u64 {
     reply_of(try_find_match(graph, rule, start, map))
 }
 
-/// "rewriting 0 to 7". "A refusal returns its number only; every lent byte
-/// keeps its content."
+/// "rewriting 0 to 7". After a refusal "every lent byte keeps its content".
 pub fn rewrite(graph: &mut [u8], rule: &[u8], start: usize, map: &mut [u8]) -> u64 {
     reply_of(try_rewrite(graph, rule, start, map))
 }

@@ -1,5 +1,21 @@
 //! "Inside, a reply is one of two cases, done or a refusal with its number
-//! and place record; the place is zero for now."
+//! and place record". Request 2/13 tells the kinds of fault apart, "20 to 23
+//! replace 2 and 30 to 34 replace 3", and gives the place.
+
+/// A graph's "record against its kind", with its slot.
+pub const GRAPH_RECORD: u8 = 21;
+/// A graph's "input or output that names no vertex", with the slot that has
+/// the input, or with the output's place.
+pub const GRAPH_NAME: u8 = 22;
+/// "a cycle", with a slot on it.
+pub const GRAPH_CYCLE: u8 = 23;
+/// A rule's "record, with its input places", with its vertex.
+pub const RULE_RECORD: u8 = 31;
+/// "visiting order", with "the first vertex that differs from the traversal".
+pub const RULE_ORDER: u8 = 32;
+/// "an expression, nodes first, then each vertex's use of them", with the node
+/// or the vertex.
+pub const RULE_EXPRESSION: u8 = 34;
 
 /// A refusal: its number and its place.
 #[derive(Clone, Copy, Debug, PartialEq, Eq)]
@@ -11,10 +27,13 @@ pub struct Refusal {
 impl Refusal {
     /// "map buffer isn't 32 bytes"
     pub const MAP_LENGTH: Refusal = Refusal::without_place(1);
-    /// "bad graph block"
-    pub const BAD_GRAPH: Refusal = Refusal::without_place(2);
-    /// "bad rule block"
-    pub const BAD_RULE: Refusal = Refusal::without_place(3);
+    /// A graph's "length or header"
+    pub const GRAPH_HEADER: Refusal = Refusal::without_place(20);
+    /// A rule's "length or header, with source output numbers at or above S"
+    pub const RULE_HEADER: Refusal = Refusal::without_place(30);
+    /// "outputs and connection, with unnamed rule inputs, unused target vertices
+    /// and bad target outputs"
+    pub const RULE_CONNECTION: Refusal = Refusal::without_place(33);
     /// "no match from s"
     pub const NO_MATCH: Refusal = Refusal::without_place(4);
     /// "a target attribute has no result, or a Proj index is below 1"
@@ -24,8 +43,17 @@ impl Refusal {
     /// "the table so made would have a cycle"
     pub const CYCLE: Refusal = Refusal::without_place(7);
 
+    /// "wherever no request names a place, 0"
     const fn without_place(number: u8) -> Refusal {
         Refusal { number, place: 0 }
+    }
+}
+
+/// Refuses with this number at this place, if there is one.
+pub fn refuse_at(number: u8, place: Option<usize>) -> Result<(), Refusal> {
+    match place {
+        Some(place) => Err(Refusal { number, place: place as u32 }),
+        None => Ok(()),
     }
 }
 

@@ -10,52 +10,64 @@
 
 use crate::fields::u16_at;
 use crate::operators::{counts_fit, CALL, CONST, PLACES, PROJ, TUPLE};
-use crate::reply::Refusal;
+use crate::reply::{refuse_at, Refusal, RULE_EXPRESSION, RULE_ORDER, RULE_RECORD};
 use crate::rule::{
     Node, Pattern, Rule, ACCESS, ANY, CONSTANT, HEADER, MAX_NODES, MAX_OUTPUTS, MAX_VERTICES, NODE,
     PATTERN, REMAINDER, TARGET_BASE, UNUSED,
 };
 
-/// The rule in these bytes, if every stage passes.
+/// The rule in these bytes, if every stage passes. "The first kind that holds
+/// anywhere is given", with "the lowest [...] vertex or node with that fault".
 pub fn parse(bytes: &[u8]) -> Result<Rule<'_>, Refusal> {
-    let sound = header_is_sound(bytes) && {
-        let rule = Rule::view(bytes);
-        source_records_are_sound(rule)
-            && target_records_are_sound(rule)
-            && stands_in_visiting_order(rule)
-            && source_outputs_are_sound(rule)
-            && outputs_are_connected(rule)
-            && target_outputs_are_sound(rule)
-            && rule_inputs_are_named(rule)
-            && target_vertices_are_used(rule)
-            && nodes_are_sound(rule)
-            && source_attributes_are_sound(rule)
-            && target_attributes_are_sound(rule)
-    };
-    if sound {
-        Ok(Rule::view(bytes))
-    } else {
-        Err(Refusal::BAD_RULE)
+    if !header_is_sound(bytes) {
+        return Err(Refusal::RULE_HEADER);
     }
+    let rule = Rule::view(bytes);
+    refuse_at(RULE_RECORD, sound_records(rule).position(|sound| !sound))?;
+    refuse_at(RULE_ORDER, first_out_of_order(rule))?;
+    if connection_parts(rule) != [true; 7] {
+        return Err(Refusal::RULE_CONNECTION);
+    }
+    refuse_at(RULE_EXPRESSION, sound_nodes(rule).position(|sound| !sound))?;
+    refuse_at(RULE_EXPRESSION, sound_uses(rule).position(|sound| !sound))?;
+    Ok(rule)
 }
 
 /// "Header: 0-2 `LGR`; 3 zero; 4-5 version 1; 6 S; 7 T; 8 K; 9 A; 10-11
 /// source outputs; 12-13 target outputs; 14-15 zero. Unused places hold 255."
-fn header_is_sound(bytes: &[u8]) -> bool {
-    if bytes.len() < HEADER || bytes[..4] != *b"LGR\0" || u16_at(bytes, 4) != 1 {
-        return false;
-    }
+/// Whether each part is right, for a block that has a header.
+pub(crate) fn header_parts(bytes: &[u8]) -> [bool; 12] {
     let rule = Rule::view(bytes);
     let (source, target) = (rule.source_count(), rule.target_count());
-    (1..=MAX_VERTICES).contains(&source)
-        && target <= MAX_VERTICES
-        && (1..=MAX_OUTPUTS).contains(&rule.output_count())
-        && rule.node_count() <= MAX_NODES
-        && bytes.len() == HEADER + PATTERN * (source + target) + NODE * rule.node_count()
-        && rule.source_outputs().all(|output| usize::from(output) < source)
-        && (rule.output_count()..MAX_OUTPUTS)
-            .all(|place| rule.source_output(place) == UNUSED && rule.target_output(place) == UNUSED)
-        && bytes[14..16] == [0, 0]
+    let used = rule.output_count().min(MAX_OUTPUTS);
+    [
+        bytes[..3] == *b"LGR",
+        bytes[3] == 0,
+        u16_at(bytes, 4) == 1,
+        (1..=MAX_VERTICES).contains(&source),
+        target <= MAX_VERTICES,
+        (1..=MAX_OUTPUTS).contains(&rule.output_count()),
+        rule.node_count() <= MAX_NODES,
+        (0..used).all(|place| usize::from(rule.source_output(place)) < source),
+        (used..MAX_OUTPUTS).all(|place| rule.source_output(place) == UNUSED),
+        (used..MAX_OUTPUTS).all(|place| rule.target_output(place) == UNUSED),
+        bytes[14..16] == [0, 0],
+        bytes.len() == HEADER + PATTERN * (source + target) + NODE * rule.node_count(),
+    ]
+}
+
+fn header_is_sound(bytes: &[u8]) -> bool {
+    bytes.len() >= HEADER && header_parts(bytes) == [true; 12]
+}
+
+/// Whether each vertex's record is sound. "Target vertex t counts as S + t", so
+/// the target's stand behind the source's.
+pub(crate) fn sound_records(rule: Rule<'_>) -> impl Iterator<Item = bool> + '_ {
+    let sources = rule.sources().enumerate();
+    let targets = rule.targets().enumerate();
+    sources
+        .map(|(vertex, pattern)| source_record_is_sound(vertex, pattern))
+        .chain(targets.map(move |(vertex, pattern)| target_record_is_sound(rule, vertex, pattern)))
 }
 
 /// "Kind 0 is the wildcard, operator, n and m zero; kinds 1 to 5 follow the
@@ -66,19 +78,15 @@ fn record_fits_kind(pattern: Pattern) -> bool {
 }
 
 /// "a source input names a lower vertex"
-fn source_records_are_sound(rule: Rule) -> bool {
-    rule.sources().enumerate().all(|(vertex, pattern)| {
-        record_fits_kind(pattern) && pattern.inputs().all(|input| usize::from(input) < vertex)
-    })
+fn source_record_is_sound(vertex: usize, pattern: Pattern) -> bool {
+    record_fits_kind(pattern) && pattern.inputs().all(|input| usize::from(input) < vertex)
 }
 
 /// "Target kinds are 1, 3, 4 and 5."
-fn target_records_are_sound(rule: Rule) -> bool {
-    rule.targets().enumerate().all(|(vertex, pattern)| {
-        matches!(pattern.kind(), CONST | CALL | TUPLE | PROJ)
-            && record_fits_kind(pattern)
-            && pattern.inputs().all(|place| names_rule_input_or_target_below(rule, place, vertex))
-    })
+fn target_record_is_sound(rule: Rule, vertex: usize, pattern: Pattern) -> bool {
+    matches!(pattern.kind(), CONST | CALL | TUPLE | PROJ)
+        && record_fits_kind(pattern)
+        && pattern.inputs().all(|place| names_rule_input_or_target_below(rule, place, vertex))
 }
 
 /// "A target input or output place holds 0 to 15 for a rule input of that
@@ -91,48 +99,77 @@ fn names_rule_input_or_target_below(rule: Rule, place: u8, limit: usize) -> bool
     }
 }
 
-/// A traversal that must meet the vertices in the order 0, 1, 2 and so on.
-/// The vertices visited so far are then those below `visited`.
-struct Traversal<'a> {
+/// 002's traversal: the vertices in the order in which they are visited.
+pub(crate) struct Traversal<'a> {
     rule: Rule<'a>,
+    order: [usize; MAX_VERTICES],
     visited: usize,
 }
 
-impl Traversal<'_> {
+impl<'a> Traversal<'a> {
+    /// "the visiting order of 002's traversal from the listed outputs"
+    pub(crate) fn from_outputs(rule: Rule<'a>) -> Traversal<'a> {
+        let mut traversal = Traversal { rule, order: [0; MAX_VERTICES], visited: 0 };
+        for output in rule.source_outputs() {
+            traversal.visit(output.into());
+        }
+        traversal
+    }
+
     /// 002's Traverse: "inputs first, left to right, each vertex once". Depth
     /// is bounded, since an input is lower than its vertex.
-    fn traverse(&mut self, vertex: usize) -> bool {
-        if vertex < self.visited {
-            return true;
+    fn visit(&mut self, vertex: usize) {
+        if self.order().contains(&vertex) {
+            return;
         }
-        let pattern = self.rule.source(vertex);
-        if !pattern.inputs().all(|input| self.traverse(usize::from(input))) {
-            return false;
+        for input in self.rule.source(vertex).inputs() {
+            self.visit(input.into());
         }
-        let in_order = vertex == self.visited;
+        self.order[self.visited] = vertex;
         self.visited += 1;
-        in_order
+    }
+
+    pub(crate) fn order(&self) -> &[usize] {
+        &self.order[..self.visited]
     }
 }
 
-/// "Source vertices stand in the visiting order of 002's traversal from the
-/// listed outputs [...]. So all are reached."
-fn stands_in_visiting_order(rule: Rule) -> bool {
-    let mut traversal = Traversal { rule, visited: 0 };
-    rule.source_outputs().all(|output| traversal.traverse(usize::from(output)))
-        && traversal.visited == rule.source_count()
+/// "Source vertices stand in the visiting order [...]. So all are reached":
+/// vertex j is visited as the j-th. The first that is not, because another one
+/// is or because the traversal has ended.
+fn first_out_of_order(rule: Rule) -> Option<usize> {
+    let traversal = Traversal::from_outputs(rule);
+    (0..rule.source_count()).find(|&vertex| traversal.order().get(vertex) != Some(&vertex))
 }
 
-/// "Source outputs are distinct, of kind 3, 4 or 5, and read by no source
-/// vertex."
-fn source_outputs_are_sound(rule: Rule) -> bool {
-    let distinct = rule.output_count() < 2 || rule.source_output(0) != rule.source_output(1);
-    distinct
-        && rule.source_outputs().all(|output| {
-            let kind = rule.source(usize::from(output)).kind();
-            matches!(kind, CALL | TUPLE | PROJ)
-                && rule.sources().all(|reader| reader.inputs().all(|input| input != output))
-        })
+/// Whether each thing that makes "outputs and connection" is right.
+pub(crate) fn connection_parts(rule: Rule) -> [bool; 7] {
+    [
+        source_outputs_are_distinct(rule),
+        source_output_kinds_are_sound(rule),
+        source_outputs_are_unread(rule),
+        outputs_are_connected(rule),
+        target_outputs_are_sound(rule),
+        rule_inputs_are_named(rule),
+        target_vertices_are_used(rule),
+    ]
+}
+
+/// "Source outputs are distinct".
+fn source_outputs_are_distinct(rule: Rule) -> bool {
+    rule.output_count() < 2 || rule.source_output(0) != rule.source_output(1)
+}
+
+/// "of kind 3, 4 or 5"
+fn source_output_kinds_are_sound(rule: Rule) -> bool {
+    let mut outputs = rule.source_outputs().map(|output| rule.source(output.into()));
+    outputs.all(|pattern| matches!(pattern.kind(), CALL | TUPLE | PROJ))
+}
+
+/// "and read by no source vertex"
+fn source_outputs_are_unread(rule: Rule) -> bool {
+    let is_output = |input: u8| rule.source_outputs().any(|output| output == input);
+    rule.sources().all(|reader| !reader.inputs().any(is_output))
 }
 
 /// "With K = 2 some source vertex reaches both."
@@ -173,9 +210,12 @@ fn target_vertices_are_used(rule: Rule) -> bool {
     (0..rule.target_count() as u8).all(|vertex| is_named_in_target(rule, TARGET_BASE + vertex))
 }
 
-fn nodes_are_sound(rule: Rule) -> bool {
-    (0..rule.node_count())
-        .all(|index| rule.node_padding(index) == 0 && node_is_sound(rule, index, rule.node(index)))
+/// Whether each node is sound. A node that names any as an operand is at fault,
+/// not the node any.
+pub(crate) fn sound_nodes(rule: Rule<'_>) -> impl Iterator<Item = bool> + '_ {
+    (0..rule.node_count()).map(move |index| {
+        rule.node_padding(index) == 0 && node_is_sound(rule, index, rule.node(index))
+    })
 }
 
 /// The forms' fields. "Forms 3 to 7 name two earlier nodes in a and b. Fields
@@ -197,16 +237,31 @@ fn node_is_sound(rule: Rule, index: usize, node: Node) -> bool {
     }
 }
 
+/// Whether each vertex's use of nodes is sound, the target's behind the
+/// source's. "Attribute node numbers at or above A" count "as a vertex's use".
+/// All nodes must be sound.
+pub(crate) fn sound_uses(rule: Rule<'_>) -> impl Iterator<Item = bool> + '_ {
+    let accessed = accessed_vertices(rule);
+    let sources = rule.sources().enumerate().map(move |(vertex, pattern)| {
+        pattern.attributes().all(|node| source_use_is_sound(rule, &accessed, vertex, node))
+    });
+    let targets = rule
+        .targets()
+        .map(move |pattern| pattern.attributes().all(|node| target_use_is_sound(rule, node)));
+    sources.chain(targets)
+}
+
 /// "An attribute of source vertex j only accesses vertices below j [...],
 /// directly or through nodes."
-fn source_attributes_are_sound(rule: Rule) -> bool {
-    let accessed = accessed_vertices(rule);
-    rule.sources().enumerate().all(|(vertex, pattern)| {
-        pattern.attributes().all(|node| {
-            let node = usize::from(node);
-            node < rule.node_count() && accessed[node] >> vertex == 0
-        })
-    })
+fn source_use_is_sound(rule: Rule, accessed: &[u16], vertex: usize, node: u8) -> bool {
+    let node = usize::from(node);
+    node < rule.node_count() && accessed[node] >> vertex == 0
+}
+
+/// Node any stands "never in a target".
+fn target_use_is_sound(rule: Rule, node: u8) -> bool {
+    let node = usize::from(node);
+    node < rule.node_count() && rule.node(node).form != ANY
 }
 
 /// Bit v of entry k: node k accesses source vertex v, itself or through its
@@ -223,14 +278,4 @@ fn accessed_vertices(rule: Rule) -> [u16; MAX_NODES] {
         };
     }
     accessed
-}
-
-/// Node any stands "never in a target".
-fn target_attributes_are_sound(rule: Rule) -> bool {
-    rule.targets().all(|pattern| {
-        pattern.attributes().all(|node| {
-            let node = usize::from(node);
-            node < rule.node_count() && rule.node(node).form != ANY
-        })
-    })
 }

@@ -58,8 +58,8 @@ fn damage_is_mostly_refused() {
     let mut random = Random::new(9);
     let (mut graphs, mut rules) = (0, 0);
     for _ in 0..5000 {
-        graphs += usize::from(check_graph(&damaged_graph(&mut random)) == 2);
-        rules += usize::from(check_rule(&damaged_rule(&mut random)) == 3);
+        graphs += usize::from(check_graph(&damaged_graph(&mut random)) != 0);
+        rules += usize::from(check_rule(&damaged_rule(&mut random)) != 0);
     }
     assert!((3000..5000).contains(&graphs), "{graphs}");
     assert!((3000..5000).contains(&rules), "{rules}");
@@ -112,8 +112,8 @@ fn damaged_cases_are_mostly_refused() {
     let (mut graphs, mut rules) = (0, 0);
     for _ in 0..2000 {
         let (_, case) = search_case(&mut random);
-        graphs += usize::from(check_graph(&damaged_graph_of(&mut random, case.graph)) == 2);
-        rules += usize::from(check_rule(&damaged_rule_of(&mut random, case.rule)) == 3);
+        graphs += usize::from(check_graph(&damaged_graph_of(&mut random, case.graph)) != 0);
+        rules += usize::from(check_rule(&damaged_rule_of(&mut random, case.rule)) != 0);
     }
     assert!((1000..2000).contains(&graphs), "{graphs}");
     assert!((1000..2000).contains(&rules), "{rules}");

@@ -3,7 +3,7 @@
 
 mod common;
 
-use common::{map_of, run_match, run_rewrite, UNTOUCHED};
+use common::{map_of, refused, run_match, run_rewrite, UNTOUCHED};
 use leafgraph_reference::blocks::*;
 use leafgraph_reference::operators::{ADD, CONST, MEAN, PROJ, RELU, TUPLE};
 use leafgraph_reference::rule::PLUS;
@@ -139,13 +139,20 @@ fn order_of_refusals() {
         assert!(map.iter().all(|&byte| byte == UNTOUCHED));
     }
     let mut map = [UNTOUCHED; 32];
-    assert_eq!(find_match(bad_graph, bad_rule, 99, &mut map), 2);
-    assert_eq!(find_match(&graph, bad_rule, 99, &mut map), 3);
-    assert_eq!(find_match(&graph, &rule, 99, &mut map), 4);
-    assert_eq!(rewrite(&mut bad_graph.to_vec(), bad_rule, 99, &mut map), 2);
-    assert_eq!(rewrite(&mut graph.clone(), bad_rule, 99, &mut map), 3);
-    assert_eq!(rewrite(&mut graph.clone(), &rule, 99, &mut map), 4);
-    assert_eq!(map, [UNTOUCHED; 32]);
+    let cycle = GraphParts::new(vec![variable(), relu(1)], &[0]).block();
+    let unused_node = RuleParts { nodes: vec![any_node(), node(8, 0, 0, 0)], ..rr() }.block();
+    for (graph, rule, reply) in [
+        (bad_graph, bad_rule, 20),
+        (&cycle, bad_rule, refused(23, 1)),
+        (&graph, bad_rule, 30),
+        (&graph, &unused_node, refused(34, 1)),
+        (&graph, &rule, 4),
+    ] {
+        assert_eq!(find_match(graph, rule, 99, &mut map), reply);
+        let mut table = graph.to_vec();
+        assert_eq!(rewrite(&mut table, rule, 99, &mut map), reply);
+        assert!(table == graph && map == [UNTOUCHED; 32]);
+    }
 }
 
 /// 64 nodes, each the sum of the one before with itself.

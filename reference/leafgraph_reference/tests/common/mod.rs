@@ -12,6 +12,11 @@ pub struct Answer {
     pub graph: Vec<u8>,
 }
 
+/// The reply of a refusal with this number at this place.
+pub fn refused(number: u64, place: usize) -> u64 {
+    number | (place as u64) << 8
+}
+
 pub const UNTOUCHED: u8 = 0xa5;
 
 fn numbers(map: &[u8]) -> Vec<u16> {
