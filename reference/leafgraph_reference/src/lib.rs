@@ -16,6 +16,7 @@ mod cycle;
 mod fields;
 pub mod generate;
 pub mod graph;
+pub mod graph_faults;
 pub mod matching;
 pub mod meaning;
 pub mod operators;
@@ -26,6 +27,7 @@ pub mod results;
 mod rewriting;
 pub mod rule;
 mod rule_check;
+pub mod rule_faults;
 
 use graph::{Graph, MAX_BLOCK};
 use reply::{reply_of, Refusal};

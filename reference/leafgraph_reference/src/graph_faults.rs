@@ -1,0 +1,127 @@
+//! All faults of a graph block, where the check gives only the first: so that
+//! tests and the comparison know what was tried. It is a second telling of
+//! "the first kind that holds anywhere is given", too.
+
+use crate::graph::{header_parts, Graph, HEADER, OUTPUT_PLACES, RECORD};
+use crate::reply::{Refusal, GRAPH_CYCLE, GRAPH_NAME, GRAPH_RECORD};
+
+/// Larger graphs are not looked at: a set of slots is 64 bits.
+const MOST_SLOTS: usize = 64;
+
+/// The places of each kind of fault, the lowest first. Where an earlier kind
+/// makes a block unreadable, there are none of the later ones.
+#[derive(Clone, Debug, Default, PartialEq, Eq)]
+pub struct GraphFaults {
+    /// How many parts of the header are wrong, the length among them.
+    pub header: usize,
+    pub records: Vec<usize>,
+    /// Slots with an input that names no vertex. A slot with a bad record is
+    /// taken for a vertex without inputs.
+    pub inputs: Vec<usize>,
+    /// Places of outputs that name no vertex.
+    pub outputs: Vec<usize>,
+    /// The slots of each cycle; cycles with a slot in common are one. Inputs
+    /// that name no vertex are no edges.
+    pub cycles: Vec<Vec<usize>>,
+    /// Slots on no cycle that read from one, over any number of edges.
+    pub reading_from_cycles: Vec<usize>,
+    /// Slots on no cycle that a cycle reads from.
+    pub read_by_cycles: Vec<usize>,
+}
+
+impl GraphFaults {
+    /// None for a block that is not looked at.
+    pub fn of(bytes: &[u8]) -> Option<GraphFaults> {
+        if bytes.len() > HEADER + RECORD * MOST_SLOTS {
+            return None;
+        }
+        let mut faults = GraphFaults::default();
+        if bytes.len() < HEADER {
+            faults.header = 1;
+            return Some(faults);
+        }
+        faults.header = header_parts(bytes).into_iter().filter(|sound| !sound).count();
+        if is_readable(bytes) {
+            faults.list(Graph::view(bytes));
+        }
+        Some(faults)
+    }
+
+    fn list(&mut self, graph: Graph) {
+        let slots = 0..graph.slot_count();
+        let (sound, unsound): (Vec<usize>, Vec<usize>) =
+            slots.partition(|&slot| graph.slot(slot).is_sound());
+        let misnames = |&slot: &usize| !graph.inputs_name_vertices(graph.slot(slot));
+        self.records = unsound;
+        self.inputs = sound.iter().copied().filter(misnames).collect();
+        let outputs = graph.outputs().enumerate();
+        self.outputs = outputs
+            .filter(|&(_, output)| !graph.names_vertex(output))
+            .map(|(place, _)| place)
+            .collect();
+        self.list_cycles(&reached_sets(graph, &sound));
+    }
+
+    fn list_cycles(&mut self, reached: &[u64]) {
+        let reaches = |from: usize, to: usize| reached[from] >> to & 1 == 1;
+        let slots = 0..reached.len();
+        let (on, off): (Vec<usize>, Vec<usize>) = slots.partition(|&slot| reaches(slot, slot));
+        for &slot in &on {
+            let together =
+                |cycle: &&mut Vec<usize>| reaches(cycle[0], slot) && reaches(slot, cycle[0]);
+            match self.cycles.iter_mut().find(together) {
+                Some(cycle) => cycle.push(slot),
+                None => self.cycles.push(vec![slot]),
+            }
+        }
+        let reading = |&slot: &usize| on.iter().any(|&other| reaches(other, slot));
+        let read = |&slot: &usize| on.iter().any(|&other| reaches(slot, other));
+        self.reading_from_cycles = off.iter().copied().filter(reading).collect();
+        self.read_by_cycles = off.iter().copied().filter(read).collect();
+    }
+
+    /// What a check must refuse with.
+    pub fn first(&self) -> Option<Refusal> {
+        if self.header > 0 {
+            return Some(Refusal::GRAPH_HEADER);
+        }
+        let cycles: Vec<usize> = self.cycles.concat();
+        let kinds = [
+            (GRAPH_RECORD, &self.records),
+            (GRAPH_NAME, &self.inputs),
+            (GRAPH_NAME, &self.outputs),
+            (GRAPH_CYCLE, &cycles),
+        ];
+        let (number, places) = kinds.into_iter().find(|(_, places)| !places.is_empty())?;
+        let place = *places.iter().min()? as u32;
+        Some(Refusal { number, place })
+    }
+}
+
+/// Whether N and the output count can be read as they are.
+fn is_readable(bytes: &[u8]) -> bool {
+    let graph = Graph::view(bytes);
+    graph.slot_count() > 0
+        && (1..=OUTPUT_PLACES).contains(&graph.output_count())
+        && bytes.len() == HEADER + RECORD * graph.slot_count()
+}
+
+/// A bit for each slot that a slot has a path of one or more edges to, from
+/// input to reader: over one edge, then over paths through slot 0, through slots
+/// 0 and 1, and so on.
+fn reached_sets(graph: Graph, sound: &[usize]) -> Vec<u64> {
+    let mut reached = vec![0; graph.slot_count()];
+    for &reader in sound {
+        let inputs = graph.slot(reader).inputs();
+        for input in inputs.filter(|&input| graph.names_vertex(input)) {
+            reached[usize::from(input)] |= 1 << reader;
+        }
+    }
+    for through in 0..reached.len() {
+        let onward = reached[through];
+        for set in reached.iter_mut().filter(|set| **set >> through & 1 == 1) {
+            *set |= onward;
+        }
+    }
+    reached
+}
