@@ -1,14 +1,19 @@
 //! Graphs with one fault, or a few. What the damage leaves may be sound by
 //! chance: the two programs must agree then too.
 
-use crate::blocks::{call, empty, GraphParts};
+use crate::blocks::{call, empty, GraphParts, Vertex};
 use crate::graph::{Graph, HEADER, MAX_SLOTS, RECORD};
 use crate::operators::{PROJ, RELU};
 use crate::random::Random;
 
+use super::damages::damages;
 use super::graphs::{sound_graph, sound_graph_of, vertex_over};
 
-/// A sound graph's block after one to three damages.
+/// Sorts of damage to the parts and to the bytes.
+const PART_SORTS: usize = 10;
+const BYTE_SORTS: usize = 12;
+
+/// A sound graph's block after one damage or a few.
 pub fn damaged_graph(random: &mut Random) -> Vec<u8> {
     if random.below(200) == 0 {
         return sound_graph_of(random, MAX_SLOTS + 1).block();
@@ -17,25 +22,26 @@ pub fn damaged_graph(random: &mut Random) -> Vec<u8> {
     damaged_graph_of(random, parts)
 }
 
-/// This graph's block after one to three damages.
+/// This graph's block after one damage or a few.
 pub fn damaged_graph_of(random: &mut Random, mut parts: GraphParts) -> Vec<u8> {
-    let mut block = if random.chance(50) {
-        damage_parts(random, &mut parts);
-        parts.block()
-    } else {
-        let mut block = parts.block();
-        damage_bytes(random, &mut block);
-        block
-    };
-    while random.chance(15) {
-        damage_bytes(random, &mut block);
+    let in_parts = random.chance(50);
+    if in_parts {
+        for sort in damages(random, PART_SORTS) {
+            damage_parts(random, &mut parts, sort);
+        }
+    }
+    let mut block = parts.block();
+    if !in_parts || random.chance(15) {
+        for sort in damages(random, BYTE_SORTS) {
+            damage_bytes(random, &mut block, sort);
+        }
     }
     block
 }
 
 /// Damage that keeps every record in the shape of its kind.
-fn damage_parts(random: &mut Random, parts: &mut GraphParts) {
-    match random.below(10) {
+fn damage_parts(random: &mut Random, parts: &mut GraphParts, sort: usize) {
+    match sort {
         0..=3 => close_cycle(random, parts),
         4 | 5 => misname_input(random, parts),
         6 => misname_output(random, parts),
@@ -50,9 +56,11 @@ fn damage_parts(random: &mut Random, parts: &mut GraphParts) {
         }
         _ => {
             let index = random.pick(&[0, -1, i32::MIN, 1, i32::MAX]);
-            let mut projections = parts.slots.iter_mut().filter(|vertex| vertex.kind == PROJ);
-            if let Some(projection) = projections.next() {
-                projection.attributes[0] = index;
+            let projections = parts.slots.iter_mut().filter(|vertex| vertex.kind == PROJ);
+            let mut projections: Vec<&mut Vertex> = projections.collect();
+            if !projections.is_empty() {
+                let any = random.below(projections.len());
+                projections[any].attributes[0] = index;
             }
         }
     }
@@ -94,16 +102,21 @@ fn close_cycle(random: &mut Random, parts: &mut GraphParts) {
     parts.slots[start].inputs[place] = reader as u16;
 }
 
+/// What each slot reads; an earlier damage may have left inputs that name no
+/// slot.
 fn inputs(parts: &GraphParts) -> Vec<Vec<usize>> {
-    let of = |inputs: &Vec<u16>| inputs.iter().map(|&input| input.into()).collect();
+    let slots = parts.slots.len();
+    let of = |inputs: &Vec<u16>| {
+        inputs.iter().map(|&input| input.into()).filter(|&input| input < slots).collect()
+    };
     parts.slots.iter().map(|vertex| of(&vertex.inputs)).collect()
 }
 
 fn readers(parts: &GraphParts) -> Vec<Vec<usize>> {
     let mut readers = vec![vec![]; parts.slots.len()];
-    for (slot, vertex) in parts.slots.iter().enumerate() {
-        for &input in &vertex.inputs {
-            readers[usize::from(input)].push(slot);
+    for (slot, inputs) in inputs(parts).into_iter().enumerate() {
+        for input in inputs {
+            readers[input].push(slot);
         }
     }
     readers
@@ -160,11 +173,11 @@ fn misname_output(random: &mut Random, parts: &mut GraphParts) {
 }
 
 /// Damage to the bytes, whatever they mean.
-fn damage_bytes(random: &mut Random, block: &mut Vec<u8>) {
+fn damage_bytes(random: &mut Random, block: &mut Vec<u8>, sort: usize) {
     if block.len() < HEADER + RECORD {
         return block.push(random.byte());
     }
-    match random.below(12) {
+    match sort {
         0..=5 => set_field(random, block),
         6 => {
             let at = random.below(block.len());

@@ -7,34 +7,40 @@ use crate::operators::{CONST, RELU, VARIABLE};
 use crate::random::Random;
 use crate::rule::{ACCESS, HEADER, MAX_NODES, MAX_VERTICES, NODE, PATTERN, PLUS, TARGET_BASE};
 
+use super::damages::damages;
 use super::expressions::Expressions;
 use super::rules::{rule_inputs, rule_with_random_target, sound_rule};
 
-/// A sound rule's block after one to three damages.
+/// Sorts of damage to the parts and to the bytes.
+const PART_SORTS: usize = 21;
+const BYTE_SORTS: usize = 10;
+
+/// A sound rule's block after one damage or a few.
 pub fn damaged_rule(random: &mut Random) -> Vec<u8> {
     let parts = sound_rule(random);
     damaged_rule_of(random, parts)
 }
 
-/// This rule's block after one to three damages.
+/// This rule's block after one damage or a few.
 pub fn damaged_rule_of(random: &mut Random, mut parts: RuleParts) -> Vec<u8> {
-    let mut block = if random.chance(65) {
-        damage_parts(random, &mut parts);
-        parts.block()
-    } else {
-        let mut block = parts.block();
-        damage_bytes(random, &mut block);
-        block
-    };
-    while random.chance(12) {
-        damage_bytes(random, &mut block);
+    let in_parts = random.chance(65);
+    if in_parts {
+        for sort in damages(random, PART_SORTS) {
+            damage_parts(random, &mut parts, sort);
+        }
+    }
+    let mut block = parts.block();
+    if !in_parts || random.chance(12) {
+        for sort in damages(random, BYTE_SORTS) {
+            damage_bytes(random, &mut block, sort);
+        }
     }
     block
 }
 
 /// Damage that keeps every record in the shape of its kind.
-fn damage_parts(random: &mut Random, parts: &mut RuleParts) {
-    match random.below(21) {
+fn damage_parts(random: &mut Random, parts: &mut RuleParts, sort: usize) {
+    match sort {
         0 | 1 => swap_source_vertices(random, parts),
         2 => shuffle_inputs(random, parts),
         3 => change_outputs(random, parts),
@@ -240,13 +246,15 @@ fn misname_source_input(random: &mut Random, parts: &mut RuleParts) {
     let vertex = random.below(parts.source.len());
     if let Some(input) = parts.source[vertex].inputs.last_mut() {
         let own = vertex as u8;
-        *input = random.pick(&[own, own + 1, own - 1, count, 15, 16, 254, 255]);
+        *input = random.pick(&[own, own + 1, own.wrapping_sub(1), count, 15, 16, 254, 255]);
     }
 }
 
 fn any_as_operand(random: &mut Random, parts: &mut RuleParts) {
     let operations = parts.nodes.iter().filter(|node| node.form >= PLUS);
-    let operands: Vec<u8> = operations.flat_map(|node| [node.a, node.b]).collect();
+    let operands = operations.flat_map(|node| [node.a, node.b]);
+    let operands: Vec<u8> =
+        operands.filter(|&operand| usize::from(operand) < parts.nodes.len()).collect();
     if operands.is_empty() {
         if parts.nodes.len() + 2 <= MAX_NODES {
             parts.nodes.push(any_node());
@@ -306,7 +314,7 @@ fn misname_node(random: &mut Random, parts: &mut RuleParts) {
         patterns.flat_map(|pattern| &mut pattern.attributes).collect();
     if !attributes.is_empty() {
         let index = random.below(attributes.len());
-        *attributes[index] = random.pick(&[count, count + 1, 63, 64, 255, count - 1]);
+        *attributes[index] = random.pick(&[count, count + 1, 63, 64, 255, count.wrapping_sub(1)]);
     }
 }
 
@@ -327,11 +335,11 @@ fn misuse_node_field(random: &mut Random, parts: &mut RuleParts) {
 }
 
 /// Damage to the bytes, whatever they mean.
-fn damage_bytes(random: &mut Random, block: &mut Vec<u8>) {
+fn damage_bytes(random: &mut Random, block: &mut Vec<u8>, sort: usize) {
     if block.len() < HEADER + PATTERN {
         return block.push(random.byte());
     }
-    match random.below(10) {
+    match sort {
         0..=4 => set_field(random, block),
         5 => {
             let at = random.below(block.len());

@@ -6,6 +6,7 @@ mod constants;
 mod cuts;
 mod damaged_graphs;
 mod damaged_rules;
+mod damages;
 mod expressions;
 mod filling;
 mod graphs;
