@@ -4,6 +4,7 @@ use leafgraph_reference::generate::{
     damaged_graph, damaged_graph_of, damaged_rule, damaged_rule_of, noise, sound_graph, sound_rule,
     Case,
 };
+use leafgraph_reference::graph::RECORD;
 use leafgraph_reference::random::Random;
 use leafgraph_reference::MAP_LENGTH;
 
@@ -52,6 +53,12 @@ impl Arguments {
         }
         let length = map_length(random);
         Arguments { origin, graph, rule: rule_block, start, map: random.bytes(length) }
+    }
+
+    /// Whether the start is past all slots that the graph's bytes have room
+    /// for.
+    pub fn starts_past_graph(&self) -> bool {
+        self.start >= self.graph.len() / RECORD
     }
 }
 

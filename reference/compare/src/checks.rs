@@ -7,12 +7,17 @@ use leafgraph_reference::generate::{
 };
 use leafgraph_reference::random::Random;
 
-use crate::tally::{Call, Tally, CHANGED};
+use crate::tally::{Call, Class, Tally, CHANGED};
+use crate::{graph_fault_classes, rule_fault_classes};
 
 /// One of the checks in both programs, with the blocks to try it on.
 struct Check {
     name: &'static str,
-    replies: [u64; 2],
+    /// The numbers that must be replied.
+    numbers: &'static [u8],
+    /// The classes of refused blocks.
+    names: &'static [&'static str],
+    classes: fn(&[u8], u64) -> Vec<Class>,
     proved: fn(&[u8]) -> u64,
     reference: fn(&[u8]) -> u64,
     with_header: fn(&mut Random) -> Vec<u8>,
@@ -22,7 +27,9 @@ struct Check {
 
 const GRAPH: Check = Check {
     name: "check graph",
-    replies: [0, 2],
+    numbers: &[0, 20, 21, 22, 23],
+    names: &graph_fault_classes::CLASSES,
+    classes: graph_fault_classes::classes,
     proved: leafgraph_proved::check_graph,
     reference: leafgraph_reference::check_graph,
     with_header: noise_with_graph_header,
@@ -32,7 +39,9 @@ const GRAPH: Check = Check {
 
 const RULE: Check = Check {
     name: "check rule",
-    replies: [0, 3],
+    numbers: &[0, 30, 31, 32, 33, 34],
+    names: &rule_fault_classes::CLASSES,
+    classes: rule_fault_classes::classes,
     proved: leafgraph_proved::check_rule,
     reference: leafgraph_reference::check_rule,
     with_header: noise_with_rule_header,
@@ -43,7 +52,7 @@ const RULE: Check = Check {
 /// So many calls, half of them to each check.
 pub fn run(random: &mut Random, calls: u64) -> Vec<Tally> {
     let mut tallies =
-        [GRAPH, RULE].map(|check| (Tally::new(check.name, &check.replies, &[]), check));
+        [GRAPH, RULE].map(|check| (Tally::new(check.name, check.numbers, check.names), check));
     for call in 0..calls {
         let (tally, check) = &mut tallies[(call % 2) as usize];
         check.call(random, tally);
@@ -57,10 +66,14 @@ impl Check {
         let lent = Guarded::new(&block, random.below(SHIFTS));
         let proved = (self.proved)(lent.bytes());
         let faults = if lent.holds(&block) { vec![] } else { vec![CHANGED] };
+        let reference = (self.reference)(&block);
+        if reference != 0 {
+            tally.count_all(&(self.classes)(&block, reference));
+        }
         tally.record(Call {
             origin,
             proved,
-            reference: (self.reference)(&block),
+            reference,
             faults,
             start: None,
             bytes: &[("block", &block)],

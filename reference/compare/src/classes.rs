@@ -10,7 +10,7 @@ use leafgraph_reference::rule::{
 
 use crate::constants::{matched_consts, MatchedConst, Namer};
 use crate::nearly::{reasons, Reason};
-use crate::tally::Tally;
+use crate::tally::{Class, Tally};
 
 /// Every class must occur. A candidate is a slot from the start on that has
 /// the kind, operator and counts of the first output.
@@ -87,14 +87,8 @@ pub fn count_classes(
     let search = Search { graph, rule, start, images };
     let classes =
         [search.shapes(), search.course(), search.expressions(), search.constants()].concat();
-    for (class, holds) in classes {
-        if holds {
-            tally.count(class);
-        }
-    }
+    tally.count_all(&classes);
 }
-
-type Class = (&'static str, bool);
 
 impl Search<'_> {
     fn found(&self) -> bool {

@@ -11,10 +11,13 @@ mod arguments;
 mod checks;
 mod classes;
 mod constants;
+mod graph_fault_classes;
 mod matching;
 mod nearly;
+mod refusal_classes;
 mod rewriting;
 mod rewriting_classes;
+mod rule_fault_classes;
 mod sequences;
 mod tally;
 

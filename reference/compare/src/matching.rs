@@ -6,10 +6,14 @@ use leafgraph_reference::random::Random;
 
 use crate::arguments::Arguments;
 use crate::classes::{count_classes, CLASSES};
+use crate::refusal_classes::{count_refusal, with_refusals};
 use crate::tally::{Call, Tally, CHANGED};
 
+/// What must be replied.
+const NUMBERS: [u8; 12] = [0, 1, 20, 21, 22, 23, 30, 31, 32, 33, 34, 4];
+
 pub fn run(random: &mut Random, calls: u64) -> Vec<Tally> {
-    let mut tally = Tally::new("find match", &[0, 1, 2, 3, 4], &CLASSES);
+    let mut tally = Tally::new("find match", &NUMBERS, &with_refusals(&CLASSES));
     for _ in 0..calls {
         let (change, case) = search_case(random);
         Arguments::damaged(random, change, case).find(random, &mut tally);
@@ -28,6 +32,7 @@ impl Arguments {
         let reference =
             leafgraph_reference::find_match(&self.graph, &self.rule, self.start, &mut expected);
         count_classes(tally, &self.graph, &self.rule, self.start, reference, &expected);
+        count_refusal(tally, self, reference);
         let kept = graph.holds(&self.graph) && rule.holds(&self.rule) && map.holds(&expected);
         tally.record(Call {
             origin: self.origin,

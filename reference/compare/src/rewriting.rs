@@ -11,11 +11,13 @@ use leafgraph_reference::results::{Accepted, Verdict};
 use leafgraph_reference::rule::Rule;
 
 use crate::arguments::Arguments;
+use crate::refusal_classes::{count_refusal, with_refusals};
 use crate::rewriting_classes::{count_classes, CLASSES};
 use crate::sequences;
 use crate::tally::{Call, Tally, CHANGED};
 
-const REPLIES: [u64; 8] = [0, 1, 2, 3, 4, 5, 6, 7];
+/// What must be replied.
+const NUMBERS: [u8; 15] = [0, 1, 20, 21, 22, 23, 30, 31, 32, 33, 34, 4, 5, 6, 7];
 
 /// The least share of calls with good arguments that must be accepted.
 const LEAST_ACCEPTED: u64 = 40;
@@ -42,13 +44,15 @@ pub struct Verdicts {
 
 /// Two of three calls by themselves, the others in sequences.
 pub fn run(random: &mut Random, calls: u64) -> Vec<Tally> {
-    let mut tally = Tally::new("rewrite", &REPLIES, &CLASSES).with_least_accepted(LEAST_ACCEPTED);
+    let mut tally = Tally::new("rewrite", &NUMBERS, &with_refusals(&CLASSES))
+        .with_least_accepted(LEAST_ACCEPTED);
     let in_sequences = calls / 3;
     for _ in in_sequences..calls {
         let (origin, case) = rewriting_case(random);
         let arguments = Arguments::damaged(random, origin, case);
         let outcome = arguments.rewrite(random, &mut tally);
         count_classes(&mut tally, &arguments, &outcome);
+        count_refusal(&mut tally, &arguments, outcome.reply);
     }
     vec![tally, sequences::run(random, in_sequences)]
 }

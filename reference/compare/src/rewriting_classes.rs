@@ -12,7 +12,7 @@ use leafgraph_reference::{rewrite, MAP_LENGTH};
 use crate::arguments::Arguments;
 use crate::constants::{matched_consts, MatchedConst, Namer};
 use crate::rewriting::{Outcome, Verdicts};
-use crate::tally::Tally;
+use crate::tally::{Class, Tally};
 
 /// Every class must occur. Those that do not begin with "refused" are of
 /// accepted rewritings.
@@ -85,8 +85,6 @@ pub const CLASSES: [&str; 66] = [
     "refused 6, room if no Const stayed",
 ];
 
-type Class = (&'static str, bool);
-
 /// A rewriting in sound blocks with a match, accepted or not.
 struct Rewriting<'a> {
     old: Graph<'a>,
@@ -100,7 +98,7 @@ struct Rewriting<'a> {
 }
 
 pub fn count_classes(tally: &mut Tally, arguments: &Arguments, outcome: &Outcome) {
-    if matches!(outcome.reply, 1..=4) {
+    if !matches!(outcome.reply, 0 | 5..=7) {
         return;
     }
     let (Ok(old), Ok(rule)) = (Graph::parse(&arguments.graph), Rule::parse(&arguments.rule)) else {
@@ -123,11 +121,7 @@ pub fn count_classes(tally: &mut Tally, arguments: &Arguments, outcome: &Outcome
         .concat(),
         None => [rewriting.refusals(outcome.reply), rewriting.cycles(outcome.reply)].concat(),
     };
-    for (class, holds) in classes {
-        if holds {
-            tally.count(class);
-        }
-    }
+    tally.count_all(&classes);
 }
 
 impl<'a> Rewriting<'a> {

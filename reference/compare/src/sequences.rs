@@ -27,14 +27,14 @@ const CLASSES: [&str; 9] = [
 
 /// What must be replied in some step; a cycle is left to the calls by
 /// themselves.
-const REPLIES: [u64; 4] = [0, 4, 5, 6];
+const NUMBERS: [u8; 4] = [0, 4, 5, 6];
 
 /// The most rewritings of one graph.
 const BOUND: usize = 40;
 
 /// Sequences that take at least so many calls.
 pub fn run(random: &mut Random, calls: u64) -> Tally {
-    let mut tally = Tally::new("rewrite in sequence", &REPLIES, &CLASSES);
+    let mut tally = Tally::new("rewrite in sequence", &NUMBERS, &CLASSES);
     while tally.calls() < calls {
         let sequence = sequence(random);
         let mut run = Run::new(&sequence);

@@ -2,14 +2,17 @@
 
 use std::collections::BTreeMap;
 use std::fmt::Write;
+use std::ops::RangeInclusive;
+
+use leafgraph_reference::reply::{number_of, place_of};
 
 /// The least share of calls, in percent, that must be done: a comparison that
 /// only sees refusals shows nothing.
 const LEAST_DONE: u64 = 15;
 
-/// Replies above this one, and done, are given to sound blocks with a map of
-/// the right length.
-const LAST_BAD_ARGUMENT: u64 = 3;
+/// The numbers of refusals that are given to sound blocks with a map of the
+/// right length.
+const REFUSED_AFTER_CHECKS: RangeInclusive<u8> = 4..=7;
 
 /// The fault of lent bytes that are not what they should be.
 pub const CHANGED: &str = "lent bytes are not what they should be after the call";
@@ -38,6 +41,9 @@ pub struct Call<'a> {
     pub bytes: &'a [(&'static str, &'a [u8])],
 }
 
+/// A class of calls, and whether a call is of it.
+pub type Class = (&'static str, bool);
+
 #[derive(Default)]
 struct Side {
     calls: u64,
@@ -52,16 +58,17 @@ pub struct Tally {
     calls: u64,
     differences: u64,
     first: Option<Difference>,
-    proved: BTreeMap<u64, u64>,
-    reference: BTreeMap<u64, u64>,
+    /// Calls by the number in the reply.
+    proved: BTreeMap<u8, u64>,
+    reference: BTreeMap<u8, u64>,
     origins: BTreeMap<&'static str, Side>,
     classes: Vec<(&'static str, u64)>,
 }
 
 impl Tally {
-    /// All of these replies must be given, and calls of each of these classes
+    /// All of these numbers must be replied, and calls of each of these classes
     /// must be seen, or else the comparison has missed something.
-    pub fn new(name: &'static str, replies: &[u64], classes: &[&'static str]) -> Tally {
+    pub fn new(name: &'static str, numbers: &[u8], classes: &[&'static str]) -> Tally {
         Tally {
             name,
             least_accepted: 0,
@@ -69,7 +76,7 @@ impl Tally {
             differences: 0,
             first: None,
             proved: BTreeMap::new(),
-            reference: replies.iter().map(|&reply| (reply, 0)).collect(),
+            reference: numbers.iter().map(|&number| (number, 0)).collect(),
             origins: BTreeMap::new(),
             classes: classes.iter().map(|&class| (class, 0)).collect(),
         }
@@ -89,10 +96,17 @@ impl Tally {
         known.expect("a class named at the start").1 += 1;
     }
 
+    /// Counts a call in those of the classes that it is of.
+    pub fn count_all(&mut self, classes: &[Class]) {
+        for (class, _) in classes.iter().filter(|(_, holds)| *holds) {
+            self.count(class);
+        }
+    }
+
     pub fn record(&mut self, call: Call) {
         self.calls += 1;
-        *self.proved.entry(call.proved).or_default() += 1;
-        *self.reference.entry(call.reference).or_default() += 1;
+        *self.proved.entry(number_of(call.proved)).or_default() += 1;
+        *self.reference.entry(number_of(call.reference)).or_default() += 1;
         let origin = self.origins.entry(call.origin).or_default();
         origin.calls += 1;
         origin.done += u64::from(call.reference == 0);
@@ -120,7 +134,7 @@ impl Tally {
 
     /// Calls whose arguments were good, whatever came of them.
     fn sound(&self) -> u64 {
-        let refused = self.reference.range(LAST_BAD_ARGUMENT + 1..);
+        let refused = self.reference.range(REFUSED_AFTER_CHECKS);
         self.done() + refused.map(|(_, count)| count).sum::<u64>()
     }
 
@@ -133,7 +147,7 @@ impl Tally {
     fn missing(&self) -> Vec<String> {
         let replies = self.reference.iter().filter(|(_, &count)| count == 0);
         let classes = self.classes.iter().filter(|(_, count)| *count == 0);
-        let replies = replies.map(|(reply, _)| format!("reply {reply}"));
+        let replies = replies.map(|(number, _)| format!("reply {number}"));
         replies.chain(classes.map(|(class, _)| class.to_string())).collect()
     }
 
@@ -146,7 +160,7 @@ impl Tally {
         let mut text = format!("{}: {} calls\n", self.name, self.calls);
         for (side, replies) in [("proved", &self.proved), ("reference", &self.reference)] {
             let counts: Vec<String> =
-                replies.iter().map(|(reply, count)| format!("{reply}: {count}")).collect();
+                replies.iter().map(|(number, count)| format!("{number}: {count}")).collect();
             writeln!(text, "  replies, {side:9}  {}", counts.join(", ")).expect("text");
         }
         for (origin, side) in &self.origins {
@@ -180,8 +194,10 @@ impl Tally {
 impl Difference {
     fn describe(&self, text: &mut String) {
         writeln!(text, "  first difference: call {}, {}", self.call, self.origin).expect("text");
-        writeln!(text, "  proved replies {}, reference {}", self.proved, self.reference)
-            .expect("text");
+        for (side, reply) in [("proved", self.proved), ("reference", self.reference)] {
+            let (number, place) = (number_of(reply), place_of(reply));
+            writeln!(text, "  {side} replies {number}, place {place} ({reply:#x})").expect("text");
+        }
         for fault in &self.faults {
             writeln!(text, "  {fault}").expect("text");
         }

@@ -67,3 +67,13 @@ pub fn reply_of(outcome: Result<(), Refusal>) -> u64 {
         Err(refusal) => u64::from(refusal.number) | u64::from(refusal.place) << 8,
     }
 }
+
+/// The number in a reply.
+pub fn number_of(reply: u64) -> u8 {
+    reply as u8
+}
+
+/// The place in a reply.
+pub fn place_of(reply: u64) -> u32 {
+    (reply >> 8) as u32
+}

@@ -12,7 +12,7 @@ use super::expressions::Expressions;
 use super::rules::{rule_inputs, rule_with_random_target, sound_rule};
 
 /// Sorts of damage to the parts and to the bytes.
-const PART_SORTS: usize = 21;
+const PART_SORTS: usize = 22;
 const BYTE_SORTS: usize = 10;
 
 /// A sound rule's block after one damage or a few.
@@ -62,6 +62,10 @@ fn damage_parts(random: &mut Random, parts: &mut RuleParts, sort: usize) {
         16 => misname_node(random, parts),
         17 => *parts = lone_output(random),
         18 => replace_target_kind(random, parts),
+        19 => {
+            misuse_node_field(random, parts);
+            misname_node(random, parts);
+        }
         _ => misuse_node_field(random, parts),
     }
 }

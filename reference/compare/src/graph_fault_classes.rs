@@ -1,0 +1,123 @@
+//! What was wrong with refused graphs, so that the comparison can show that
+//! every kind of fault was met alone, several times and with other kinds.
+
+use leafgraph_reference::graph_faults::GraphFaults;
+use leafgraph_reference::reply::{number_of, place_of};
+
+use crate::tally::Class;
+
+/// Every class must occur. What stands behind "too" is a later kind of fault,
+/// and classes without it have no other kind.
+pub const CLASSES: [&str; 25] = [
+    "20, one part of the header",
+    "20, several parts of the header",
+    "20, a record too",
+    "20, an input or output too",
+    "20, a cycle too",
+    "21, one slot",
+    "21, several slots",
+    "21, an input or output too",
+    "21, a cycle too",
+    "22, one slot",
+    "22, several slots",
+    "22, one output",
+    "22, several outputs",
+    "22, an output at a later place",
+    "22, a slot, and an output at a lower place",
+    "22, a cycle too",
+    "23, one cycle",
+    "23, several cycles",
+    "23, a slot that reads itself",
+    "23, a lower slot reads from a cycle",
+    "23, a lower slot is read by a cycle",
+    "23, a slot that reads itself, and a lower one reads from it",
+    "21, a place of two bytes",
+    "22, a place of two bytes",
+    "23, a place of two bytes",
+];
+
+/// The classes of a graph that was refused with this reply.
+pub fn classes(graph: &[u8], reply: u64) -> Vec<Class> {
+    let (number, place) = (number_of(reply), place_of(reply) as usize);
+    let Some(faults) = GraphFaults::of(graph) else {
+        return large(number, place);
+    };
+    match number {
+        20 => header(&faults),
+        21 => records(&faults),
+        22 => names(&faults, place),
+        23 => cycles(&faults, place),
+        _ => vec![],
+    }
+}
+
+/// All that is said of a large graph.
+fn large(number: u8, place: usize) -> Vec<Class> {
+    vec![
+        ("21, a place of two bytes", number == 21 && place > 255),
+        ("22, a place of two bytes", number == 22 && place > 255),
+        ("23, a place of two bytes", number == 23 && place > 255),
+    ]
+}
+
+fn has_bad_name(faults: &GraphFaults) -> bool {
+    !(faults.inputs.is_empty() && faults.outputs.is_empty())
+}
+
+fn has_cycle(faults: &GraphFaults) -> bool {
+    !faults.cycles.is_empty()
+}
+
+fn header(faults: &GraphFaults) -> Vec<Class> {
+    let record = !faults.records.is_empty();
+    let alone = !(record || has_bad_name(faults) || has_cycle(faults));
+    vec![
+        ("20, one part of the header", alone && faults.header == 1),
+        ("20, several parts of the header", alone && faults.header > 1),
+        ("20, a record too", record),
+        ("20, an input or output too", has_bad_name(faults)),
+        ("20, a cycle too", has_cycle(faults)),
+    ]
+}
+
+fn records(faults: &GraphFaults) -> Vec<Class> {
+    let alone = !(has_bad_name(faults) || has_cycle(faults));
+    vec![
+        ("21, one slot", alone && faults.records.len() == 1),
+        ("21, several slots", alone && faults.records.len() > 1),
+        ("21, an input or output too", has_bad_name(faults)),
+        ("21, a cycle too", has_cycle(faults)),
+    ]
+}
+
+fn names(faults: &GraphFaults, place: usize) -> Vec<Class> {
+    let (inputs, outputs) = (faults.inputs.len(), faults.outputs.len());
+    let alone = !has_cycle(faults);
+    let only_outputs = alone && inputs == 0;
+    vec![
+        ("22, one slot", alone && outputs == 0 && inputs == 1),
+        ("22, several slots", alone && outputs == 0 && inputs > 1),
+        ("22, one output", only_outputs && outputs == 1),
+        ("22, several outputs", only_outputs && outputs > 1),
+        ("22, an output at a later place", only_outputs && place > 0),
+        (
+            "22, a slot, and an output at a lower place",
+            alone && inputs > 0 && faults.outputs.iter().any(|&output| output < place),
+        ),
+        ("22, a cycle too", has_cycle(faults)),
+    ]
+}
+
+fn cycles(faults: &GraphFaults, place: usize) -> Vec<Class> {
+    let lower = |slots: &[usize]| slots.iter().any(|&slot| slot < place);
+    let reads = lower(&faults.reading_from_cycles);
+    let itself = faults.cycles.iter().any(|cycle| *cycle == [place]);
+    vec![
+        ("23, one cycle", faults.cycles.len() == 1),
+        ("23, several cycles", faults.cycles.len() > 1),
+        ("23, a slot that reads itself", itself),
+        ("23, a lower slot reads from a cycle", reads),
+        ("23, a lower slot is read by a cycle", lower(&faults.read_by_cycles)),
+        ("23, a slot that reads itself, and a lower one reads from it", itself && reads),
+    ]
+}
