@@ -8,6 +8,7 @@
 
 pub mod comparison;
 mod entry;
+pub mod fault_examples;
 pub mod input;
 pub mod judgement;
 pub mod library;

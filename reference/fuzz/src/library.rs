@@ -23,13 +23,13 @@ impl Operation {
     }
 
     /// "Checking a graph gives 0 or 2, a rule 0 or 3, matching 0 to 4,
-    /// rewriting 0 to 7."
-    pub fn replies(self) -> &'static [u64] {
+    /// rewriting 0 to 7", where "20 to 23 replace 2 and 30 to 34 replace 3".
+    pub fn numbers(self) -> &'static [u8] {
         match self {
-            Operation::CheckGraph => &[0, 2],
-            Operation::CheckRule => &[0, 3],
-            Operation::FindMatch => &[0, 1, 2, 3, 4],
-            Operation::Rewrite => &[0, 1, 2, 3, 4, 5, 6, 7],
+            Operation::CheckGraph => &[0, 20, 21, 22, 23],
+            Operation::CheckRule => &[0, 30, 31, 32, 33, 34],
+            Operation::FindMatch => &[0, 1, 20, 21, 22, 23, 30, 31, 32, 33, 34, 4],
+            Operation::Rewrite => &[0, 1, 20, 21, 22, 23, 30, 31, 32, 33, 34, 4, 5, 6, 7],
         }
     }
 }

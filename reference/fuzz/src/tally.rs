@@ -2,38 +2,45 @@
 
 use std::fmt::Write;
 
+use leafgraph_reference::reply::number_of;
+
 use crate::library::{Operation, OPERATIONS};
 
-/// Replies of document 01's numbers; any other reply stands behind them.
-const REPLIES: usize = 8;
+/// A number has 8 bits.
+const NUMBERS: usize = 256;
 
-/// The second program's replies, counted for each operation.
-#[derive(Clone, Default)]
+/// The second program's replies by number, counted for each operation.
+#[derive(Clone)]
 pub struct Tally {
-    counts: [[u64; REPLIES + 1]; OPERATIONS.len()],
+    counts: [[u64; NUMBERS]; OPERATIONS.len()],
+}
+
+impl Default for Tally {
+    fn default() -> Tally {
+        Tally::new()
+    }
 }
 
 impl Tally {
     pub const fn new() -> Tally {
-        Tally { counts: [[0; REPLIES + 1]; OPERATIONS.len()] }
+        Tally { counts: [[0; NUMBERS]; OPERATIONS.len()] }
     }
 
     pub fn record(&mut self, operation: Operation, reply: u64) {
-        let place = usize::try_from(reply).map_or(REPLIES, |reply| reply.min(REPLIES));
-        self.counts[operation as usize][place] += 1;
+        self.counts[operation as usize][usize::from(number_of(reply))] += 1;
     }
 
     pub fn calls(&self) -> u64 {
         self.counts.iter().flatten().sum()
     }
 
-    /// Replies that an operation can give and has not given.
+    /// Numbers that an operation can reply and has not replied.
     pub fn missing(&self) -> Vec<String> {
         let mut missing = vec![];
         for operation in OPERATIONS {
-            for &reply in operation.replies() {
-                if self.counts[operation as usize][reply as usize] == 0 {
-                    missing.push(format!("{} never replied {reply}", operation.name()));
+            for &number in operation.numbers() {
+                if self.counts[operation as usize][usize::from(number)] == 0 {
+                    missing.push(format!("{} never replied {number}", operation.name()));
                 }
             }
         }
@@ -47,7 +54,7 @@ impl Tally {
             let counts = self.counts[operation as usize];
             let given = counts.iter().enumerate().filter(|(_, &count)| count > 0);
             let given: Vec<String> =
-                given.map(|(reply, count)| format!("{reply}: {count}")).collect();
+                given.map(|(number, count)| format!("{number}: {count}")).collect();
             let calls: u64 = counts.iter().sum();
             writeln!(
                 text,

@@ -1,6 +1,7 @@
 //! Writes the inputs that fuzzing starts from into a folder, as files whose
 //! names begin with `seed-`: document 01's examples, matched Consts that stay
-//! or go, and small random cases of every reply. The same files each time.
+//! or go, every kind of fault, and small random cases of every reply. The same
+//! files each time.
 //!
 //!     fuzz_seeds FOLDER [CASES]
 //!
@@ -14,6 +15,7 @@ use std::io;
 use std::path::Path;
 use std::process::ExitCode;
 
+use leafgraph_fuzz::fault_examples::fault_examples;
 use leafgraph_fuzz::input::{
     Control, CUT_AT_MARK, GRAPH_LENGTH, GRAPH_RECORDS, LOWER_INPUTS, MAP, RULE_LENGTH,
     RULE_RECORDS, START,
@@ -32,8 +34,9 @@ use leafgraph_reference::matching::read_map;
 use leafgraph_reference::operators::{ADD, CONST, MEAN, RELU, TUPLE};
 use leafgraph_reference::random::Random;
 use leafgraph_reference::removal::removed_slots;
+use leafgraph_reference::reply::number_of;
 use leafgraph_reference::rule::{Rule, DIVIDE, REMAINDER};
-use leafgraph_reference::{rewrite, MAP_LENGTH};
+use leafgraph_reference::{find_match, rewrite, MAP_LENGTH};
 
 /// What the corpus is drawn from.
 const SEED: u64 = 20;
@@ -62,9 +65,11 @@ fn main() -> ExitCode {
     seeds.add_examples(paper_examples());
     seeds.add_sizes();
     seeds.add_examples(constant_examples());
+    seeds.add_fault_examples();
     seeds.add_rewritings(cases);
     seeds.add_accepted("redirected-input", cases, redirects_input);
     seeds.add_accepted("constant-stays", cases, keeps_constant);
+    seeds.add_refused(cases / 2);
     seeds.add_others(cases);
     match seeds.write(Path::new(folder)) {
         Ok(()) => ExitCode::SUCCESS,
@@ -168,6 +173,37 @@ impl Seeds {
         }
     }
 
+    /// As they are, since a repair would take the fault away.
+    fn add_fault_examples(&mut self) {
+        for example in fault_examples() {
+            let control = self.control(MAP, 0);
+            self.add(example.name, control, &example.graph, &example.rule);
+        }
+    }
+
+    /// Damaged blocks, some of each number that a bad block gets. The examples
+    /// have these numbers already, so half as many do.
+    fn add_refused(&mut self, cases: usize) {
+        let mut counts: BTreeMap<u8, usize> =
+            (20..=23).chain(30..=34).map(|number| (number, 0)).collect();
+        while counts.values().any(|&count| count < cases) {
+            let (_, Case { graph, rule, start }) = search_case(&mut self.random);
+            let (graph, rule) = match self.random.chance(50) {
+                true => (damaged_graph_of(&mut self.random, graph), rule.block()),
+                false => (graph.block(), damaged_rule_of(&mut self.random, rule)),
+            };
+            let number = number_of(find_match(&graph, &rule, start, &mut [0; MAP_LENGTH]));
+            let Some(count) = counts.get_mut(&number) else {
+                continue;
+            };
+            if graph.len() + rule.len() <= LONGEST && *count < cases {
+                *count += 1;
+                let control = self.control(MAP, start);
+                self.add(&format!("refused-{number}"), control, &graph, &rule);
+            }
+        }
+    }
+
     fn add_others(&mut self, cases: usize) {
         let mut left = cases;
         while left > 0 {
@@ -184,10 +220,9 @@ impl Seeds {
             let control = self.control(LENGTHS | RECORDS, 0);
             self.add("sequence", control, &sequence_block, &sequence.rules[0].block());
             let control = self.control(MAP, start);
-            let damaged = damaged_graph_of(&mut self.random, graph);
-            self.add("damaged-graph", control, &damaged, &rule_block);
-            let damaged = damaged_rule_of(&mut self.random, rule);
-            self.add("damaged-rule", control, &graph_block, &damaged);
+            let damaged_graph = damaged_graph_of(&mut self.random, graph);
+            let damaged_rule = damaged_rule_of(&mut self.random, rule);
+            self.add("damaged-blocks", control, &damaged_graph, &damaged_rule);
             let noises = [noise(&mut self.random), noise(&mut self.random)];
             let [graph, rule] = noises.map(|bytes| bytes[..bytes.len().min(LONGEST)].to_vec());
             let repairs = LENGTHS | RECORDS | LOWER_INPUTS;
