@@ -4,9 +4,13 @@
 use std::hint::black_box;
 
 use leafgraph_reference::blocks::{chain, dropped_constant, p7_rule, rr, GraphParts, RuleParts};
+use leafgraph_reference::reply::{refuse_at, reply_of, DONE, GRAPH_CYCLE};
 use leafgraph_reference::MAP_LENGTH;
 
-use crate::graphs::{double_relus, gain_and_mean, gains_and_means, pairs, shared_const};
+use crate::graphs::{
+    double_relus, gain_and_mean, gains_and_means, hanging_from_cycle, leading_to_cycle, pairs,
+    shared_const,
+};
 
 /// What a call leaves; the checks leave the map as it was.
 #[derive(Debug, PartialEq, Eq)]
@@ -30,12 +34,25 @@ pub struct Case {
 }
 
 const SIZES: [u16; 6] = [16, 32, 64, 128, 256, 512];
-const FOUND: u64 = 0;
+const FOUND: u64 = DONE;
 const NONE: u64 = 4;
 
 /// The graph of a row by its number of slots, and the row's rule.
 type Graph = fn(u16) -> GraphParts;
 type Rule = fn() -> RuleParts;
+/// The reply to a graph of so many slots.
+type Reply = fn(u16) -> u64;
+
+const CHECKS: [(&str, Graph, Reply); 3] = [
+    ("check graph: a chain", chain, |_| DONE),
+    ("check graph: hangs from a cycle", hanging_from_cycle, cycle_in_last_two),
+    ("check graph: leads to a cycle", leading_to_cycle, cycle_in_last_two),
+];
+
+/// The refusal of a graph in which only the last two slots are on a cycle.
+fn cycle_in_last_two(slots: u16) -> u64 {
+    reply_of(refuse_at(GRAPH_CYCLE, Some(usize::from(slots) - 2)))
+}
 
 const SEARCHES: [(&str, u64, Graph, Rule); 7] = [
     ("match: 1 output, last slot", FOUND, |slots| double_relus(slots, true), rr),
@@ -77,15 +94,18 @@ pub fn rewritings() -> Vec<Case> {
 }
 
 pub fn checks() -> Vec<Case> {
-    let mut cases: Vec<Case> = SIZES
-        .map(|slots| {
-            let proved = leafgraph_proved::check_graph;
-            let second = leafgraph_reference::check_graph;
-            check("check graph: a chain", Some(slots.into()), chain(slots).block(), proved, second)
-        })
-        .into();
-    let (proved, second) = (leafgraph_proved::check_rule, leafgraph_reference::check_rule);
-    cases.push(check("check rule: RR", None, rr().block(), proved, second));
+    let of_all_sizes = |(name, graph, reply): (_, Graph, Reply)| {
+        SIZES.map(|slots| check_graph(name, slots, graph(slots), reply(slots)))
+    };
+    let mut cases: Vec<Case> = CHECKS.into_iter().flat_map(of_all_sizes).collect();
+    let block = rr().block();
+    cases.push(Case {
+        name: "check rule: RR",
+        slots: None,
+        reply: DONE,
+        proved: check(leafgraph_proved::check_rule, &block),
+        second: check(leafgraph_reference::check_rule, &block),
+    });
     cases
 }
 
@@ -154,18 +174,18 @@ fn rewriting(
     }
 }
 
-type Check = fn(&[u8]) -> u64;
+fn check_graph(name: &'static str, slots: u16, graph: GraphParts, reply: u64) -> Case {
+    let block = graph.block();
+    Case {
+        name,
+        slots: Some(slots.into()),
+        reply,
+        proved: check(leafgraph_proved::check_graph, &block),
+        second: check(leafgraph_reference::check_graph, &block),
+    }
+}
 
-fn check(
-    name: &'static str,
-    slots: Option<usize>,
-    block: Vec<u8>,
-    proved: Check,
-    second: Check,
-) -> Case {
-    let program = |check: Check| -> Program {
-        let block = block.clone();
-        Box::new(move |_| Answer { reply: check(black_box(&block)), map: [0; MAP_LENGTH] })
-    };
-    Case { name, slots, reply: 0, proved: program(proved), second: program(second) }
+fn check(check: fn(&[u8]) -> u64, block: &[u8]) -> Program {
+    let block = block.to_vec();
+    Box::new(move |_| Answer { reply: check(black_box(&block)), map: [0; MAP_LENGTH] })
 }

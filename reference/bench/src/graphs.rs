@@ -3,9 +3,9 @@
 
 use leafgraph_reference::blocks::{
     access_node, add, any_node, call, call_pattern, constant, operation_node, relu, target_place,
-    variable, wildcard, GraphParts, RuleParts,
+    tuple, variable, wildcard, GraphParts, RuleParts, Vertex,
 };
-use leafgraph_reference::operators::{GAIN, MEAN, RELU};
+use leafgraph_reference::operators::{GAIN, MEAN, PLACES, RELU};
 use leafgraph_reference::rule::{PLUS, TIMES};
 
 /// For RR: every slot but the first has its kind and operator, and only the
@@ -41,6 +41,30 @@ pub fn shared_const(slots: u16) -> GraphParts {
     table.resize(slots.into(), add(0, 1));
     table[usize::from(slots) - 1] = add(1, 0);
     GraphParts::new(table, &[slots - 1])
+}
+
+/// A vertex with all places for inputs in use.
+fn reads(input: u16) -> Vertex {
+    tuple(&[input; PLACES])
+}
+
+/// For the check: slot k reads slot k + 1 up to a cycle in the last two slots.
+/// Every other slot is lower and on no cycle, and all above it lead to it.
+pub fn hanging_from_cycle(slots: u16) -> GraphParts {
+    let mut table: Vec<Vertex> = (1..slots).map(reads).collect();
+    table.push(reads(slots - 2));
+    GraphParts::new(table, &[0])
+}
+
+/// For the check: slot k reads slot k - 1, from a Variable up to a cycle in the
+/// last two slots. Every other slot is lower and on no cycle, all below it lead
+/// to it, and it leads to all above it.
+pub fn leading_to_cycle(slots: u16) -> GraphParts {
+    let mut table = vec![variable()];
+    table.extend((0..slots - 1).map(reads));
+    let closing = usize::from(slots) - 2;
+    table[closing].inputs[PLACES - 1] = slots - 1;
+    GraphParts::new(table, &[0])
 }
 
 /// gain(x) with any attributes and mean(x) with the first of them times the
