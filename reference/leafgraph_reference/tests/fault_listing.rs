@@ -1,11 +1,55 @@
 //! The checks against the listings of all faults, on random damaged blocks.
 
+use leafgraph_reference::blocks::*;
 use leafgraph_reference::generate::*;
 use leafgraph_reference::graph_faults::GraphFaults;
 use leafgraph_reference::random::Random;
 use leafgraph_reference::reply::reply_of;
 use leafgraph_reference::rule_faults::RuleFaults;
 use leafgraph_reference::{check_graph, check_rule};
+
+#[test]
+fn cycles_and_what_is_beside_them() {
+    let slots = vec![relu(2), variable(), add(1, 3), relu(2), relu(4), relu(0), add(9, 1)];
+    let mut block = GraphParts::new(slots, &[5, 8]).block();
+    block[24 + 48 * 5 + 47] = 1;
+    let expected = GraphFaults {
+        records: vec![5],
+        inputs: vec![6],
+        outputs: vec![1],
+        cycles: vec![vec![2, 3], vec![4]],
+        reading_from_cycles: vec![0],
+        read_by_cycles: vec![1],
+        ..GraphFaults::default()
+    };
+    assert_eq!(GraphFaults::of(&block), Some(expected));
+}
+
+#[test]
+fn every_kind_of_a_rule() {
+    let mut rule = p10_rule();
+    rule.source.push(call_pattern(1, &[1, 2], &[]));
+    rule.target_outputs = vec![17];
+    rule.nodes[3] = operation_node(5, 0, 1);
+    rule.source[1].attributes[2] = 10;
+    let mut block = rule.block();
+    block[14] = 1;
+    block[16 + 16 * 4 + 5] = 0;
+    let expected = RuleFaults {
+        source_count: 4,
+        header: 1,
+        records: vec![4],
+        order: vec![3],
+        ends_early: true,
+        // Vertex 3 reads the source output, and target output 17 and the use of
+        // target vertex 0 are missing.
+        connection: 3,
+        nodes: vec![3],
+        over_any: vec![3],
+        uses: vec![1],
+    };
+    assert_eq!(RuleFaults::of(&block), expected);
+}
 
 #[test]
 fn graphs_are_refused_with_the_first_fault() {

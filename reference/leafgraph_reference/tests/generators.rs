@@ -9,6 +9,7 @@ use leafgraph_reference::matching::least_match;
 use leafgraph_reference::operators::CONST;
 use leafgraph_reference::random::Random;
 use leafgraph_reference::removal::removed_slots;
+use leafgraph_reference::reply::number_of;
 use leafgraph_reference::rule::Rule;
 use leafgraph_reference::{check_graph, check_rule, find_match, rewrite};
 
@@ -53,16 +54,21 @@ fn cut_rules_are_sound() {
     }
 }
 
+/// Damage is mostly refused, with every number that there is.
 #[test]
-fn damage_is_mostly_refused() {
+fn damage_is_of_every_kind() {
     let mut random = Random::new(9);
-    let (mut graphs, mut rules) = (0, 0);
+    let mut counts: BTreeMap<u8, usize> = BTreeMap::new();
     for _ in 0..5000 {
-        graphs += usize::from(check_graph(&damaged_graph(&mut random)) != 0);
-        rules += usize::from(check_rule(&damaged_rule(&mut random)) != 0);
+        for reply in
+            [check_graph(&damaged_graph(&mut random)), check_rule(&damaged_rule(&mut random))]
+        {
+            *counts.entry(number_of(reply)).or_default() += 1;
+        }
     }
-    assert!((3000..5000).contains(&graphs), "{graphs}");
-    assert!((3000..5000).contains(&rules), "{rules}");
+    assert!(counts.keys().copied().eq([0, 20, 21, 22, 23, 30, 31, 32, 33, 34]), "{counts:?}");
+    assert!((100..4000).contains(&counts[&0]), "{counts:?}");
+    assert!(counts.values().all(|&count| count > 100), "{counts:?}");
 }
 
 /// Each change keeps both blocks sound, and leaves some matches and some
