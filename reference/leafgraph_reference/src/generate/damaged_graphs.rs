@@ -83,23 +83,25 @@ fn close_cycle(random: &mut Random, parts: &mut GraphParts) {
         return;
     }
     let below = reached(through, &readers(parts));
-    let reader = match random.below(3) {
-        0 => below[0],
-        1 => below[below.len() - 1],
-        _ => random.pick(&below),
-    };
+    let reader = near_or_far(random, &below);
     if parts.slots[through].inputs.is_empty() {
         parts.slots[through] = call(RELU, &[reader as u16], &[]);
         return;
     }
     let mut above = reached(through, &inputs(parts));
     above.retain(|&slot| !parts.slots[slot].inputs.is_empty());
-    let start = match random.chance(50) {
-        true => random.pick(&above),
-        false => above[above.len() - 1],
-    };
+    let start = near_or_far(random, &above);
     let place = random.below(parts.slots[start].inputs.len());
     parts.slots[start].inputs[place] = reader as u16;
+}
+
+/// The first, the last or any of these slots.
+fn near_or_far(random: &mut Random, slots: &[usize]) -> usize {
+    match random.below(3) {
+        0 => slots[0],
+        1 => slots[slots.len() - 1],
+        _ => random.pick(slots),
+    }
 }
 
 /// What each slot reads; an earlier damage may have left inputs that name no
