@@ -8,8 +8,14 @@ use crate::tally::Class;
 
 /// Every class must occur. What stands behind "too" is a later kind of fault,
 /// and classes without it have no other kind.
-pub const CLASSES: [&str; 25] = [
-    "20, one part of the header",
+pub const CLASSES: [&str; 31] = [
+    "20, the mark",
+    "20, byte 3",
+    "20, the version",
+    "20, the output count",
+    "20, unused output places",
+    "20, bytes 18 to 23",
+    "20, the length",
     "20, several parts of the header",
     "20, a record too",
     "20, an input or output too",
@@ -36,6 +42,19 @@ pub const CLASSES: [&str; 25] = [
     "23, a place of two bytes",
 ];
 
+/// The classes of the header's parts, in the order of the check. A wrong N
+/// mostly goes with a wrong length.
+const HEADER_PARTS: [Option<&str>; 8] = [
+    Some("20, the mark"),
+    Some("20, byte 3"),
+    Some("20, the version"),
+    None,
+    Some("20, the output count"),
+    Some("20, unused output places"),
+    Some("20, bytes 18 to 23"),
+    Some("20, the length"),
+];
+
 /// The classes of a graph that was refused with this reply.
 pub fn classes(graph: &[u8], reply: u64) -> Vec<Class> {
     let (number, place) = (number_of(reply), place_of(reply) as usize);
@@ -48,6 +67,14 @@ pub fn classes(graph: &[u8], reply: u64) -> Vec<Class> {
         22 => names(&faults, place),
         23 => cycles(&faults, place),
         _ => vec![],
+    }
+}
+
+/// The class of the only part that is wrong.
+pub fn only_part(parts: &[Option<&'static str>], wrong: &[usize]) -> Option<&'static str> {
+    match wrong {
+        [part] => parts[*part],
+        _ => None,
     }
 }
 
@@ -71,13 +98,14 @@ fn has_cycle(faults: &GraphFaults) -> bool {
 fn header(faults: &GraphFaults) -> Vec<Class> {
     let record = !faults.records.is_empty();
     let alone = !(record || has_bad_name(faults) || has_cycle(faults));
-    vec![
-        ("20, one part of the header", alone && faults.header == 1),
-        ("20, several parts of the header", alone && faults.header > 1),
+    let mut classes = vec![
+        ("20, several parts of the header", alone && faults.header.len() > 1),
         ("20, a record too", record),
         ("20, an input or output too", has_bad_name(faults)),
         ("20, a cycle too", has_cycle(faults)),
-    ]
+    ];
+    classes.extend(only_part(&HEADER_PARTS, &faults.header).map(|class| (class, alone)));
+    classes
 }
 
 fn records(faults: &GraphFaults) -> Vec<Class> {

@@ -4,12 +4,21 @@
 use leafgraph_reference::reply::{number_of, place_of};
 use leafgraph_reference::rule_faults::RuleFaults;
 
+use crate::graph_fault_classes::only_part;
 use crate::tally::Class;
 
 /// Every class must occur. What stands behind "too" is a later kind of fault,
 /// and classes without it have no other kind.
-pub const CLASSES: [&str; 34] = [
-    "30, one part of the header",
+pub const CLASSES: [&str; 48] = [
+    "30, the mark",
+    "30, byte 3",
+    "30, the version",
+    "30, the output count",
+    "30, a source output at or above S",
+    "30, an unused source output",
+    "30, an unused target output",
+    "30, bytes 14 and 15",
+    "30, the length",
     "30, several parts of the header",
     "30, a record too",
     "30, the order too",
@@ -29,7 +38,13 @@ pub const CLASSES: [&str; 34] = [
     "32, ends several vertices early",
     "32, the connection too",
     "32, an expression too",
-    "33, one fault",
+    "33, outputs alike",
+    "33, an output's kind",
+    "33, an output that is read",
+    "33, outputs not connected",
+    "33, a target output",
+    "33, a rule input unnamed",
+    "33, a target vertex unused",
     "33, several faults",
     "33, an expression too",
     "34, one node",
@@ -43,6 +58,34 @@ pub const CLASSES: [&str; 34] = [
     "34, a node, and a use by a vertex of a higher number",
     "34, any as an operand",
     "34, any as an operand of several nodes",
+];
+
+/// The classes of the header's parts, in the order of the check. A wrong S, T or
+/// A mostly goes with a wrong length.
+const HEADER_PARTS: [Option<&str>; 12] = [
+    Some("30, the mark"),
+    Some("30, byte 3"),
+    Some("30, the version"),
+    None,
+    None,
+    Some("30, the output count"),
+    None,
+    Some("30, a source output at or above S"),
+    Some("30, an unused source output"),
+    Some("30, an unused target output"),
+    Some("30, bytes 14 and 15"),
+    Some("30, the length"),
+];
+
+/// The classes of outputs and connection, in the order of the check.
+const CONNECTION_PARTS: [Option<&str>; 7] = [
+    Some("33, outputs alike"),
+    Some("33, an output's kind"),
+    Some("33, an output that is read"),
+    Some("33, outputs not connected"),
+    Some("33, a target output"),
+    Some("33, a rule input unnamed"),
+    Some("33, a target vertex unused"),
 ];
 
 /// The classes of a rule that was refused with this reply.
@@ -63,7 +106,7 @@ fn has_bad_order(faults: &RuleFaults) -> bool {
 }
 
 fn has_bad_connection(faults: &RuleFaults) -> bool {
-    faults.connection > 0
+    !faults.connection.is_empty()
 }
 
 fn has_bad_expression(faults: &RuleFaults) -> bool {
@@ -78,14 +121,15 @@ fn has_later_kind(faults: &RuleFaults) -> bool {
 fn header(faults: &RuleFaults) -> Vec<Class> {
     let record = !faults.records.is_empty();
     let alone = !record && !has_later_kind(faults);
-    vec![
-        ("30, one part of the header", alone && faults.header == 1),
-        ("30, several parts of the header", alone && faults.header > 1),
+    let mut classes = vec![
+        ("30, several parts of the header", alone && faults.header.len() > 1),
         ("30, a record too", record),
         ("30, the order too", has_bad_order(faults)),
         ("30, the connection too", has_bad_connection(faults)),
         ("30, an expression too", has_bad_expression(faults)),
-    ]
+    ];
+    classes.extend(only_part(&HEADER_PARTS, &faults.header).map(|class| (class, alone)));
+    classes
 }
 
 /// How many of these vertices are in the source, and how many in the target.
@@ -125,11 +169,12 @@ fn order(faults: &RuleFaults) -> Vec<Class> {
 
 fn connection(faults: &RuleFaults) -> Vec<Class> {
     let alone = !has_bad_expression(faults);
-    vec![
-        ("33, one fault", alone && faults.connection == 1),
-        ("33, several faults", alone && faults.connection > 1),
+    let mut classes = vec![
+        ("33, several faults", alone && faults.connection.len() > 1),
         ("33, an expression too", has_bad_expression(faults)),
-    ]
+    ];
+    classes.extend(only_part(&CONNECTION_PARTS, &faults.connection).map(|class| (class, alone)));
+    classes
 }
 
 fn expressions(faults: &RuleFaults, place: usize) -> Vec<Class> {

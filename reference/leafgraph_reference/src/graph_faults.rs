@@ -12,8 +12,9 @@ const MOST_SLOTS: usize = 64;
 /// makes a block unreadable, there are none of the later ones.
 #[derive(Clone, Debug, Default, PartialEq, Eq)]
 pub struct GraphFaults {
-    /// How many parts of the header are wrong, the length among them.
-    pub header: usize,
+    /// The parts of the header that are wrong, the length among them, in the
+    /// order of the check.
+    pub header: Vec<usize>,
     pub records: Vec<usize>,
     /// Slots with an input that names no vertex. A slot with a bad record is
     /// taken for a vertex without inputs.
@@ -37,10 +38,10 @@ impl GraphFaults {
         }
         let mut faults = GraphFaults::default();
         if bytes.len() < HEADER {
-            faults.header = 1;
+            faults.header = vec![header_parts(&[0; HEADER]).len() - 1];
             return Some(faults);
         }
-        faults.header = header_parts(bytes).into_iter().filter(|sound| !sound).count();
+        faults.header = unsound(header_parts(bytes));
         if is_readable(bytes) {
             faults.list(Graph::view(bytes));
         }
@@ -49,16 +50,12 @@ impl GraphFaults {
 
     fn list(&mut self, graph: Graph) {
         let slots = 0..graph.slot_count();
-        let (sound, unsound): (Vec<usize>, Vec<usize>) =
+        let (sound, bad): (Vec<usize>, Vec<usize>) =
             slots.partition(|&slot| graph.slot(slot).is_sound());
         let misnames = |&slot: &usize| !graph.inputs_name_vertices(graph.slot(slot));
-        self.records = unsound;
+        self.records = bad;
         self.inputs = sound.iter().copied().filter(misnames).collect();
-        let outputs = graph.outputs().enumerate();
-        self.outputs = outputs
-            .filter(|&(_, output)| !graph.names_vertex(output))
-            .map(|(place, _)| place)
-            .collect();
+        self.outputs = unsound(graph.outputs().map(|output| graph.names_vertex(output)));
         self.list_cycles(&reached_sets(graph, &sound));
     }
 
@@ -82,7 +79,7 @@ impl GraphFaults {
 
     /// What a check must refuse with.
     pub fn first(&self) -> Option<Refusal> {
-        if self.header > 0 {
+        if !self.header.is_empty() {
             return Some(Refusal::GRAPH_HEADER);
         }
         let cycles: Vec<usize> = self.cycles.concat();
@@ -96,6 +93,12 @@ impl GraphFaults {
         let place = *places.iter().min()? as u32;
         Some(Refusal { number, place })
     }
+}
+
+/// The places that are not sound.
+pub(crate) fn unsound(places: impl IntoIterator<Item = bool>) -> Vec<usize> {
+    let places = places.into_iter().enumerate();
+    places.filter(|(_, sound)| !sound).map(|(place, _)| place).collect()
 }
 
 /// Whether N and the output count can be read as they are.

@@ -2,6 +2,7 @@
 //! tests and the comparison know what was tried. It is a second telling of
 //! "the first kind that holds anywhere is given", too.
 
+use crate::graph_faults::unsound;
 use crate::reply::{Refusal, RULE_EXPRESSION, RULE_ORDER, RULE_RECORD};
 use crate::rule::{Pattern, Rule, ANY, HEADER, MAX_NODES, MAX_OUTPUTS, MAX_VERTICES, NODE};
 use crate::rule::{PATTERN, PLUS};
@@ -15,16 +16,18 @@ use crate::rule_check::{
 pub struct RuleFaults {
     /// S, where it can be read.
     pub source_count: usize,
-    /// How many parts of the header are wrong, the length among them.
-    pub header: usize,
+    /// The parts of the header that are wrong, the length among them, in the
+    /// order of the check.
+    pub header: Vec<usize>,
     /// Vertices with a bad record.
     pub records: Vec<usize>,
     /// Vertices that are not visited at their own number.
     pub order: Vec<usize>,
     /// Whether the traversal ends before all vertices are visited.
     pub ends_early: bool,
-    /// How many things that make "outputs and connection" are wrong.
-    pub connection: usize,
+    /// The things that make "outputs and connection" and are wrong, in the
+    /// order of the check.
+    pub connection: Vec<usize>,
     pub nodes: Vec<usize>,
     /// Nodes that name a node any.
     pub over_any: Vec<usize>,
@@ -37,10 +40,10 @@ impl RuleFaults {
     pub fn of(bytes: &[u8]) -> RuleFaults {
         let mut faults = RuleFaults::default();
         if bytes.len() < HEADER {
-            faults.header = 1;
+            faults.header = vec![header_parts(&[0; HEADER]).len() - 1];
             return faults;
         }
-        faults.header = header_parts(bytes).into_iter().filter(|sound| !sound).count();
+        faults.header = unsound(header_parts(bytes));
         if is_readable(bytes) {
             faults.list_records(Rule::view(bytes));
         }
@@ -66,7 +69,7 @@ impl RuleFaults {
         self.order = unsound(in_order);
         self.ends_early = order.iter().enumerate().all(|(at, &vertex)| at == vertex)
             && order.len() < rule.source_count();
-        self.connection = connection_parts(rule).into_iter().filter(|sound| !sound).count();
+        self.connection = unsound(connection_parts(rule));
         self.nodes = unsound(sound_nodes(rule));
         self.over_any = (0..rule.node_count()).filter(|&node| names_any(rule, node)).collect();
         self.uses = match self.nodes.is_empty() {
@@ -77,7 +80,7 @@ impl RuleFaults {
 
     /// What a check must refuse with.
     pub fn first(&self) -> Option<Refusal> {
-        if self.header > 0 {
+        if !self.header.is_empty() {
             return Some(Refusal::RULE_HEADER);
         }
         let lowest = |number: u8, places: &[usize]| {
@@ -86,15 +89,10 @@ impl RuleFaults {
         };
         lowest(RULE_RECORD, &self.records)
             .or(lowest(RULE_ORDER, &self.order))
-            .or((self.connection > 0).then_some(Refusal::RULE_CONNECTION))
+            .or((!self.connection.is_empty()).then_some(Refusal::RULE_CONNECTION))
             .or(lowest(RULE_EXPRESSION, &self.nodes))
             .or(lowest(RULE_EXPRESSION, &self.uses))
     }
-}
-
-/// The places that are not sound.
-fn unsound(places: impl Iterator<Item = bool>) -> Vec<usize> {
-    places.enumerate().filter(|(_, sound)| !sound).map(|(place, _)| place).collect()
 }
 
 /// Whether the counts and the source outputs can be read as they are.

@@ -37,13 +37,14 @@ fn every_kind_of_a_rule() {
     block[16 + 16 * 4 + 5] = 0;
     let expected = RuleFaults {
         source_count: 4,
-        header: 1,
+        // Bytes 14 and 15.
+        header: vec![10],
         records: vec![4],
         order: vec![3],
         ends_early: true,
-        // Vertex 3 reads the source output, and target output 17 and the use of
-        // target vertex 0 are missing.
-        connection: 3,
+        // Vertex 3 reads the source output, target output 17 is nothing, and
+        // nothing uses target vertex 0.
+        connection: vec![2, 4, 6],
         nodes: vec![3],
         over_any: vec![3],
         uses: vec![1],
