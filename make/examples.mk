@@ -3,7 +3,7 @@
 # The demo reads blocks as the tool does.
 READING := examples/demo/graph.cpp tool/blocks.cpp tool/names.cpp
 DEMO_PARTS := $(READING) examples/demo/listing.cpp examples/demo/meaning.cpp
-DEMO_HEADERS := $(wildcard examples/demo/*.hpp) tool/blocks.hpp tool/names.hpp $(HEADERS)
+DEMO_HEADERS := $(wildcard examples/demo/*.hpp) tool/blocks.hpp tool/fields.hpp tool/names.hpp $(HEADERS)
 BUILD_EXAMPLE = $(CXX) -std=c++17 $(CXX_WARNINGS) $(CXXFLAGS) -Iinclude -I. -o $@ $(filter %.cpp %.a,$^)
 
 .PHONY: blocks demo examples-tests
