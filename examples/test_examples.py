@@ -177,7 +177,7 @@ class Blocks(unittest.TestCase):
         folder = fresh_folder("damaged")
         for name in NAMES:
             block = (BLOCKS / name).read_bytes()
-            number = 2 if name.endswith(".lgt") else 3
+            number = 20 if name.endswith(".lgt") else 30
             for damaged in (block[:-1], block + b"\0", block[:3] + b"\1" + block[4:]):
                 (folder / name).write_bytes(damaged)
                 said, status = run("check_blocks", folder / name)

@@ -23,3 +23,8 @@ bool sound(const void *graph, std::size_t graph_size, const void *rule, std::siz
     return leafgraph::check_graph({graph, graph_size}).done()
            && leafgraph::check_rule({rule, rule_size}).done();
 }
+
+// What a refused graph's place counts, in words.
+const char *counted(const std::vector<unsigned char> &graph) {
+    return leafgraph::what(leafgraph::place_in(leafgraph::check_graph(graph), graph).kind);
+}

@@ -5,8 +5,13 @@
 #include <stdio.h>
 #include <string.h>
 
+#include "faults.h"
 #include "leafgraph.h"
 #include "shared_constants.h"
+
+/* Names of version 1, whose numbers 2 and 3 are gone. Were one of them still in the
+ * header, this would not compile. */
+enum { LG_BAD_GRAPH, LG_BAD_RULE };
 
 /* A graph of one slot: a Variable with the attributes 1 3 8 8 1, the output. */
 static const uint8_t one_variable[72] = {
@@ -14,15 +19,6 @@ static const uint8_t one_variable[72] = {
     255, 255, 0, 0, 0, 0, 0, 0,
     2, 0, 0, 5, 255, 255, 255, 255, 255, 255, 255, 255, 255, 255, 255, 255,
     1, 0, 0, 0, 3, 0, 0, 0, 8, 0, 0, 0, 8, 0, 0, 0, 1, 0, 0, 0
-};
-
-/* The rule that makes one relu of two. */
-static const uint8_t two_relus[80] = {
-    'L', 'G', 'R', 0, 1, 0, 3, 1, 1, 0, 2, 255, 16, 255, 0, 0,
-    0, 0, 0, 0, 255, 255, 255, 255, 255, 255, 255, 255, 255, 255, 255, 255,
-    3, 7, 1, 0, 0, 255, 255, 255, 255, 255, 255, 255, 255, 255, 255, 255,
-    3, 7, 1, 0, 1, 255, 255, 255, 255, 255, 255, 255, 255, 255, 255, 255,
-    3, 7, 1, 0, 0, 255, 255, 255, 255, 255, 255, 255, 255, 255, 255, 255
 };
 
 /* E1: slots 0, 1 Variable; 2 conv2d(0,1); 3 relu(2); 4 relu(3); 5 Empty;
@@ -62,16 +58,24 @@ static void put_e1_after_p1(uint8_t *block) {
     block[10] = 3;
 }
 
-/* 0 if the reply is exactly the number expected, place and rest zero. */
-static int differs(const char *what, uint64_t reply, unsigned expected) {
-    if (reply == expected && lg_reply_number(reply) == expected
-        && lg_reply_place(reply) == 0) {
+/* 0 if the reply is exactly the number and the place expected, the rest zero. */
+static int differs_at(const char *what, uint64_t reply, unsigned number, uint32_t place) {
+    const int is_bad_graph = number >= 20 && number < 30;
+    const int is_bad_rule = number >= 30 && number < 40;
+    if (reply == ((uint64_t)place << 8 | number) && lg_reply_number(reply) == number
+        && lg_reply_place(reply) == place && lg_is_bad_graph(reply) == is_bad_graph
+        && lg_is_bad_rule(reply) == is_bad_rule) {
         return 0;
     }
-    printf("%s: number %u, place %lu, expected number %u\n", what,
-           lg_reply_number(reply), (unsigned long)lg_reply_place(reply),
-           expected);
+    printf("%s: number %u, place %lu, expected number %u, place %lu\n", what,
+           lg_reply_number(reply), (unsigned long)lg_reply_place(reply), number,
+           (unsigned long)place);
     return 1;
+}
+
+/* The same with place 0. */
+static int differs(const char *what, uint64_t reply, unsigned expected) {
+    return differs_at(what, reply, expected, 0);
 }
 
 /* A graph block is no rule block and the other way round; neither is a block
@@ -82,20 +86,20 @@ static int count_differences(void) {
     int count = 0;
     count += differs("graph", lg_check_graph(one_variable, graph), LG_DONE);
     count += differs("short graph", lg_check_graph(one_variable, graph - 1),
-                     LG_BAD_GRAPH);
-    count += differs("no graph", lg_check_graph(one_variable, 0), LG_BAD_GRAPH);
+                     LG_BAD_GRAPH_HEADER);
+    count += differs("no graph", lg_check_graph(one_variable, 0), LG_BAD_GRAPH_HEADER);
     count += differs("rule as graph", lg_check_graph(two_relus, rule),
-                     LG_BAD_GRAPH);
+                     LG_BAD_GRAPH_HEADER);
     count += differs("rule", lg_check_rule(two_relus, rule), LG_DONE);
     count += differs("short rule", lg_check_rule(two_relus, rule - 1),
-                     LG_BAD_RULE);
-    count += differs("no rule", lg_check_rule(two_relus, 0), LG_BAD_RULE);
+                     LG_BAD_RULE_HEADER);
+    count += differs("no rule", lg_check_rule(two_relus, 0), LG_BAD_RULE_HEADER);
     count += differs("graph as rule", lg_check_rule(one_variable, graph),
-                     LG_BAD_RULE);
+                     LG_BAD_RULE_HEADER);
     memcpy(damaged, one_variable, sizeof damaged);
     damaged[71] = 1;
     count += differs("damaged graph", lg_check_graph(damaged, sizeof damaged),
-                     LG_BAD_GRAPH);
+                     LG_BAD_GRAPH_RECORD);
     return count;
 }
 
@@ -131,8 +135,8 @@ static int count_find_differences(void) {
     count += find_differs("start 65535", graph, all, rule, 65535, map, LG_NO_MATCH);
     count += find_differs("start 65536", graph, all, rule, 65536, map, LG_NO_MATCH);
     count += find_differs("last start", graph, all, rule, SIZE_MAX, map, LG_NO_MATCH);
-    count += find_differs("short rule", graph, all, rule - 1, 9, map, LG_BAD_RULE);
-    count += find_differs("short graph", graph, all - 1, rule - 1, 9, map, LG_BAD_GRAPH);
+    count += find_differs("short rule", graph, all, rule - 1, 9, map, LG_BAD_RULE_HEADER);
+    count += find_differs("short graph", graph, all - 1, rule - 1, 9, map, LG_BAD_GRAPH_HEADER);
     count += find_differs("short map", graph, all - 1, rule - 1, 9, map - 1,
                           LG_BAD_MAP_LENGTH);
     count += find_differs("long map", graph, all, rule, 0, map + 1, LG_BAD_MAP_LENGTH);
@@ -182,11 +186,11 @@ static int count_rewrite_differences(void) {
     count += rewrite_differs("last start", 4, all, rule, SIZE_MAX, map, LG_NO_MATCH);
     count += rewrite_differs("inner relu as output", 3, all, rule, 0, map, LG_NO_MATCH);
     count += rewrite_differs("rewriting, short rule", 4, all, rule - 1, 9, map,
-                             LG_BAD_RULE);
+                             LG_BAD_RULE_HEADER);
     count += rewrite_differs("rewriting, bad output", 5, all, rule - 1, 9, map,
-                             LG_BAD_GRAPH);
+                             LG_BAD_GRAPH_NAME);
     count += rewrite_differs("rewriting, long graph", 4, all + 1, rule, 0, map,
-                             LG_BAD_GRAPH);
+                             LG_BAD_GRAPH_HEADER);
     count += rewrite_differs("rewriting, short map", 5, all, rule - 1, 9, map - 1,
                              LG_BAD_MAP_LENGTH);
     count += rewrite_differs("rewriting, no map", 4, all, rule, 0, 0, LG_BAD_MAP_LENGTH);
@@ -236,12 +240,68 @@ static int count_constants_differences(void) {
     return count;
 }
 
-/* The helpers on a reply with every part filled. */
+/* A bad graph and a good rule, or the other way round: a search and a rewriting refuse
+ * them as the check did, and keep every byte. */
+static int calls_differ(const char *what, const uint8_t *graph, size_t graph_len,
+                        const uint8_t *rule, size_t rule_len, unsigned number,
+                        uint32_t place) {
+    uint8_t lent[TABLE_LENGTH], map[MAP_LENGTH], untouched[MAP_LENGTH];
+    int count;
+    memcpy(lent, graph, graph_len);
+    memset(map, UNTOUCHED, sizeof map);
+    memset(untouched, UNTOUCHED, sizeof untouched);
+    count = differs_at(what, lg_find_match(lent, graph_len, rule, rule_len, 0, map, sizeof map),
+                       number, place);
+    count += differs_at(what, lg_rewrite(lent, graph_len, rule, rule_len, 0, map, sizeof map),
+                        number, place);
+    if (memcmp(lent, graph, graph_len) != 0 || memcmp(map, untouched, sizeof map) != 0) {
+        printf("%s: lent bytes are not what they should be\n", what);
+        count++;
+    }
+    return count;
+}
+
+static int graph_fault_differs(const struct graph_fault *fault) {
+    uint8_t graph[TABLE_LENGTH];
+    put_graph_fault(graph, fault);
+    return differs_at(fault->what, lg_check_graph(graph, sizeof graph), fault->number,
+                      fault->place)
+           + calls_differ(fault->what, graph, sizeof graph, two_relus, sizeof two_relus,
+                          fault->number, fault->place);
+}
+
+static int rule_fault_differs(const struct rule_fault *fault) {
+    uint8_t rule[LONGEST_RULE];
+    put_rule_fault(rule, fault);
+    return differs_at(fault->what, lg_check_rule(rule, fault->rule_len), fault->number,
+                      fault->place)
+           + calls_differ(fault->what, one_variable, sizeof one_variable, rule,
+                          fault->rule_len, fault->number, fault->place);
+}
+
+static int count_fault_differences(void) {
+    size_t fault;
+    int count = 0;
+    for (fault = 0; fault < sizeof graph_faults / sizeof graph_faults[0]; fault++) {
+        count += graph_fault_differs(&graph_faults[fault]);
+    }
+    for (fault = 0; fault < sizeof rule_faults / sizeof rule_faults[0]; fault++) {
+        count += rule_fault_differs(&rule_faults[fault]);
+    }
+    return count;
+}
+
+/* The helpers on a reply with every part filled, and at the edges of the numbers that
+ * are about a block. */
 static int count_helper_differences(void) {
-    const uint64_t reply = ((uint64_t)0xabcdef << 40)
-                           | ((uint64_t)0x89abcdef << 8) | 0x17;
-    return (lg_reply_number(reply) == 0x17 ? 0 : 1)
-           + (lg_reply_place(reply) == 0x89abcdef ? 0 : 1);
+    const uint64_t rest = ((uint64_t)0xabcdef << 40) | ((uint64_t)0x89abcdef << 8);
+    return (lg_reply_number(rest | 0x17) == 0x17 ? 0 : 1)
+           + (lg_reply_place(rest | 0x17) == 0x89abcdef ? 0 : 1)
+           + (lg_is_bad_graph(rest | 20) && lg_is_bad_graph(rest | 29) ? 0 : 1)
+           + (!lg_is_bad_graph(rest | 19) && !lg_is_bad_graph(rest | 30) ? 0 : 1)
+           + (lg_is_bad_rule(rest | 30) && lg_is_bad_rule(rest | 39) ? 0 : 1)
+           + (!lg_is_bad_rule(rest | 29) && !lg_is_bad_rule(rest | 40) ? 0 : 1)
+           + (!lg_is_bad_graph(rest | 2) && !lg_is_bad_rule(rest | 3) ? 0 : 1);
 }
 
 #endif

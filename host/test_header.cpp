@@ -7,6 +7,14 @@
 #include <algorithm>
 #include <vector>
 
+static_assert(LG_DONE == 0 && LG_BAD_MAP_LENGTH == 1 && LG_NO_MATCH == 4 && LG_NO_RESULT == 5
+                  && LG_NO_ROOM == 6 && LG_CYCLE == 7, "numbers of document 01");
+static_assert(LG_BAD_GRAPH_HEADER == 20 && LG_BAD_GRAPH_RECORD == 21 && LG_BAD_GRAPH_NAME == 22
+                  && LG_GRAPH_HAS_CYCLE == 23, "numbers for a bad graph");
+static_assert(LG_BAD_RULE_HEADER == 30 && LG_BAD_RULE_RECORD == 31 && LG_BAD_RULE_ORDER == 32
+                  && LG_BAD_RULE_OUTPUTS == 33 && LG_BAD_RULE_EXPRESSION == 34,
+              "numbers for a bad rule");
+
 // A block in memory of another kind and at an odd address.
 static std::vector<uint8_t> shifted(const uint8_t *block, size_t length) {
     std::vector<uint8_t> bytes(1 + length);
@@ -48,7 +56,7 @@ static int count_shifted_rewrite_differences() {
 int main() {
     const int count = count_differences() + count_find_differences()
                       + count_rewrite_differences() + count_constants_differences()
-                      + count_helper_differences()
+                      + count_fault_differences() + count_helper_differences()
                       + count_shifted_differences() + count_shifted_find_differences()
                       + count_shifted_rewrite_differences();
     if (count == 0) {

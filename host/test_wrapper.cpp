@@ -5,6 +5,7 @@
 #include "leafgraph.hpp" // the include guard
 
 #include "blocks.hpp"
+#include "faults.h"
 #include "shared_constants.h"
 
 #include <cstdio>
@@ -25,6 +26,8 @@ using blocks::Vertex;
 using leafgraph::Bytes;
 using leafgraph::Code;
 using leafgraph::Map;
+using leafgraph::Place;
+using leafgraph::PlaceKind;
 using leafgraph::Reply;
 using leafgraph::WritableBytes;
 
@@ -107,15 +110,16 @@ struct Call {
     Code code;
 };
 
-// A call for each reply that the library has.
+// A call for each reply that the library has, but for the kinds of fault of a block:
+// those are in faults.h.
 std::vector<Call> calls() {
     Block bad_graph = two_relus_graph(), bad_rule = two_relus_rule();
     bad_graph.pop_back();
     bad_rule[0] = 'l';
     return {{two_relus_graph(), two_relus_rule(), 0, 32, Code::done},
             {bad_graph, bad_rule, 0, 31, Code::bad_map_length},
-            {bad_graph, bad_rule, 0, 32, Code::bad_graph},
-            {two_relus_graph(), bad_rule, 0, 32, Code::bad_rule},
+            {bad_graph, bad_rule, 0, 32, Code::bad_graph_header},
+            {two_relus_graph(), bad_rule, 0, 32, Code::bad_rule_header},
             {two_relus_graph(), two_relus_rule(), 3, 32, Code::no_match},
             {two_relus_graph(), two_relus_rule(), SIZE_MAX, 32, Code::no_match},
             {gains_graph(65536), gains_rule(), 0, 32, Code::no_result},
@@ -131,27 +135,29 @@ void test_rewriting_replies() {
         const Reply reply = leafgraph::rewrite(graph, rule, call.start, map);
         expect(reply.code() == call.code, leafgraph::what(call.code));
         expect(reply.number() == static_cast<unsigned>(call.code), "the number is the code's");
-        expect(reply.place() == 0, "the place is zero for now");
+        expect(reply.place() == 0, "none of these has a place");
         expect(reply.done() == (call.code == Code::done), "done is number 0");
         expect(reply.done() || (graph == call.graph && map == map_before),
                "a refusal keeps every byte");
         seen.insert(reply.code());
     }
-    expect(seen.size() == 8, "each of the library's eight replies was seen");
+    expect(seen.size() == 8, "each of these eight replies was seen");
 }
 
 void test_search_and_checks() {
     for (const Call &call : calls()) {
         Block map(call.map_length, 0xaa);
         const Reply reply = leafgraph::find_match(call.graph, call.rule, call.start, map);
-        const bool found = call.code > Code::no_match || call.code == Code::done;
-        expect(reply.code() == (found ? Code::done : call.code), "a search replies 0 to 4");
+        const bool only_rewriting = call.code == Code::no_result || call.code == Code::no_room
+                                    || call.code == Code::cycle;
+        expect(reply.code() == (only_rewriting ? Code::done : call.code),
+               "a search is refused as a rewriting is, up to no match");
     }
     const Block graph = two_relus_graph(), rule = two_relus_rule();
     expect(leafgraph::check_graph(graph).done(), "a sound graph");
     expect(leafgraph::check_rule(rule).done(), "a sound rule");
-    expect(leafgraph::check_graph(rule).code() == Code::bad_graph, "a rule is no graph");
-    expect(leafgraph::check_rule(graph).code() == Code::bad_rule, "a graph is no rule");
+    expect(leafgraph::check_graph(rule).code() == Code::bad_graph_header, "a rule is no graph");
+    expect(leafgraph::check_rule(graph).code() == Code::bad_rule_header, "a graph is no rule");
 }
 
 void test_result_of_rewriting() {
@@ -213,17 +219,16 @@ void test_empty_buffers() {
     Block graph = two_relus_graph();
     const Block rule = two_relus_rule();
     Map map;
-    expect(leafgraph::check_graph({nullptr, 0}).code() == Code::bad_graph, "null graph");
-    expect(leafgraph::check_rule(Bytes()).code() == Code::bad_rule, "no rule");
-    expect(leafgraph::check_graph(Block()).code() == Code::bad_graph, "an empty vector");
-    expect(leafgraph::find_match({nullptr, 0}, rule, 0, map).code() == Code::bad_graph, "search");
-    expect(leafgraph::find_match(graph, {nullptr, 0}, 0, map).code() == Code::bad_rule, "search");
+    expect(leafgraph::check_graph({nullptr, 0}).bad_graph(), "null graph");
+    expect(leafgraph::check_rule(Bytes()).bad_rule(), "no rule");
+    expect(leafgraph::check_graph(Block()).bad_graph(), "an empty vector");
+    expect(leafgraph::find_match({nullptr, 0}, rule, 0, map).bad_graph(), "search");
+    expect(leafgraph::find_match(graph, {nullptr, 0}, 0, map).bad_rule(), "search");
     expect(leafgraph::rewrite(graph, rule, 0, {nullptr, 0}).code() == Code::bad_map_length,
            "a null map");
     expect(leafgraph::detail::lent(Bytes()).data() != nullptr, "the library never gets null");
     expect(leafgraph::detail::lent(WritableBytes()).data() != nullptr, "nor to write to");
-    expect(leafgraph::rewrite(WritableBytes(), rule, 0, map).code() == Code::bad_graph,
-           "a null graph");
+    expect(leafgraph::rewrite(WritableBytes(), rule, 0, map).bad_graph(), "a null graph");
 }
 
 void test_null_with_a_length() {
@@ -281,14 +286,102 @@ void test_overlap() {
 
 void test_words() {
     std::set<std::string_view> texts;
-    for (const Code code : {Code::done, Code::bad_map_length, Code::bad_graph, Code::bad_rule,
-                            Code::no_match, Code::no_result, Code::no_room, Code::cycle,
-                            Code::overlap, Code::null_buffer}) {
+    for (const Code code :
+         {Code::done, Code::bad_map_length, Code::bad_graph_header, Code::bad_graph_record,
+          Code::bad_graph_name, Code::graph_has_cycle, Code::bad_rule_header,
+          Code::bad_rule_record, Code::bad_rule_order, Code::bad_rule_outputs,
+          Code::bad_rule_expression, Code::no_match, Code::no_result, Code::no_room, Code::cycle,
+          Code::overlap, Code::null_buffer}) {
         texts.insert(leafgraph::what(code));
         expect(Reply(code).what() == std::string_view(leafgraph::what(code)), "the reply's words");
     }
-    expect(texts.size() == 10, "each code has words of its own");
+    expect(texts.size() == 17, "each code has words of its own");
     expect(texts.count(leafgraph::what(static_cast<Code>(200))) == 0, "an unknown number too");
+    texts.clear();
+    for (const PlaceKind kind : {PlaceKind::none, PlaceKind::slot, PlaceKind::output,
+                                 PlaceKind::source_vertex, PlaceKind::target_vertex,
+                                 PlaceKind::node, static_cast<PlaceKind>(200)}) {
+        texts.insert(leafgraph::what(kind));
+    }
+    expect(texts.size() == 7, "each kind of place has words of its own");
+}
+
+// Whether an enumeration still has the name that version 1 had for all bad graphs.
+template <class Enumeration, class = void>
+constexpr bool has_bad_graph = false;
+template <class Enumeration>
+constexpr bool has_bad_graph<Enumeration, std::void_t<decltype(Enumeration::bad_graph)>> = true;
+
+constexpr bool same(const char *one, std::string_view other) {
+    return std::string_view(one) == other;
+}
+
+void test_numbers_of_faults() {
+    static_assert(!has_bad_graph<Code>, "a caller that names it must not compile");
+    static_assert(Reply(Code::bad_graph_header).number() == 20);
+    static_assert(Reply(Code::graph_has_cycle).number() == 23);
+    static_assert(Reply(Code::bad_rule_header).number() == 30);
+    static_assert(Reply(Code::bad_rule_expression).number() == 34);
+    static_assert(Reply(std::uint64_t{29}).bad_graph() && !Reply(std::uint64_t{19}).bad_graph(),
+                  "a later kind of fault is a bad graph, too");
+    static_assert(Reply(std::uint64_t{39}).bad_rule() && !Reply(std::uint64_t{40}).bad_rule());
+    static_assert(!Reply(Code::bad_graph_name).bad_rule() && !Reply(Code::cycle).bad_graph());
+    static_assert(!Reply(Code::overlap).bad_graph() && !Reply(Code::null_buffer).bad_rule());
+    static_assert(same(leafgraph::what(Code::graph_has_cycle), "bad graph block: it has a cycle"));
+    static_assert(same(leafgraph::what(PlaceKind::target_vertex), "target vertex"));
+    static_assert(Place{PlaceKind::slot, 1} != Place{PlaceKind::node, 1}
+                  && Place{PlaceKind::slot, 1} != Place{PlaceKind::slot, 2}
+                  && Place{PlaceKind::slot, 1} == Place{PlaceKind::slot, 1});
+}
+
+// The rules of faults.h have three source vertices.
+template <class Fault>
+void expect_place(const Fault &fault, Reply reply, const Block &block) {
+    const std::uint32_t before = fault.counted == TARGET_VERTEX ? 3 : 0;
+    const Place place = {static_cast<PlaceKind>(fault.counted), fault.place - before};
+    expect(reply.number() == fault.number && reply.place() == fault.place, fault.what);
+    expect(leafgraph::place_in(reply, block) == place, fault.what);
+}
+
+void test_places() {
+    for (const graph_fault &fault : graph_faults) {
+        Block graph(TABLE_LENGTH);
+        put_graph_fault(graph.data(), &fault);
+        const Reply reply = leafgraph::check_graph(graph);
+        expect(reply.bad_graph() && !reply.bad_rule(), fault.what);
+        expect_place(fault, reply, graph);
+    }
+    for (const rule_fault &fault : rule_faults) {
+        Block rule(fault.rule_len);
+        put_rule_fault(rule.data(), &fault);
+        const Reply reply = leafgraph::check_rule(rule);
+        expect(reply.bad_rule() && !reply.bad_graph(), fault.what);
+        expect_place(fault, reply, rule);
+    }
+}
+
+// Whatever reply and bytes it is given, place_in reads no byte outside them: the
+// sanitizers and valgrind see to that here.
+void expect_a_place_in_any_bytes(Reply reply) {
+    for (const std::size_t length : {0U, 1U, 7U, 10U, 24U, 72U, 80U, 104U}) {
+        for (const char byte : {'\0', '\1', '\6', '\377'}) {
+            const Place place = leafgraph::place_in(reply, std::string(length, byte));
+            expect(place.kind <= PlaceKind::node, "some kind of place");
+        }
+    }
+    expect(leafgraph::place_in(reply, {nullptr, 1}).kind == PlaceKind::none, "null");
+}
+
+void test_places_in_any_bytes() {
+    static_assert(noexcept(leafgraph::place_in(Reply(Code::done), Bytes())));
+    for (std::uint64_t number = 0; number < 256; ++number) {
+        for (const std::uint64_t place : {0U, 1U, 15U, 255U, 511U, 65535U, 0xffffffffU}) {
+            expect_a_place_in_any_bytes(Reply(number | place << 8));
+        }
+    }
+    const Block graph = two_relus_graph();
+    expect(leafgraph::place_in(Reply(Code::done), graph).kind == PlaceKind::none, "done");
+    expect(leafgraph::place_in(Reply(Code::no_match), graph).kind == PlaceKind::none, "no match");
 }
 
 void test_packed_replies() {
@@ -340,6 +433,9 @@ int main() {
     test_null_with_a_length();
     test_overlap();
     test_words();
+    test_numbers_of_faults();
+    test_places();
+    test_places_in_any_bytes();
     test_packed_replies();
     test_threads();
     std::printf("wrapper test in C++%ld: %d failed\n", __cplusplus / 100 % 100, failures);

@@ -3,8 +3,9 @@
  *
  * What holds for every function here:
  *
- * - Any bytes of any length are answered. A bad block is refused by number;
- *   the caller need not have checked anything before.
+ * - Any bytes of any length are answered. A bad block is refused with the kind
+ *   of its fault and the place of it; the caller need not have checked anything
+ *   before.
  * - Each pointer must be valid for the length given with it. A length of 0
  *   still wants a pointer that is not null. No alignment is needed.
  * - Buffers given to one call must not overlap.
@@ -22,25 +23,61 @@
 #include <stddef.h>
 #include <stdint.h>
 
-/* The version of this header and of the library that it is installed with. */
-#define LEAFGRAPH_VERSION "1.1.0"
+/* The version of this header and of the library that it is installed with.
+ * Version 2 tells the kinds of fault apart: what was reply 2 (bad graph) is one of
+ * 20 to 23, and what was reply 3 (bad rule) one of 30 to 34, each with a place. A
+ * caller that needs no more than before asks lg_is_bad_graph and lg_is_bad_rule. */
+#define LEAFGRAPH_VERSION "2.0.0"
 
 #ifdef __cplusplus
 extern "C" {
 #endif
 
-/* Reply numbers. Tested in this order, the lowest that applies is given. */
+/* Reply numbers, in the order in which they are tested: the first that applies
+ * is given. Of a block with faults of several kinds that is the first kind,
+ * wherever its fault stands.
+ *
+ * Those about a block say what their place is (lg_reply_place); with all others
+ * it is 0.
+ * In a rule with S source vertices, vertex p is source vertex p, or, from S on,
+ * target vertex p - S. */
 enum {
     LG_DONE = 0,           /* done */
     LG_BAD_MAP_LENGTH = 1, /* the map buffer is not 32 bytes */
-    LG_BAD_GRAPH = 2,      /* bad graph block */
-    LG_BAD_RULE = 3,       /* bad rule block */
-    LG_NO_MATCH = 4,       /* no match from the start number on */
-    LG_NO_RESULT = 5,      /* a target attribute has no result, or a
-                              projection's index is below 1 */
-    LG_NO_ROOM = 6,        /* more target vertices than Empty slots and
-                              removed ones (a Const that stays frees none) */
-    LG_CYCLE = 7           /* the table so made would have a cycle */
+
+    /* Bad graph blocks: lg_is_bad_graph. */
+    LG_BAD_GRAPH_HEADER = 20, /* the length, or a field of the header, unused
+                                 output places included. Place: 0 */
+    LG_BAD_GRAPH_RECORD = 21, /* a record that does not suit its kind. Place:
+                                 the lowest such slot */
+    LG_BAD_GRAPH_NAME = 22,   /* an input or an output that names no vertex.
+                                 Place: the lowest slot with such an input; only
+                                 where there is none, the lowest output, 0 to 3 */
+    LG_GRAPH_HAS_CYCLE = 23,  /* a cycle. Place: the lowest slot on one */
+
+    /* Bad rule blocks: lg_is_bad_rule. */
+    LG_BAD_RULE_HEADER = 30,     /* the length, or a field of the header, unused
+                                    output places and source outputs that are no
+                                    source vertex included. Place: 0 */
+    LG_BAD_RULE_RECORD = 31,     /* a record that does not suit its kind, or
+                                    with a bad input place. Place: the lowest
+                                    such vertex */
+    LG_BAD_RULE_ORDER = 32,      /* visiting order. Place: the first vertex that
+                                    the walk from the outputs does not visit in
+                                    its turn */
+    LG_BAD_RULE_OUTPUTS = 33,    /* outputs, connection, a rule input or a
+                                    target vertex that nothing names. Place: 0,
+                                    also where it is about a vertex */
+    LG_BAD_RULE_EXPRESSION = 34, /* an expression. Place: the lowest bad node;
+                                    only where there is none, the lowest vertex
+                                    that uses one badly */
+
+    LG_NO_MATCH = 4,  /* no match from the start number on */
+    LG_NO_RESULT = 5, /* a target attribute has no result, or a projection's
+                         index is below 1 */
+    LG_NO_ROOM = 6,   /* more target vertices than Empty slots and removed ones
+                         (a Const that stays frees none) */
+    LG_CYCLE = 7      /* the table so made would have a cycle */
 };
 
 enum {
@@ -54,8 +91,24 @@ static inline unsigned lg_reply_number(uint64_t reply) {
     return reply & 0xff;
 }
 
-/* The place that a refusal names: bits 8 to 39. Zero for now. Bits 40 to 63
- * are zero for now, too. */
+/* Whether the reply is about the graph block: numbers 20 to 29. Ask this where
+ * the kind of fault does not matter: kinds that a later version adds will be
+ * among these numbers. */
+static inline int lg_is_bad_graph(uint64_t reply) {
+    return lg_reply_number(reply) / 10 == 2;
+}
+
+/* Whether the reply is about the rule block: numbers 30 to 39, likewise. */
+static inline int lg_is_bad_rule(uint64_t reply) {
+    return lg_reply_number(reply) / 10 == 3;
+}
+
+/* The place that a refusal names: bits 8 to 39. What it counts stands at each
+ * number above. Two numbers leave that open: LG_BAD_GRAPH_NAME does not tell a
+ * slot from an output, nor LG_BAD_RULE_EXPRESSION a node from a vertex. Look at
+ * the bytes to settle it: if the slot of that number has a bad input, or the node
+ * of that number is bad, that is the place. (place_in of leafgraph.hpp does it.)
+ * Bits 40 to 63 are zero for now. */
 static inline uint32_t lg_reply_place(uint64_t reply) {
     return (reply >> 8) & 0xffffffff;
 }
@@ -64,7 +117,9 @@ static inline uint32_t lg_reply_place(uint64_t reply) {
  *
  * Reads:   graph_len bytes at graph.
  * Writes:  nothing.
- * Replies: LG_DONE if the bytes are a sound graph block, else LG_BAD_GRAPH.
+ * Replies: LG_DONE if the bytes are a sound graph block, else the first that
+ *          applies of LG_BAD_GRAPH_HEADER, LG_BAD_GRAPH_RECORD,
+ *          LG_BAD_GRAPH_NAME and LG_GRAPH_HAS_CYCLE.
  * Threads: any number at once.
  * Stack:   64 KiB.
  */
@@ -74,7 +129,9 @@ uint64_t lg_check_graph(const uint8_t *graph, size_t graph_len);
  *
  * Reads:   rule_len bytes at rule.
  * Writes:  nothing.
- * Replies: LG_DONE if the bytes are a sound rule block, else LG_BAD_RULE.
+ * Replies: LG_DONE if the bytes are a sound rule block, else the first that
+ *          applies of LG_BAD_RULE_HEADER, LG_BAD_RULE_RECORD,
+ *          LG_BAD_RULE_ORDER, LG_BAD_RULE_OUTPUTS and LG_BAD_RULE_EXPRESSION.
  * Threads: any number at once.
  * Stack:   64 KiB.
  */
@@ -93,8 +150,8 @@ uint64_t lg_check_rule(const uint8_t *rule, size_t rule_len);
  *          and 65535 from the rule's number of source vertices on. On a
  *          refusal, nothing.
  * Replies: LG_DONE if there is a match; else the first that applies of
- *          LG_BAD_MAP_LENGTH (map_len is not 32), LG_BAD_GRAPH, LG_BAD_RULE
- *          and LG_NO_MATCH.
+ *          LG_BAD_MAP_LENGTH (map_len is not 32), what lg_check_graph and then
+ *          lg_check_rule would refuse, and LG_NO_MATCH.
  * Threads: any number at once, each with a map of its own.
  * Stack:   64 KiB.
  */
@@ -120,12 +177,12 @@ uint64_t lg_find_match(const uint8_t *graph, size_t graph_len,
  *          lg_find_match does: its numbers are slots of the graph as it was
  *          before. On a refusal, nothing: the graph is as it came.
  * Replies: LG_DONE if the graph is rewritten; else the first that applies of
- *          LG_BAD_MAP_LENGTH (map_len is not 32), LG_BAD_GRAPH, LG_BAD_RULE,
- *          LG_NO_MATCH, LG_NO_RESULT (an attribute of a target vertex has no
- *          result, or a projection's index is below 1), LG_NO_ROOM (the rule
- *          has more target vertices than there are Empty slots and slots of
- *          vertices that are really removed) and LG_CYCLE (the new graph would
- *          have a cycle).
+ *          LG_BAD_MAP_LENGTH (map_len is not 32), what lg_check_graph and then
+ *          lg_check_rule would refuse, LG_NO_MATCH, LG_NO_RESULT (an attribute
+ *          of a target vertex has no result, or a projection's index is below
+ *          1), LG_NO_ROOM (the rule has more target vertices than there are
+ *          Empty slots and slots of vertices that are really removed) and
+ *          LG_CYCLE (the new graph would have a cycle).
  * Threads: any number at once, each with a graph and a map of its own.
  * Stack:   96 KiB, since it makes the new graph beside the old one.
  */

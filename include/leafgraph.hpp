@@ -8,7 +8,8 @@
 //   does not take.
 // - A null pointer with any other length, and buffers that overlap, are refused
 //   before the library is called: no byte is read or written then.
-// - A reply is a type of its own, with its number, its place and a text.
+// - A reply is a type of its own, with its number, its place and a text; and
+//   place_in says what the place of a refused block counts.
 //
 // Nothing here throws, allocates or keeps state. What leafgraph.h says about
 // threads and stack holds here too.
@@ -34,8 +35,15 @@ namespace leafgraph {
 enum class Code : std::uint16_t {
     done = LG_DONE,
     bad_map_length = LG_BAD_MAP_LENGTH,
-    bad_graph = LG_BAD_GRAPH,
-    bad_rule = LG_BAD_RULE,
+    bad_graph_header = LG_BAD_GRAPH_HEADER,
+    bad_graph_record = LG_BAD_GRAPH_RECORD,
+    bad_graph_name = LG_BAD_GRAPH_NAME,
+    graph_has_cycle = LG_GRAPH_HAS_CYCLE,
+    bad_rule_header = LG_BAD_RULE_HEADER,
+    bad_rule_record = LG_BAD_RULE_RECORD,
+    bad_rule_order = LG_BAD_RULE_ORDER,
+    bad_rule_outputs = LG_BAD_RULE_OUTPUTS,
+    bad_rule_expression = LG_BAD_RULE_EXPRESSION,
     no_match = LG_NO_MATCH,
     no_result = LG_NO_RESULT,
     no_room = LG_NO_ROOM,
@@ -51,10 +59,24 @@ constexpr const char *what(Code code) noexcept {
         return "done";
     case Code::bad_map_length:
         return "the map buffer is not 32 bytes";
-    case Code::bad_graph:
-        return "bad graph block";
-    case Code::bad_rule:
-        return "bad rule block";
+    case Code::bad_graph_header:
+        return "bad graph block: its length or its header";
+    case Code::bad_graph_record:
+        return "bad graph block: a record does not suit its kind";
+    case Code::bad_graph_name:
+        return "bad graph block: an input or an output names no vertex";
+    case Code::graph_has_cycle:
+        return "bad graph block: it has a cycle";
+    case Code::bad_rule_header:
+        return "bad rule block: its length or its header";
+    case Code::bad_rule_record:
+        return "bad rule block: a record, or an input place of one";
+    case Code::bad_rule_order:
+        return "bad rule block: its vertices are not in visiting order";
+    case Code::bad_rule_outputs:
+        return "bad rule block: its outputs, its connection, or a vertex that nothing names";
+    case Code::bad_rule_expression:
+        return "bad rule block: an expression, or the use of one";
     case Code::no_match:
         return "no match from the start number on";
     case Code::no_result:
@@ -89,7 +111,13 @@ public:
     constexpr unsigned number() const noexcept { return static_cast<unsigned>(code_); }
     constexpr const char *what() const noexcept { return leafgraph::what(code_); }
 
-    // The place that a refusal names: zero for now.
+    // Whether it is about the graph block, or about the rule block: whatever kind of
+    // fault it has, those included that a later version tells apart.
+    constexpr bool bad_graph() const noexcept { return number() / 10 == 2; }
+    constexpr bool bad_rule() const noexcept { return number() / 10 == 3; }
+
+    // The place that a refusal names, as the library gives it: a slot, an output, a
+    // vertex or a node, see leafgraph.h at each number; else 0. place_in says which.
     constexpr std::uint32_t place() const noexcept { return place_; }
 
     friend constexpr bool operator==(Reply left, Reply right) noexcept {
@@ -291,6 +319,144 @@ inline Reply rewrite(WritableBytes graph, Bytes rule, std::size_t start,
     map = detail::lent(map);
     return Reply(lg_rewrite(graph.data(), graph.size(), rule.data(), rule.size(), start,
                             map.data(), map.size()));
+}
+
+// What a place is a number of.
+enum class PlaceKind {
+    none, // the reply names no place
+    slot,
+    output, // of the graph, 0 to 3
+    source_vertex,
+    target_vertex,
+    node // of an expression
+};
+
+// The kind in a word or two, for a message. Never null.
+constexpr const char *what(PlaceKind kind) noexcept {
+    switch (kind) {
+    case PlaceKind::none:
+        return "no place";
+    case PlaceKind::slot:
+        return "slot";
+    case PlaceKind::output:
+        return "output";
+    case PlaceKind::source_vertex:
+        return "source vertex";
+    case PlaceKind::target_vertex:
+        return "target vertex";
+    case PlaceKind::node:
+        return "node";
+    }
+    return "a kind of place that this header does not know";
+}
+
+// A place by itself: of which kind, and its number among those. Target vertices are
+// counted by themselves here, where the reply counts them from S on.
+struct Place {
+    PlaceKind kind;
+    std::uint32_t number;
+
+    friend constexpr bool operator==(Place left, Place right) noexcept {
+        return left.kind == right.kind && left.number == right.number;
+    }
+    friend constexpr bool operator!=(Place left, Place right) noexcept {
+        return !(left == right);
+    }
+};
+
+namespace detail {
+
+// Any block can be looked at: where it has no byte, there is a 0.
+inline unsigned byte_at(Bytes block, std::size_t at) noexcept {
+    return at < block.size() ? block.data()[at] : 0U;
+}
+
+inline unsigned number16_at(Bytes block, std::size_t at) noexcept {
+    return byte_at(block, at) + 256U * byte_at(block, at + 1);
+}
+
+// Whether some used input of this slot names no slot or an Empty one.
+inline bool reads_no_vertex(Bytes graph, std::size_t slot) noexcept {
+    const unsigned slots = number16_at(graph, 6);
+    const std::size_t record = 24 + 48 * slot;
+    const unsigned inputs = byte_at(graph, record + 2);
+    for (std::size_t place = 0; place < inputs && place < 6; ++place) {
+        const std::size_t named = number16_at(graph, record + 4 + 2 * place);
+        if (named >= slots || byte_at(graph, 24 + 48 * named) == 0) {
+            return true;
+        }
+    }
+    return false;
+}
+
+// Where the nodes of a rule begin.
+inline std::size_t nodes_at(Bytes rule) noexcept {
+    return 16 + std::size_t{16} * (byte_at(rule, 6) + byte_at(rule, 7));
+}
+
+// Whether a node may name this one as an operand: an earlier one that is not any.
+inline bool is_operand(Bytes rule, unsigned operand, std::size_t node) noexcept {
+    return operand < node && byte_at(rule, nodes_at(rule) + std::size_t{8} * operand) != 0;
+}
+
+// Whether the rule has this node and it is not well formed.
+inline bool is_bad_node(Bytes rule, std::size_t node) noexcept {
+    const std::size_t at = nodes_at(rule) + 8 * node;
+    if (node >= byte_at(rule, 9)) {
+        return false;
+    }
+    const unsigned form = byte_at(rule, at);
+    const unsigned a = byte_at(rule, at + 1), b = byte_at(rule, at + 2);
+    const bool number = number16_at(rule, at + 4) != 0 || number16_at(rule, at + 6) != 0;
+    if (form > 7 || byte_at(rule, at + 3) != 0 || (form != 1 && number)) {
+        return true;
+    }
+    if (form <= 1) { // any and constant name nothing
+        return a != 0 || b != 0;
+    }
+    if (form == 2) { // attribute b of source vertex a
+        return a >= byte_at(rule, 6) || b < 1 || b > 6;
+    }
+    return !is_operand(rule, a, node) || !is_operand(rule, b, node);
+}
+
+inline Place vertex_place(Bytes rule, std::uint32_t vertex) noexcept {
+    const unsigned sources = byte_at(rule, 6);
+    return vertex < sources ? Place{PlaceKind::source_vertex, vertex}
+                            : Place{PlaceKind::target_vertex, vertex - sources};
+}
+
+} // namespace detail
+
+// What the place of a reply counts, in the block that the reply is about: the graph
+// where reply.bad_graph(), the rule where reply.bad_rule(), as it was at the call.
+//
+// Number and place are the library's, and proved. This look at the bytes is tested, not
+// proved; it never reads outside the block, whatever is in it. Of another block than
+// the refused one it says nothing of use.
+inline Place place_in(Reply reply, Bytes block) noexcept {
+    const std::uint32_t place = reply.place();
+    if (detail::is_null(block)) {
+        return {PlaceKind::none, 0};
+    }
+    switch (reply.code()) {
+    case Code::bad_graph_record:
+    case Code::graph_has_cycle:
+        return {PlaceKind::slot, place};
+    case Code::bad_graph_name:
+        // An output is given only where no slot at all has such an input.
+        return {detail::reads_no_vertex(block, place) ? PlaceKind::slot : PlaceKind::output,
+                place};
+    case Code::bad_rule_record:
+    case Code::bad_rule_order:
+        return detail::vertex_place(block, place);
+    case Code::bad_rule_expression:
+        // A vertex is given only where no node at all is bad.
+        return detail::is_bad_node(block, place) ? Place{PlaceKind::node, place}
+                                                 : detail::vertex_place(block, place);
+    default:
+        return {PlaceKind::none, 0};
+    }
 }
 
 } // namespace leafgraph

@@ -23,10 +23,10 @@ std::string refusal_line(Reply reply, const Input &graph, const Input &rule) {
         return std::string(reply.what()) + " (" + number + ")";
     }
     const std::string line = "refused with " + number + ": " + reply.what();
-    if (reply.code() == Code::bad_graph) {
+    if (reply.bad_graph()) {
         return graph.name + ": " + line + hint(graph, rule_mark, "rule");
     }
-    if (reply.code() == Code::bad_rule) {
+    if (reply.bad_rule()) {
         return rule.name + ": " + line + hint(rule, graph_mark, "graph");
     }
     return line;

@@ -10,7 +10,7 @@
 namespace leafgraph::tool {
 
 // One line about a reply that isn't done. It names the file that the reply is
-// about, where it is about one: the graph with reply 2, the rule with reply 3.
+// about, where it is about one of the blocks.
 std::string refusal_line(Reply reply, const Input &graph, const Input &rule);
 
 // Each throws the refusal, or that there is no match, unless the reply is done.

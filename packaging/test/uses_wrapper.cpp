@@ -7,5 +7,5 @@
 int main() {
     const leafgraph::Reply reply = leafgraph::check_graph({nullptr, 0});
     std::printf("leafgraph %s from C++: %s\n", LEAFGRAPH_VERSION, reply.what());
-    return reply.code() == leafgraph::Code::bad_graph ? 0 : 1;
+    return reply.code() == leafgraph::Code::bad_graph_header && reply.bad_graph() ? 0 : 1;
 }

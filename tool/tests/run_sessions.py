@@ -6,7 +6,7 @@ A session is a text file:
     # A comment.
     % needs dot
     $ leafgraph check short.lgt
-    leafgraph: short.lgt: refused with reply 2: bad graph block
+    leafgraph: short.lgt: refused with reply 20: bad graph block: its length or its header
     ? 1
 
 '$' is a command for sh; below it stand its output (standard output and standard
