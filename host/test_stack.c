@@ -1,7 +1,9 @@
 /* The header promises that a rewriting uses at most 96 KiB of stack, and any
  * other call at most 64 KiB. Each call is made on a stack of its own whose
- * bytes are all the same before; what differs after shows how deep it went. The blocks are the largest, with the
- * longest chains, so that every loop and every recursion is at its deepest. */
+ * bytes are all the same before; what differs after shows how deep it went. The
+ * blocks are the largest, with the longest chains, so that every loop and every
+ * recursion is at its deepest: sound ones, and graphs with a cycle, whose lowest
+ * slot has to be found. */
 
 #define _GNU_SOURCE
 #include <pthread.h>
@@ -123,7 +125,7 @@ static void *find_pair(void *reply) {
     return NULL;
 }
 
-/* The graph is copied outside the call that is measured. */
+/* The graph is copied outside the call that is measured (show, show_cycles). */
 static void *rewrite(void *reply) {
     uint8_t map[32];
     *(uint64_t *)reply = lg_rewrite(rewritten, sizeof rewritten, rule, sizeof rule, 0,
@@ -138,10 +140,39 @@ static void *rewrite_pair(void *reply) {
     return NULL;
 }
 
-/* How many bytes of a stack the call used, or 0 where its reply was not done.
- * What a thread needs of its own is part of the figure. */
-static size_t used_by(void *(*call)(void *)) {
-    uint64_t reply = 1;
+/* Graphs with a cycle: in each slot a Tuple of six times the next slot, and in the
+ * last of that chain one of the slot where the cycle begins. The slots before it
+ * hang from it. Slots are chained upwards, or downwards. */
+static const struct {
+    unsigned begins; /* in the chain */
+    int upwards;
+    uint32_t lowest; /* slot on the cycle */
+} cycles[] = {
+    {0, 1, 0},                     /* all slots are on it */
+    {SLOTS - 2, 1, SLOTS - 2},     /* all but the last two hang from it */
+    {SLOTS - 1, 1, SLOTS - 1},     /* the last one reads itself */
+    {SLOTS / 2, 1, SLOTS / 2},
+    {SLOTS - 2, 0, 0},
+    {SLOTS / 2, 0, 0}
+};
+
+static void build_cycle(size_t which) {
+    unsigned link, slot, next;
+    for (link = 0; link < SLOTS; link++) {
+        next = link + 1 == SLOTS ? cycles[which].begins : link + 1;
+        slot = link;
+        if (!cycles[which].upwards) {
+            slot = SLOTS - 1 - slot;
+            next = SLOTS - 1 - next;
+        }
+        put_slot(slot, "\4\0\6", next, next);
+    }
+}
+
+/* How many bytes of a stack the call used, or 0 where its reply was not the one
+ * expected. What a thread needs of its own is part of the figure. */
+static size_t used_by(void *(*call)(void *), uint64_t expected) {
+    uint64_t reply = ~expected;
     size_t untouched = 0;
     pthread_t thread;
     pthread_attr_t attributes;
@@ -160,14 +191,34 @@ static size_t used_by(void *(*call)(void *)) {
         untouched++;
     }
     free(stack);
-    return reply == 0 ? STACK - untouched : 0;
+    return reply == expected ? STACK - untouched : 0;
+}
+
+static int judged(const char *what, size_t used, size_t promised) {
+    printf("stack: %s %zu bytes of %zu\n", what, used, promised);
+    return used != 0 && used <= promised ? 0 : 1;
 }
 
 /* Prints what a call used; 0 if its reply was done and it kept the promise. */
 static int show(const char *what, void *(*call)(void *), size_t promised) {
-    size_t used = used_by(call);
-    printf("stack: %s %zu bytes of %zu\n", what, used, promised);
-    return used != 0 && used <= promised ? 0 : 1;
+    memcpy(rewritten, graph, sizeof graph);
+    return judged(what, used_by(call, LG_DONE), promised);
+}
+
+/* Prints the most that a call used on the graphs with a cycle; 0 if each time it gave
+ * the cycle's lowest slot and kept the promise. */
+static int show_cycles(const char *what, void *(*call)(void *), size_t promised) {
+    size_t which, used, most = 0;
+    for (which = 0; which < sizeof cycles / sizeof cycles[0]; which++) {
+        build_cycle(which);
+        memcpy(rewritten, graph, sizeof graph);
+        used = used_by(call, (uint64_t)cycles[which].lowest << 8 | LG_GRAPH_HAS_CYCLE);
+        if (used == 0) {
+            return judged(what, 0, promised);
+        }
+        most = used > most ? used : most;
+    }
+    return judged(what, most, promised);
 }
 
 int main(void) {
@@ -179,12 +230,13 @@ int main(void) {
     wrong += show("checking a rule", check_rule, PROMISED);
     wrong += show("finding a match", find_match, PROMISED);
     wrong += show("finding a match with two outputs", find_pair, PROMISED);
-    memcpy(rewritten, graph, sizeof graph);
     wrong += show("rewriting", rewrite, PROMISED_REWRITING);
-    memcpy(rewritten, graph, sizeof graph);
     wrong += show("rewriting with two outputs", rewrite_pair, PROMISED_REWRITING);
+    wrong += show_cycles("checking a graph with a cycle", check_graph, PROMISED);
+    wrong += show_cycles("finding a match in one", find_match, PROMISED);
+    wrong += show_cycles("rewriting one", rewrite, PROMISED_REWRITING);
     if (wrong != 0) {
-        puts("stack test: more than promised, or sound blocks were refused");
+        puts("stack test: more than promised, or not the reply that was expected");
     }
     return wrong == 0 ? 0 : 1;
 }
