@@ -37,6 +37,11 @@ struct Graph {
     std::vector<unsigned> outputs;
 };
 
+// Whether source vertices of this kind are rule inputs.
+constexpr bool makes_rule_input(Kind kind) {
+    return kind == Kind::wildcard || kind == Kind::variable;
+}
+
 // A vertex of a rule. A source vertex's inputs are source vertices; a target
 // vertex's are places (see below). An attribute is the number of its node.
 struct Pattern {
@@ -46,7 +51,7 @@ struct Pattern {
     std::vector<unsigned> attributes;
 
     // Whether, as a source vertex, it is a rule input: its image stays.
-    bool is_rule_input() const { return kind == Kind::wildcard || kind == Kind::variable; }
+    bool is_rule_input() const { return makes_rule_input(kind); }
 };
 
 // In the target a place below this number is a source vertex (a rule input),

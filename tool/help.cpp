@@ -36,13 +36,15 @@ The exit status is
 const char *const check = R"(usage: leafgraph check GRAPH
 
 Prints that GRAPH is a sound graph block, and how much is in it. If it is not
-sound, that is said on standard error and the exit status is 1.
+sound, the reply's number, the place and what is wrong there are said on standard
+error, and the exit status is 1. Of several faults it is the first.
 )";
 
 const char *const check_rule = R"(usage: leafgraph check-rule RULE
 
 Prints that RULE is a sound rule block, and how much is in it. If it is not sound,
-that is said on standard error and the exit status is 1.
+the reply's number, the place and what is wrong there are said on standard error,
+and the exit status is 1. Of several faults it is the first.
 )";
 
 const char *const match = R"(usage: leafgraph match GRAPH RULE [--start S]

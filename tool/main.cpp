@@ -10,6 +10,10 @@
 //   listing       a graph as text               rule_text  a rule as text
 //   dot           a graph as a drawing          graphviz   the program that draws
 //
+// What is wrong with a refused block, in words: graph_fault; rule_fault, with
+// rule_outputs_fault and rule_expression_fault; fault has what those share, fields and
+// rule_view read any bytes.
+//
 // descriptor has the system calls that input, output and graphviz share, text
 // what is printed in several places.
 #include <exception>

@@ -1,6 +1,8 @@
 #include "refusal.hpp"
 
 #include "failure.hpp"
+#include "graph_fault.hpp"
+#include "rule_fault.hpp"
 
 namespace leafgraph::tool {
 
@@ -15,6 +17,18 @@ std::string hint(const Input &input, const std::string &other_mark, const std::s
     return starts_with(input, other_mark) ? " (it begins as a " + other + " block does)" : "";
 }
 
+// "slot 12: input 2 names slot 40, which is Empty". A refusal whose reason is not found,
+// as that of a later library might be, is told with the reply alone.
+std::string fault_words(Reply reply, const Input &input, const Fault &fault) {
+    const Place place = place_in(reply, input.bytes);
+    if (fault.empty()) {
+        return std::string(reply.what()) + ", place " + std::to_string(reply.place());
+    }
+    return place.kind == PlaceKind::none
+               ? fault
+               : std::string(what(place.kind)) + " " + std::to_string(place.number) + ": " + fault;
+}
+
 } // namespace
 
 std::string refusal_line(Reply reply, const Input &graph, const Input &rule) {
@@ -22,14 +36,17 @@ std::string refusal_line(Reply reply, const Input &graph, const Input &rule) {
     if (reply.code() == Code::no_match) {
         return std::string(reply.what()) + " (" + number + ")";
     }
-    const std::string line = "refused with " + number + ": " + reply.what();
+    const std::string refused = "refused with " + number + ": ";
     if (reply.bad_graph()) {
-        return graph.name + ": " + line + hint(graph, rule_mark, "rule");
+        return graph.name + ": " + refused
+               + fault_words(reply, graph, graph_fault(reply, graph.bytes))
+               + hint(graph, rule_mark, "rule");
     }
     if (reply.bad_rule()) {
-        return rule.name + ": " + line + hint(rule, graph_mark, "graph");
+        return rule.name + ": " + refused + fault_words(reply, rule, rule_fault(reply, rule.bytes))
+               + hint(rule, graph_mark, "graph");
     }
-    return line;
+    return refused + reply.what();
 }
 
 void want_done(Reply reply, const Input &graph, const Input &rule) {

@@ -9,8 +9,8 @@
 
 namespace leafgraph::tool {
 
-// One line about a reply that isn't done. It names the file that the reply is
-// about, where it is about one of the blocks.
+// One line about a reply that isn't done. Where the reply is about one of the
+// blocks, it names that file, the place in it, and what is wrong there.
 std::string refusal_line(Reply reply, const Input &graph, const Input &rule);
 
 // Each throws the refusal, or that there is no match, unless the reply is done.

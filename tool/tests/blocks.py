@@ -170,8 +170,3 @@ BLOCKS = {
     # No block at all.
     "note.txt": b"LG\n",
 }
-
-
-def write_blocks(folder):
-    for name, block in BLOCKS.items():
-        (folder / name).write_bytes(block)

@@ -6,7 +6,7 @@ A session is a text file:
     # A comment.
     % needs dot
     $ leafgraph check short.lgt
-    leafgraph: short.lgt: refused with reply 20: bad graph block: its length or its header
+    leafgraph: short.lgt: refused with reply 20: the length is 311 bytes, 24 + 48 * 6 = 312 wanted
     ? 1
 
 '$' is a command for sh; below it stand its output (standard output and standard
@@ -14,8 +14,8 @@ error together) and, where it isn't 0, '?' with its exit status. A blank line
 before the next command or comment is no output. '% needs PROGRAM' has the session
 skipped where that program isn't installed.
 
-Each session runs in a folder of its own, with the blocks of blocks.py in it and
-the tool on the PATH. With --update the sessions are rewritten to what came out:
+Each session runs in a folder of its own, with the blocks of blocks.py and faults.py
+in it and the tool on the PATH. With --update the sessions are rewritten to what came out:
 read the difference before you keep it.
 """
 
@@ -30,6 +30,7 @@ import sys
 import tempfile
 
 import blocks
+import faults
 
 HERE = pathlib.Path(__file__).resolve().parent
 NO_NEWLINE = "(no newline at the end)"
@@ -104,7 +105,8 @@ def run_items(items, tool):
     """The same items with what their commands do now."""
     with tempfile.TemporaryDirectory(prefix="leafgraph-session-") as name:
         folder = pathlib.Path(name)
-        blocks.write_blocks(folder)
+        for block_name, block in {**blocks.BLOCKS, **faults.FAULTS}.items():
+            (folder / block_name).write_bytes(block)
         environment = dict(os.environ, LC_ALL="C",
                            PATH=f"{tool.parent}{os.pathsep}{os.environ.get('PATH', '')}")
         return [run_step(item.command, folder, environment) if isinstance(item, Step) else item
