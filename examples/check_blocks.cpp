@@ -1,5 +1,5 @@
-// Asks the library about blocks: check_blocks FILE... The exit status is 1 if one
-// of them is refused or can't be read, or if there is none.
+// Asks the library about blocks, and says what is wrong and where: check_blocks FILE...
+// The exit status is 1 if one of them is refused or can't be read, or if there is none.
 
 #include "demo/graph.hpp"
 #include "leafgraph.hpp"
@@ -16,8 +16,7 @@ bool ends_with(const std::string &text, const std::string &end) {
            && text.compare(text.size() - end.size(), end.size(), end) == 0;
 }
 
-leafgraph::Reply checked(const std::string &path) {
-    const demo::Block block = demo::read_file(path);
+leafgraph::Reply checked(const std::string &path, const demo::Block &block) {
     if (ends_with(path, ".lgt")) {
         return leafgraph::check_graph(block);
     }
@@ -33,8 +32,9 @@ int main(int count, char **arguments) {
     bool sound = count > 1;
     try {
         for (int file = 1; file < count; file++) {
-            const leafgraph::Reply reply = checked(arguments[file]);
-            std::printf("%s: reply %u, %s\n", arguments[file], reply.number(), reply.what());
+            const demo::Block block = demo::read_file(arguments[file]);
+            const leafgraph::Reply reply = checked(arguments[file], block);
+            std::printf("%s: %s\n", arguments[file], demo::in_words(reply, block).c_str());
             sound = sound && reply.done();
         }
     } catch (const std::exception &fault) {

@@ -76,7 +76,7 @@ struct Pipeline {
 Pipeline run(Block block) {
     const leafgraph::Reply reply = leafgraph::check_graph(block);
     if (!reply) {
-        throw std::runtime_error(std::string("the pipeline is refused: ") + reply.what());
+        throw std::runtime_error("the pipeline is refused: " + in_words(reply, block));
     }
     Graph graph = leafgraph::tool::read_graph(block);
     if (graph.outputs.size() != 2) {
@@ -109,7 +109,7 @@ Rule read_rule(const std::string &folder, const std::string &name) {
     Rule rule{name, read_file(folder + "/" + name + ".lgr")};
     const leafgraph::Reply reply = leafgraph::check_rule(rule.block);
     if (!reply) {
-        throw std::runtime_error(name + " is refused: " + reply.what());
+        throw std::runtime_error(name + " is refused: " + in_words(reply, rule.block));
     }
     return rule;
 }

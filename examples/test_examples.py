@@ -185,6 +185,15 @@ class Blocks(unittest.TestCase):
                     self.assertEqual(status, 1)
                     self.assertIn(f"reply {number}, bad", said)
 
+    def test_the_library_says_where(self):
+        block = bytearray((BLOCKS / "e1.lgt").read_bytes())
+        block[24 + 48 * 3 + 4] = 4  # slot 3 now reads slot 4, which reads slot 3
+        damaged = fresh_folder("cyclic") / "e1.lgt"
+        damaged.write_bytes(block)
+        said, status = run("check_blocks", damaged)
+        self.assertEqual((said, status),
+                         (f"{damaged}: reply 23, bad graph block: it has a cycle, slot 3\n", 1))
+
 
 # ---- the demo
 
@@ -202,7 +211,7 @@ CHANGES = (
      "relu_over_relu ends with: done"),
     ("shared_stage_merge.lgr", {"out t0 t0": "out t0 s0"}, "shared_stage_merge changes a result"),
     ("shared_stage_merge.lgr", {"out t0 t0": "out t0 t1"},
-     "shared_stage_merge is refused: bad rule block"),
+     "shared_stage_merge is refused: reply 33, bad rule block"),
     ("identity_removal.lgr", {"0 1": "0 2"}, "identity_removal does not apply 1 time"),
     ("mul_by_one.lgr", {"nodes\n0 1": "nodes\n0 2"}, "mul_by_one does not apply 3 times"),
     ("leaf_pipeline.lgt", {"22 const [] {1}": "22 const [] {2}"},
@@ -226,7 +235,7 @@ CHANGES = (
     ("leaf_pipeline.lgt", {"7 call conv2d [0 1] {1 1": "7 call conv2d [0 1] {2 1"},
      "the demo gives no meaning to a conv2d whose stride"),
     ("leaf_pipeline.lgt", {"9 call relu [8]": "9 call relu [10]"},
-     "the pipeline is refused: bad graph block"),
+     "the pipeline is refused: reply 23, bad graph block: it has a cycle, slot 9"),
 )
 
 

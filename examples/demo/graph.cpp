@@ -50,6 +50,14 @@ Block read_file(const std::string &path) {
     return Block(std::istreambuf_iterator<char>(file), {});
 }
 
+std::string in_words(leafgraph::Reply reply, const Block &block) {
+    const std::string said = "reply " + std::to_string(reply.number()) + ", " + reply.what();
+    const leafgraph::Place place = leafgraph::place_in(reply, block);
+    return place.kind == leafgraph::PlaceKind::none
+               ? said
+               : said + ", " + leafgraph::what(place.kind) + " " + std::to_string(place.number);
+}
+
 void put_input(Block &block, std::size_t slot, std::size_t place, std::size_t named) {
     // A header of 24 bytes, records of 48, inputs from byte 4 of a record on.
     const std::size_t at = 24 + 48 * slot + 4 + 2 * place;

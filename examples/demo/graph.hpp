@@ -32,6 +32,9 @@ enum class Operator : unsigned {
 // The bytes of a file. Throws std::runtime_error where it can't be read.
 Block read_file(const std::string &path);
 
+// What a check says about this block: `reply 23, bad graph block: it has a cycle, slot 9`.
+std::string in_words(leafgraph::Reply reply, const Block &block);
+
 // Writes into a sound block that input place `place` of this slot names `named`.
 void put_input(Block &block, std::size_t slot, std::size_t place, std::size_t named);
 
