@@ -4,8 +4,8 @@
     readme_example.py OUT.cpp
 
 The program takes a graph and a rule file; it fails if the example does not
-rewrite the one by the other until no match is left, or is content with a bad graph
-or with a rule that always matches again. What the example says of those is
+rewrite the one by the other until no match is left, or is content with a bad graph,
+with a cycle in it or with a rule that always matches again. What the example says of those is
 compared with readme_example.stdout (make/docs.mk).
 """
 
@@ -35,8 +35,9 @@ int main(int count, char **names) {
     std::vector<unsigned char> graph = bytes_of(names[1]);
     const std::vector<unsigned char> before = graph, rule = bytes_of(names[2]);
     if (!shorten(graph, rule) || graph == before || !leafgraph::check_graph(graph)) return 1;
-    std::vector<unsigned char> bad = {1, 2, 3};
-    if (shorten(bad, rule)) return 1;
+    std::vector<unsigned char> bad = {1, 2, 3}, cyclic = before;
+    cyclic[24 + 48 * 3 + 4] = 4; // slot 3 now reads slot 4, which reads slot 3
+    if (shorten(bad, rule) || shorten(cyclic, rule)) return 1;
     if (shorten(graph, endless_rule()) || !leafgraph::check_graph(graph)) return 1;
     std::printf("the example of README.md: as expected\\n");
     return 0;
