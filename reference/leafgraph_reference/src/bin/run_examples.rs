@@ -7,6 +7,7 @@ use leafgraph_reference::blocks::{
     p7_graph, p7_rule, p8_graph, pattern, relu, reversed_chain, rr, target_place, variable,
     GraphParts, RuleParts,
 };
+use leafgraph_reference::reply::{number_of, place_of};
 use leafgraph_reference::{check_graph, check_rule, find_match, rewrite};
 
 fn main() {
@@ -31,7 +32,7 @@ fn checks() {
         ("empty", vec![]),
     ];
     for (name, block) in graphs {
-        println!("graph {name}: {}", check_graph(&block) & 255);
+        println!("graph {name}: {}", words(check_graph(&block)));
     }
     let rules: [(&str, Vec<u8>); 4] = [
         ("RR", rr().block()),
@@ -40,7 +41,15 @@ fn checks() {
         ("empty", vec![]),
     ];
     for (name, block) in rules {
-        println!("rule {name}: {}", check_rule(&block) & 255);
+        println!("rule {name}: {}", words(check_rule(&block)));
+    }
+}
+
+/// A reply's number, and its place where that is not 0.
+fn words(reply: u64) -> String {
+    match place_of(reply) {
+        0 => number_of(reply).to_string(),
+        place => format!("{} at {place}", number_of(reply)),
     }
 }
 
@@ -50,7 +59,7 @@ fn matches() {
     for start in [0, 4, 5, 65535, 65536, usize::MAX] {
         let mut map = [170; 32];
         let reply = find_match(&e1().block(), &rr().block(), start, &mut map);
-        println!("match RR on E1 from {start}: {}", reply & 255);
+        println!("match RR on E1 from {start}: {}", words(reply));
         println!("map: {}", numbers(&map));
     }
 }
@@ -110,7 +119,7 @@ fn rewritings() {
 fn rewriting(name: &str, graph: &mut [u8], rule: &[u8]) {
     let mut map = [170; 32];
     let reply = rewrite(graph, rule, 0, &mut map);
-    println!("rewrite {name}: {}", reply & 255);
+    println!("rewrite {name}: {}", words(reply));
     println!("map: {}", numbers(&map));
     println!("outputs: {}", numbers(&graph[10..18]));
     for (slot, record) in graph[24..].chunks(48).enumerate() {
