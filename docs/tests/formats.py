@@ -3,9 +3,9 @@
 
     formats.py TOOL
 
-Each block of the page must be sound and be shown as the page shows it, and its
-rewritings must have the page's maps and leave the page's bytes. Exit status 1 if
-one does not.
+Each block of the page that has a text must be sound and be shown as that text, its
+rewritings must have the page's maps and leave the page's bytes, and what the page
+says of refused blocks must be what the tool says. Exit status 1 if one does not.
 """
 
 import re
@@ -39,6 +39,38 @@ REWRITINGS = (
     ("shared-graph", "one-rule", "shared-map", "read-once-graph"),
     ("read-once-graph", "one-rule", None, "unread-graph"),
 )
+
+
+# The refused blocks: the command, and the name that the page gives the file.
+REFUSED = (
+    ("cyclic-graph", "check", "cyclic.lgt"),
+    ("removed-rule", "check-rule", "removed.lgr"),
+)
+
+SESSIONS = Path(__file__).resolve().parents[2] / "tool" / "tests" / "sessions"
+
+
+def refusals_hold(tool, folder, page):
+    """Each refused block is refused in the page's words."""
+    for name, command, shown in REFUSED:
+        block = folder / f"{name}.bin"
+        done = subprocess.run([tool, command, str(block)], capture_output=True, check=False)
+        said = done.stderr.decode().replace(str(block), shown)
+        if done.returncode != 1 or f"\n    {said}" not in page:
+            raise Fault(f"what {command} says of {name} is not what the page shows: {said.strip()}")
+    return len(REFUSED)
+
+
+def quotes_hold(page):
+    """Each quote of the tool by the number of a reply is a line of a session."""
+    sessions = "".join(path.read_text(encoding="utf-8") for path in SESSIONS.glob("*.session"))
+    quotes = re.findall(r"^\| (\d\d) \| `(.*)` \|$", page, re.MULTILINE)
+    for number, words in quotes:
+        if f"refused with reply {number}: {words}\n" not in sessions:
+            raise Fault(f"no session of the tool says with reply {number}: {words}")
+    if not quotes:
+        raise Fault("the page quotes nothing that the tool says")
+    return len(quotes)
 
 
 def blocks_hold(tool, folder, files):
@@ -78,13 +110,15 @@ def main(arguments):
         print("usage: formats.py TOOL", file=sys.stderr)
         return 2
     try:
-        files = files_of(PAGE.read_text(encoding="utf-8"))
+        page = PAGE.read_text(encoding="utf-8")
+        files = files_of(page)
         with tempfile.TemporaryDirectory() as name:
             folder = Path(name)
             for file, content in files.items():
                 (folder / file).write_bytes(content)
             tool = str(Path(arguments[0]).resolve())
-            count = blocks_hold(tool, folder, files) + rewritings_hold(tool, folder, files)
+            count = (blocks_hold(tool, folder, files) + rewritings_hold(tool, folder, files)
+                     + refusals_hold(tool, folder, page) + quotes_hold(page))
     except (Fault, KeyError, ValueError, IndexError) as fault:
         print(f"{PAGE.name}: {fault}", file=sys.stderr)
         return 1

@@ -2,8 +2,8 @@
 with several. A name begins with the number of the reply that its block gets.
 """
 
-from blocks import (ADD, ANY, CONST, E1, E1_BLOCK, GAIN, PROJ, RELU, TUPLE, TWO_RELUS, VARIABLE,
-                    WILDCARD, ZERO, call, const, graph, rule, vertex)
+from blocks import (ADD, ANY, CONST, E1, E1_BLOCK, EMPTY, GAIN, IMAGE, PROJ, RELU, TUPLE, TWO_RELUS,
+                    VARIABLE, WILDCARD, ZERO, call, const, graph, rule, vertex)
 
 
 def damaged(block, changes):
@@ -66,6 +66,8 @@ GRAPH_NAMES = {
     "22-empty.lgt": e1_reading({3: call(ADD, [2, 5])}),
     "22-past.lgt": e1_reading({3: call(RELU, [6])}),
     "22-unused.lgt": e1_reading({3: call(RELU, [65535])}),
+    "22-third-input.lgt": graph([IMAGE] * 12 + [vertex(TUPLE, 0, [0, 1, 40])] + [IMAGE] * 27 + [EMPTY],
+                                [12]),
     "22-output-empty.lgt": graph(E1, [4, 3, 5]),
     "22-output-past.lgt": graph(E1, [4, 600]),
 }
