@@ -8,20 +8,19 @@ use native.Mathlib.Nat.{not-suc-le-zero}
 use native.Mathlib.Omega.{arith}
 use borrow.Author.Tests.{ltb-true, ltb-false}
 use lib.Dec.{ltb}
+use Rattle.definitions.specs.Lists.{total}
 use Rattle.laws.proofs.Lists.{decided, bit}
+use Rattle.laws.proofs.Sums.{total-most}
 
-unfoldable pub tally : (ℕ → Bool) → ℕ → ℕ
-tally p zero = 0
-tally p (suc n) = tally p n + cond (p n) 1 0
+abbrev pub tally : (ℕ → Bool) → ℕ → ℕ
+tally p n = total (λ k. cond (p k) 1 0) n
 
 pub tally-most : (p : ℕ → Bool) (n : ℕ) → tally p n ≤ n
-unfolding tally
-tally-most p zero = omega arith
-tally-most p (suc n) = omega (arith, tally-most p n, bit (p n))
+tally-most p n = omega (arith, total-most (λ k. cond (p k) 1 0) n 1 (λ k l. bit (p k)))
 
 -- where it holds of all of them
 pub tally-full : (p : ℕ → Bool) (n k : ℕ) → n ≤ tally p n → k < n → p k ≡ true
-unfolding tally
+unfolding total
 tally-full p zero k h l = absurd (not-suc-le-zero l)
 tally-full p (suc n) k h l = ⊎-elim
     (λ (t : p n ≡ true).
@@ -39,13 +38,13 @@ module _ (p q : ℕ → Bool) (wider : (k : ℕ) → p k ≡ true → q k ≡ tr
   bit-wider k = ⊎-elim (λ (t : p k ≡ true). rw (t, wider k t) (omega arith)) (λ (t : p k ≡ false). rw t (omega arith)) (decided (p k))
 
   pub tally-wider : (n : ℕ) → tally p n ≤ tally q n
-  unfolding tally
+  unfolding total
   tally-wider zero = omega arith
   tally-wider (suc n) = omega (arith, tally-wider n, bit-wider n)
 
   -- a test that holds of one more
   pub tally-more : (n k : ℕ) → k < n → p k ≡ false → q k ≡ true → tally p n < tally q n
-  unfolding tally
+  unfolding total
   tally-more zero k l f t = absurd (not-suc-le-zero l)
   tally-more (suc n) k l f t =
       ⊎-elim (λ (s : ltb k n ≡ true). omega (arith, tally-more n k (ltb-true k n s) f t, bit-wider n))

@@ -40,7 +40,7 @@ module _ (marks : List Bool) (v : ℕ) (inside : v < length marks) where
 -- ---- the queue
 
 -- vertex w waits: it is in the queue from `head` on
-abbrev Waits : List ℕ → ℕ → ℕ → ℕ → Type 0
+abbrev pub Waits : List ℕ → ℕ → ℕ → ℕ → Type 0
 Waits queue head tail w = (i : ℕ) × (head ≤ i) × (i < tail) × (getD queue i 0 ≡ w)
 
 pub record Work (inputs : ℕ → List ℕ) (n root : ℕ) (before marks : List Bool) (queue : List ℕ) (head tail : ℕ) : Type 0 where
@@ -49,7 +49,7 @@ pub record Work (inputs : ℕ → List ℕ) (n root : ℕ) (before marks : List 
   pub paths : (v : ℕ) → isMarked marks v ≡ true → (isMarked before v ≡ true) ⊎ Reaches inputs v root
   pub listed : (i : ℕ) → i < tail → Reaches inputs (getD queue i 0) root × (getD queue i 0 < n)
   pub closed : (w v : ℕ) → isMarked marks w ≡ true → Reads inputs w v
-      → (isMarked marks v ≡ true) ⊎ ((i : ℕ) × (head ≤ i) × (i < tail) × (getD queue i 0 ≡ w))
+      → (isMarked marks v ≡ true) ⊎ Waits queue head tail w
   pub most : tail ≤ tally (isMarked marks) n
   pub ordered : head ≤ tail
 
