@@ -4,8 +4,8 @@
  * What holds for every function here:
  *
  * - Any bytes of any length are answered. A bad block is refused with the kind
- *   of its fault and the place of it; the caller need not have checked anything
- *   before.
+ *   of its fault and, for the kinds that have one, its place; the caller need not
+ *   have checked anything before.
  * - Each pointer must be valid for the length given with it. A length of 0
  *   still wants a pointer that is not null. No alignment is needed.
  * - Buffers given to one call must not overlap.
