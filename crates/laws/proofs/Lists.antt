@@ -12,7 +12,7 @@ use native.Mathlib.Omega.{arith}
 use borrow.Author.Tests.{le-ltb, ltb-true, ltb-false}
 use lib.Dec.{ltb}
 use lib.ListN.{length, getD}
-use Rattle.definitions.specs.Lists.{allBelow, anyBelow, lowest, tabulate, all}
+use Rattle.definitions.specs.Lists.{allBelow, anyBelow, lowest, tabulate, all, any}
 
 -- a Bool is true or false
 pub decided : (b : Bool) → (b ≡ true) ⊎ (b ≡ false)
@@ -211,6 +211,13 @@ module _ {ℓ} {A : Type ℓ} (p : A → Bool) where
   unfolding all
   all-members [] h = refl
   all-members (x ∷ xs) h = simp (h x (List·Memᴰ·head refl), all-members xs (λ y m. h y (List·Memᴰ·tail m)))
+
+-- ---- any, by member
+
+pub any-member : {A : Type 0} (p : A → Bool) {x : A} {xs : List A} → List·Memᴰ x xs → p x ≡ true → any p xs ≡ true
+unfolding any
+any-member p (List·Memᴰ·head {x = y} {xs = ys} e) t = let here : p y ≡ true = sym (ap p e) ∙ t in simp here
+any-member p (List·Memᴰ·tail {x = y} {xs = ys} m) t = simp (any-member p m t, or-true)
 
 -- an index of which the test holds
 pub anyBelow-some : (p : ℕ → Bool) (n : ℕ) → anyBelow p n ≡ true → (k : ℕ) × (k < n) × (p k ≡ true)

@@ -124,17 +124,18 @@ module _ (r : Rule) (next : ℕ) where
         let first = first-visited r (o .depth) next u us (o .later) (length (r .source)) (o .order) in
         record { depth = o .depth; deep = first-deep; later = first .0; order = first .1 }
 
+    -- a visit of the first one leaves all up to it visited
+    pub in-order-visits : visit r (o .depth) (range 0 next) u ≡ range 0 (max next (suc u))
+    in-order-visits = rest-visited r (o .depth) next u us (o .later) (length (r .source)) (o .deep u (List·Memᴰ·head refl)) (o .order)
+
     pub in-order-rest : InOrder r (max next (suc u)) us
     unfolding foldl
-    in-order-rest =
-        let first = rest-visited r (o .depth) next u us (o .later) (length (r .source)) (o .deep u (List·Memᴰ·head refl))
-        (o .order) in
-        record {
-          depth = o .depth;
-          deep = λ w m. o .deep w (List·Memᴰ·tail m);
-          later = o .later;
-          order = rw first at (o .order);
-        }
+    in-order-rest = record {
+      depth = o .depth;
+      deep = λ w m. o .deep w (List·Memᴰ·tail m);
+      later = o .later;
+      order = rw in-order-visits at (o .order);
+    }
 
   module _ (j : ℕ) (lower : (u : ℕ) → List·Memᴰ u (sourceInputs r j) → u < j) where
     -- a depth above j is one more than another, at which the inputs are visited

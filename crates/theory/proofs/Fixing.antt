@@ -130,7 +130,7 @@ images-fixed g r fixing images m =
 
 -- ---- a sound rule
 
-abbrev Every : (ℕ → Type 0) → List ℕ → Type 0
+abbrev pub Every : (ℕ → Type 0) → List ℕ → Type 0
 Every P xs = (x : ℕ) → List·Memᴰ x xs → P x
 
 -- what holds of the vertices visited so far and of each next one holds of all that are visited
@@ -141,7 +141,8 @@ fold-every P f step [] done us before = before
 fold-every P f step (u ∷ us) done next before =
     fold-every P f step us (f done u) (λ x m. next x (List·Memᴰ·tail m)) (step done u (next u (List·Memᴰ·head refl)) before)
 
-visit-every : (r : Rule) (P : ℕ → Type 0) → ((w u : ℕ) → Reads (sourceInputs r) w u → P u) → (d : ℕ) (done : List ℕ) (v : ℕ)
+-- and of all that one visit adds
+pub visit-every : (r : Rule) (P : ℕ → Type 0) → ((w u : ℕ) → Reads (sourceInputs r) w u → P u) → (d : ℕ) (done : List ℕ) (v : ℕ)
     → P v → Every P done → Every P (visit r d done v)
 unfolding visit
 visit-every r P inputs zero done v here before = before
