@@ -23,7 +23,8 @@ use Rattle.laws.proofs.Members.{holds, true-holds}
 use Rattle.laws.proofs.Rule.{wild-input}
 use Rattle.attributes.specs.Agreement.{agreeFirst}
 use Rattle.attributes.proofs.Laws.{agree-pairs, agree-first-below}
-use Rattle.match_look.specs.Candidate.{slotHead, patternHead, isCandidate}
+use Rattle.match_look.specs.Head.{slotHead, patternHead}
+use Rattle.match_look.specs.Candidate.{isCandidate}
 use Rattle.match_images.specs.Partial.{Partial, Extends, Sends, SendsInputs, Step}
 use Rattle.match_look.proofs.Candidates.{Formed, candidate-same, candidate-vertex, candidate-uses}
 

@@ -1,7 +1,7 @@
--- What the look at a candidate says of it, and why the image of a source vertex under a match always passes the look.
+-- What is known of a candidate, and why the image of a source vertex under a match always is one.
 -- Assumes nothing.
 use mathlib.Core.Path.{_≡_, refl, sym, ap, _∙_}
-use mathlib.Core.Bool.{Bool, true, false, not, _&&_, and-false, or-true}
+use mathlib.Core.Bool.{Bool, true, false, and-false, or-true}
 use mathlib.Core.List.{List, []}
 use mathlib.Core.Logic.{⊎-elim}
 use Prim.Native.Nat.{ℕ, suc, _-_, _<_, _≤_}
@@ -9,66 +9,23 @@ use native.Mathlib.Omega.{arith}
 use borrow.Author.Tests.{eqb-true, eqb-false, eq-eqb, ne-eqb}
 use lib.Dec.{eqb}
 use lib.ListN.{length, getD}
+use Rattle.definitions.specs.Lists.{member}
 use Rattle.definitions.specs.Operators.{kindEmpty}
 use Rattle.definitions.specs.Paths.{Reads}
 use Rattle.definitions.specs.Graph.{Graph, slotOf, inputsOf, isVertex, usesOf}
 use Rattle.definitions.specs.Rule.{Rule, anything, sourceOf, ruleOf, sourceCount, sourceInputs, isRuleInput, accessesBelow}
-use Rattle.definitions.specs.Match.{imageOf, mustBePrivate, Match, placesOf}
+use Rattle.definitions.specs.Match.{imageOf, isInterior, mustBePrivate, Match, placesOf}
 use Rattle.laws.proofs.Lists.{decided, and-left, and-right, needed}
-use Rattle.laws.proofs.Members.{holds, true-holds, mem-place}
+use Rattle.laws.proofs.Members.{true-holds, mem-place}
 use Rattle.laws.proofs.Match.{image-inside, match-inputs}
 use Rattle.laws.proofs.Rule.{source-reader, length-source, wild-input}
 use Rattle.rule_uses.specs.Demands.{demandOf}
 use Rattle.theory.proofs.Inside.{private-uses}
-use Rattle.match_look.specs.declared.Head.{Head}
-use Rattle.match_look.specs.Candidate.{slotHead, patternHead, headFits, usesFit, passesLook, isCandidate}
+use Rattle.match_look.specs.Head.{Head, slotHead, patternHead, SameHead}
+use Rattle.match_look.specs.Candidate.{passesLook, usesFit, suits, isCandidate}
+use Rattle.match_look.specs.Look.{look}
 use Rattle.match_look.specs.Setting.{Matchable}
-
--- ---- the four numbers
-
-pub record SameHead (p s : Head) : Type 0 where
-  pub kind : s .kind ≡ p .kind
-  pub operator : s .operator ≡ p .operator
-  pub inputs : s .inputs ≡ p .inputs
-  pub attributes : s .attributes ≡ p .attributes
-
-module _ (p s : Head) where
-  wild-fits : p .kind ≡ kindEmpty → headFits p s ≡ not (eqb (s .kind) kindEmpty)
-  unfolding headFits
-  wild-fits e = rw (eq-eqb (p .kind) kindEmpty e)
-
-  same-fits : (p .kind ≡ kindEmpty → ⊥) → SameHead p s → headFits p s ≡ true
-  unfolding headFits
-  same-fits h e = simp (
-    ne-eqb (p .kind) kindEmpty h,
-    eq-eqb (s .kind) (p .kind) (e .kind),
-    eq-eqb (s .operator) (p .operator) (e .operator),
-    eq-eqb (s .inputs) (p .inputs) (e .inputs),
-    eq-eqb (s .attributes) (p .attributes) (e .attributes),
-  )
-
-  -- where the first three agree, the last decides
-  pub last-fits : (p .kind ≡ kindEmpty → ⊥) → s .kind ≡ p .kind → s .operator ≡ p .operator → s .inputs ≡ p .inputs
-      → eqb (s .attributes) (p .attributes) ≡ headFits p s
-  unfolding headFits
-  last-fits h k o i = simp (
-    ne-eqb (p .kind) kindEmpty h,
-    eq-eqb (s .kind) (p .kind) k,
-    eq-eqb (s .operator) (p .operator) o,
-    eq-eqb (s .inputs) (p .inputs) i,
-  )
-
-  fits-same : (p .kind ≡ kindEmpty → ⊥) → headFits p s ≡ true → SameHead p s
-  unfolding headFits
-  fits-same h f =
-      let all : (eqb (s .kind) (p .kind) && eqb (s .operator) (p .operator) && eqb (s .inputs) (p .inputs)
-      && eqb (s .attributes) (p .attributes)) ≡ true = rw (ne-eqb (p .kind) kindEmpty h) at f in
-      record {
-        kind = eqb-true (s .kind) (p .kind) (needed (eqb (s .kind) (p .kind)) all (λ z. simp z));
-        operator = eqb-true (s .operator) (p .operator) (needed (eqb (s .operator) (p .operator)) all (λ z. simp (z, and-false)));
-        inputs = eqb-true (s .inputs) (p .inputs) (needed (eqb (s .inputs) (p .inputs)) all (λ z. simp (z, and-false)));
-        attributes = eqb-true (s .attributes) (p .attributes) (needed (eqb (s .attributes) (p .attributes)) all (λ z. simp (z, and-false)));
-      }
+use Rattle.match_look.proofs.Look.{wild-fits, fits-same, match-passes}
 
 -- ---- the demand
 
@@ -99,25 +56,28 @@ demand-left demand uses h = ⊎-elim
     simp (t, ne-eqb demand 0 h, ne-eqb demand (suc uses) (λ e. n (omega arith))))
     (decided (eqb (demand - 1) uses))
 
--- ---- the look, from the numbers that the code reads
+-- ---- the look, and then the uses
 
-module _ (g : Graph) (v : ℕ) (p s : Head) (demand : ℕ) (fit : Bool) (es : s ≡ slotHead (slotOf g v)) (ef : fit ≡ headFits p s) where
-  looked : headFits p (slotHead (slotOf g v)) ≡ fit
-  looked = rw (ef, es)
+module _ (g : Graph) (v : ℕ) (p : Head) (demand : ℕ) (passed : Bool) (looked : passed ≡ passesLook p g v) where
+  pub look-fails : passed ≡ false → false ≡ suits p demand g v
+  unfolding suits
+  look-fails f = simp (sym looked, f)
 
-  pub look-fails : fit ≡ false → false ≡ passesLook p demand g v
-  unfolding passesLook
-  look-fails f = simp (looked, f)
+  pub look-passes : passed ≡ true → (b : Bool) (uses : ℕ) → b ≡ usesFit demand uses → uses ≡ usesOf g v → b ≡ suits p demand g v
+  unfolding suits
+  look-passes t b uses e u = rw (← looked, t, ← u) e
 
-  pub look-passes : fit ≡ true → (b : Bool) (uses : ℕ) → b ≡ usesFit demand uses → uses ≡ usesOf g v → b ≡ passesLook p demand g v
-  unfolding passesLook
-  look-passes t b uses e u = rw (looked, t, ← u) e
-
--- the look for source vertex j, by its head and its demand
-pub candidate-look : (g : Graph) (r : Rule) (j v : ℕ) (head : Head) (demand : ℕ) → head ≡ patternHead (sourceOf r j)
-    → demand ≡ demandOf r j → passesLook head demand g v ≡ isCandidate g r j v
+-- a candidate for source vertex j, by its head and its demand
+pub candidate-suits : (g : Graph) (r : Rule) (j v : ℕ) (head : Head) (demand : ℕ) → head ≡ patternHead (sourceOf r j)
+    → demand ≡ demandOf r j → suits head demand g v ≡ isCandidate g r j v
 unfolding isCandidate
-candidate-look g r j v head demand h d = rw (h, d)
+candidate-suits g r j v head demand h d = rw (h, d)
+
+-- an output may be used from anywhere, so that the look alone makes a candidate for it
+pub output-candidate : (g : Graph) (r : Rule) (o v : ℕ) → member o (r .sourceOutputs) ≡ true
+    → passesLook (patternHead (sourceOf r o)) g v ≡ true → isCandidate g r o v ≡ true
+unfolding isCandidate suits demandOf mustBePrivate isInterior
+output-candidate g r o v m t = simp (t, m, and-false, no-demand (usesOf g v))
 
 -- ---- a rule that can be matched
 
@@ -143,26 +103,26 @@ module _ (block : List ℕ) (m : Matchable block) where
     below = λ j i l. m .below j i (rw (length-source block) at l);
   }
 
--- ---- what the look says
+-- ---- what a candidate is
 
 module _ (g : Graph) (r : Rule) (j v : ℕ) (fits : isCandidate g r j v ≡ true) where
-  head : headFits (patternHead (sourceOf r j)) (slotHead (slotOf g v)) ≡ true
-  unfolding isCandidate passesLook
-  head = and-left (headFits (patternHead (sourceOf r j)) (slotHead (slotOf g v))) (usesFit (demandOf r j) (usesOf g v)) fits
+  pub candidate-looked : look (sourceOf r j) (slotOf g v) ≡ true
+  unfolding isCandidate suits passesLook
+  candidate-looked = and-left (look (sourceOf r j) (slotOf g v)) (usesFit (demandOf r j) (usesOf g v)) fits
 
   uses : usesFit (demandOf r j) (usesOf g v) ≡ true
-  unfolding isCandidate passesLook
-  uses = and-right (headFits (patternHead (sourceOf r j)) (slotHead (slotOf g v))) (usesFit (demandOf r j) (usesOf g v)) fits
+  unfolding isCandidate suits passesLook
+  uses = and-right (look (sourceOf r j) (slotOf g v)) (usesFit (demandOf r j) (usesOf g v)) fits
 
   pub candidate-same : (sourceOf r j .kind ≡ kindEmpty → ⊥) → SameHead (patternHead (sourceOf r j)) (slotHead (slotOf g v))
   unfolding patternHead
-  candidate-same h = fits-same (patternHead (sourceOf r j)) (slotHead (slotOf g v)) h head
+  candidate-same h = fits-same (patternHead (sourceOf r j)) (slotHead (slotOf g v)) h candidate-looked
 
   pub candidate-vertex : isVertex g v ≡ true
   unfolding isVertex slotHead patternHead
   candidate-vertex = ⊎-elim
       (λ (t : eqb (sourceOf r j .kind) kindEmpty ≡ true).
-      sym (wild-fits (patternHead (sourceOf r j)) (slotHead (slotOf g v)) (eqb-true (sourceOf r j .kind) kindEmpty t)) ∙ head)
+      sym (wild-fits (patternHead (sourceOf r j)) (slotHead (slotOf g v)) (eqb-true (sourceOf r j .kind) kindEmpty t)) ∙ candidate-looked)
       (λ (t : eqb (sourceOf r j .kind) kindEmpty ≡ false).
       let h = eqb-false (sourceOf r j .kind) kindEmpty t in
       let same = candidate-same h in
@@ -193,26 +153,13 @@ module _ (g : Graph) (r : Rule) (f : Formed r) (j v : ℕ) (l : j < length (r .s
       omega (arith, candidate-same g r j v fits (eqb-false (sourceOf r j .kind) kindEmpty t) .attributes))
       (decided (eqb (sourceOf r j .kind) kindEmpty))
 
--- ---- an image under a match passes the look
+-- ---- an image under a match is a candidate
 
 module _ (g : Graph) (r : Rule) (f : Formed r) (whole : List ℕ) (m : Match g r whole) where
   input-inside : (j u : ℕ) → Reads (sourceInputs r) j u → u < length (r .source)
   input-inside j u reads = omega (arith, f .lower j u reads, source-reader r j u reads)
 
   module _ (j : ℕ) (l : j < length (r .source)) where
-    match-head : headFits (patternHead (sourceOf r j)) (slotHead (slotOf g (imageOf whole j))) ≡ true
-    unfolding isVertex slotHead patternHead
-    match-head = ⊎-elim
-        (λ (t : eqb (sourceOf r j .kind) kindEmpty ≡ true).
-        wild-fits (patternHead (sourceOf r j)) (slotHead (slotOf g (imageOf whole j))) (eqb-true (sourceOf r j .kind) kindEmpty t)
-        ∙ holds (isVertex g (imageOf whole j)) (m .vertices j l))
-        (λ (t : eqb (sourceOf r j .kind) kindEmpty ≡ false).
-        let h = eqb-false (sourceOf r j .kind) kindEmpty t in
-        let k = m .takes j l h in
-        same-fits (patternHead (sourceOf r j)) (slotHead (slotOf g (imageOf whole j))) h
-        record { kind = k .kind; operator = k .operator; inputs = k .inputCount; attributes = k .attributeCount })
-        (decided (eqb (sourceOf r j .kind) kindEmpty))
-
     match-uses : usesFit (demandOf r j) (usesOf g (imageOf whole j)) ≡ true
     unfolding demandOf
     match-uses = ⊎-elim
@@ -224,5 +171,5 @@ module _ (g : Graph) (r : Rule) (f : Formed r) (whole : List ℕ) (m : Match g r
         (decided (mustBePrivate r j))
 
     pub match-candidate : (v : ℕ) → imageOf whole j ≡ v → isCandidate g r j v ≡ true
-    unfolding isCandidate passesLook
-    match-candidate v e = rw (← e) (simp (match-head, match-uses))
+    unfolding isCandidate suits passesLook
+    match-candidate v e = rw (← e) (simp (match-passes g r whole m j l, match-uses))

@@ -3,20 +3,13 @@
 use mathlib.Core.Bool.{Bool, cond, not, _&&_, _||_}
 use Prim.Native.Nat.{ℕ, suc}
 use lib.Dec.{eqb}
-use lib.ListN.{length}
 use Rattle.definitions.specs.Operators.{kindEmpty}
-use Rattle.definitions.specs.Graph.{Slot, Graph, slotOf, usesOf}
-use Rattle.definitions.specs.Rule.{Pattern, Rule, sourceOf}
+use Rattle.definitions.specs.Graph.{Graph, slotOf, usesOf}
+use Rattle.definitions.specs.Rule.{Rule, sourceOf}
 use Rattle.rule_uses.specs.Demands.{demandOf}
-use Rattle.match_look.specs.declared.Head.{Head}
+use Rattle.match_look.specs.Head.{Head, slotHead, patternHead}
 
-unfoldable pub slotHead : Slot → Head
-slotHead s = record { kind = s .kind; operator = s .operator; inputs = length (s .inputs); attributes = length (s .attributes) }
-
-unfoldable pub patternHead : Pattern ℕ → Head
-patternHead p = record { kind = p .kind; operator = p .operator; inputs = length (p .inputs); attributes = length (p .attributes) }
-
--- A wildcard takes any slot that is not Empty; another pattern one of its kind, operator and counts.
+-- The look. A wildcard takes any slot that is not Empty; another pattern one of its kind, operator and counts.
 unfoldable pub headFits : Head → Head → Bool
 headFits pattern slot =
     cond (eqb (pattern .kind) kindEmpty) (not (eqb (slot .kind) kindEmpty))
@@ -25,14 +18,18 @@ headFits pattern slot =
     && eqb (slot .inputs) (pattern .inputs)
     && eqb (slot .attributes) (pattern .attributes))
 
+-- slot v passes the look for a vertex with that head
+unfoldable pub passesLook : Head → Graph → ℕ → Bool
+passesLook head g v = headFits head (slotHead (slotOf g v))
+
 -- a demand of 0 is none; another is one more than the uses that it allows
 unfoldable pub usesFit : ℕ → ℕ → Bool
 usesFit demand uses = eqb demand 0 || eqb demand (suc uses)
 
--- slot v passes the look for a vertex with that head and that demand
-unfoldable pub passesLook : Head → ℕ → Graph → ℕ → Bool
-passesLook head demand g v = headFits head (slotHead (slotOf g v)) && usesFit demand (usesOf g v)
+-- slot v passes the look for a vertex with that head, and is named as often as that demand allows
+unfoldable pub suits : Head → ℕ → Graph → ℕ → Bool
+suits head demand g v = passesLook head g v && usesFit demand (usesOf g v)
 
--- slot v passes the look for source vertex j
+-- slot v is a candidate for source vertex j
 unfoldable pub isCandidate : Graph → Rule → ℕ → ℕ → Bool
-isCandidate g r j v = passesLook (patternHead (sourceOf r j)) (demandOf r j) g v
+isCandidate g r j v = suits (patternHead (sourceOf r j)) (demandOf r j) g v

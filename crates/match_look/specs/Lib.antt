@@ -1,2 +1,4 @@
 pub mod Candidate
+pub mod Head
+pub mod Look
 pub mod Setting

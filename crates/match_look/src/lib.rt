@@ -16,62 +16,74 @@ ghost use Rattle.definitions.specs.Graph.{slotCount, graphOf, slotOf};
 ghost use Rattle.definitions.specs.Rule.{sourceCount, ruleOf, sourceOf};
 ghost use Rattle.graph_fields.specs.Layout.{ReadableGraph};
 ghost use Rattle.rule_fields.specs.Layout.{ReadableRule};
-ghost use Rattle.match_look.specs.Candidate.{slotHead, patternHead, headFits, usesFit, passesLook};
+ghost use Rattle.match_look.specs.Head.{head, headIn, slotHead, patternHead};
+ghost use Rattle.match_look.specs.Candidate.{passesLook, usesFit, suits};
+ghost use Rattle.match_look.specs.Look.{Looked};
 ghost use Rattle.match_look.specs.Setting.{LookReady};
 
-// What a record says of itself in four numbers. A look at these is cheap, and turns away most candidates.
-pub struct Head {
-    pub kind: usize,
-    pub operator: usize,
-    pub inputs: usize,
-    pub attributes: usize,
+// Four numbers of a record as one word, the kind in its lowest byte. So a head is compared in one step, and the compiler reads it in one,
+// too: the four are neighbouring bytes of a record.
+fn packed(kind: usize, operator: usize, inputs: usize, attributes: usize) -> u32
+    requires { ⌜ kind < 256 ⌝ }
+    requires { ⌜ operator < 256 ⌝ }
+    requires { ⌜ inputs < 256 ⌝ }
+    requires { ⌜ attributes < 256 ⌝ }
+    ensures { λ r. ⌜ headIn r ≡ head kind operator inputs attributes ⌝ }
+{
+    (kind + 256 * operator + 65536 * inputs + 16777216 * attributes) as u32
 }
 
-// The four numbers of a slot.
-pub fn slot_head(graph: &[u8], v: usize) -> Head
+// The head of a slot.
+pub fn slot_head(graph: &[u8], v: usize) -> u32
     requires { ⌜ ReadableGraph (now graph) ⌝ }
     requires { ⌜ v < slotCount (now graph) ⌝ }
-    ensures { λ r. ⌜ r ≡ slotHead (slotOf (graphOf (now (graph .entry))) v) ⌝ }
+    ensures { λ r. ⌜ headIn r ≡ slotHead (slotOf (graphOf (now (graph .entry))) v) ⌝ }
 {
-    Head {
-        kind: kind_of(graph, v),
-        operator: operator_of(graph, v),
-        inputs: input_count(graph, v),
-        attributes: attribute_count(graph, v),
-    }
+    let kind = kind_of(graph, v);
+    let operator = operator_of(graph, v);
+    let inputs = input_count(graph, v);
+    let attributes = attribute_count(graph, v);
+    packed(kind, operator, inputs, attributes)
 }
 
-// The four numbers of a source vertex.
-pub fn pattern_head(rule: &[u8], j: usize) -> Head
+// The head of a source vertex.
+pub fn pattern_head(rule: &[u8], j: usize) -> u32
     requires { ⌜ ReadableRule (now rule) ⌝ }
     requires { ⌜ j < sourceCount (now rule) ⌝ }
-    ensures { λ r. ⌜ r ≡ patternHead (sourceOf (ruleOf (now (rule .entry))) j) ⌝ }
+    ensures { λ r. ⌜ headIn r ≡ patternHead (sourceOf (ruleOf (now (rule .entry))) j) ⌝ }
 {
-    Head {
-        kind: source_kind(rule, j),
-        operator: source_operator(rule, j),
-        inputs: source_input_count(rule, j),
-        attributes: source_attribute_count(rule, j),
-    }
+    let kind = source_kind(rule, j);
+    let operator = source_operator(rule, j);
+    let inputs = source_input_count(rule, j);
+    let attributes = source_attribute_count(rule, j);
+    packed(kind, operator, inputs, attributes)
 }
 
-// The look: it takes nothing but these four numbers of each record. A wildcard, of kind 0, takes any slot that is not Empty.
-pub fn head_fits(pattern: Head, slot: Head) -> bool
-    ensures { λ r. ⌜ r ≡ headFits pattern slot ⌝ }
+// The kind that a head tells.
+fn kind_in(head: u32) -> usize
+    ensures { λ r. ⌜ r ≡ headIn head .kind ⌝ }
 {
-    if pattern.kind == KIND_EMPTY {
-        return slot.kind != KIND_EMPTY;
+    (head % 256) as usize
+}
+
+// The look: it takes nothing but the four numbers of each record. A wildcard, of kind 0, takes any slot that is not Empty; another
+// pattern takes a slot with the same four numbers.
+pub fn head_fits(pattern: u32, slot: u32) -> bool
+    ensures { λ r. ⌜ Looked pattern slot r ⌝ }
+{
+    if kind_in(pattern) == KIND_EMPTY {
+        return kind_in(slot) != KIND_EMPTY;
     }
-    if slot.kind != pattern.kind {
-        return false;
-    }
-    if slot.operator != pattern.operator {
-        return false;
-    }
-    if slot.inputs != pattern.inputs {
-        return false;
-    }
-    slot.attributes == pattern.attributes
+    slot == pattern
+}
+
+// Whether slot v passes the look for a source vertex with that head.
+pub fn passes_look(graph: &[u8], head: u32, v: usize) -> bool
+    requires { ⌜ ReadableGraph (now graph) ⌝ }
+    requires { ⌜ v < slotCount (now graph) ⌝ }
+    ensures { λ r. ⌜ r ≡ passesLook (headIn head) (graphOf (now (graph .entry))) v ⌝ }
+{
+    head_fits(head, slot_head(graph, v))
 }
 
 // Whether a slot with so many uses meets a demand: 0 is none, and another is one more than the uses.
@@ -85,17 +97,11 @@ fn uses_fit(demand: u16, uses: u16) -> bool
 }
 
 // Whether slot v can be the image of a source vertex with that head and that demand, by what can be told without entering its inputs.
-pub fn passes_look(
-    graph: &[u8],
-    uses: &[u16; SLOT_LIMIT],
-    head: Head,
-    demand: u16,
-    v: usize,
-) -> bool
+pub fn suits(graph: &[u8], uses: &[u16; SLOT_LIMIT], head: u32, demand: u16, v: usize) -> bool
     requires { ⌜ LookReady (now graph) (now uses) v ⌝ }
-    ensures { λ r. ⌜ r ≡ passesLook head demand (graphOf (now (graph .entry))) v ⌝ }
+    ensures { λ r. ⌜ r ≡ suits (headIn head) demand (graphOf (now (graph .entry))) v ⌝ }
 {
-    if !head_fits(head, slot_head(graph, v)) {
+    if !passes_look(graph, head, v) {
         return false;
     }
     uses_fit(demand, uses[v])

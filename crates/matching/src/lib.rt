@@ -6,9 +6,8 @@ use fields::greater;
 use graph_fields::input_at;
 use match_images::is_image;
 use match_images::settle;
-use match_look::Head;
-use match_look::passes_look;
 use match_look::pattern_head;
+use match_look::suits;
 use rule_fields::source_input;
 use rule_fields::source_input_count;
 ghost use Prim.Native.Nat.{suc, max};
@@ -17,38 +16,56 @@ ghost use Rattle.definitions.specs.Graph.{graphOf};
 ghost use Rattle.definitions.specs.Rule.{ruleOf, sourceInputs};
 ghost use Rattle.rule_order.specs.InOrder.{visitedAfter};
 ghost use Rattle.match_images.specs.Partial.{Sends, SendsInputs, Step};
-ghost use Rattle.matching.specs.Ready.{VertexReady, InputsReady};
+ghost use Rattle.matching.specs.Ready.{VertexReady, VertexDone, CandidateReady, InputsReady};
 
-// Matches source vertex j, whose head is given, with slot v, its inputs first. A vertex that has its image is compared, not entered
-// again. Where it succeeds, the images are those of the first `next` vertices and of all up to j.
-pub fn match_vertex(
+// Matches source vertex j with slot v. A vertex that has its image is compared, not entered again; another is looked at first, and its
+// inputs are entered only where v is a candidate. Where it succeeds, the images are those of the first `next` vertices and of all up to j.
+fn match_vertex(
     graph: &[u8],
     rule: &[u8],
     uses: &[u16; SLOT_LIMIT],
     demands: &[u16; SIDE_CAPACITY],
-    head: Head,
     j: usize,
     v: usize,
     next: usize,
     images: &mut [u16; SIDE_CAPACITY],
 ) -> bool
-    requires { ⌜ VertexReady (now graph) (now rule) (now uses) (now demands) head j v next (now images) ⌝ }
-    ensures { λ r. ⌜ Step (graphOf (now (graph .entry))) (ruleOf (now (rule .entry))) next (now (images .entry)) (Sends j v)
-        (max next (suc j)) r (now (images .exit)) ⌝ }
+    requires { ⌜ VertexReady (now graph) (now rule) (now uses) (now demands) j v next (now images) ⌝ }
+    ensures { λ r. ⌜ VertexDone (graphOf (now (graph .entry))) (ruleOf (now (rule .entry))) j v next (now (images .entry)) r
+        (now (images .exit)) ⌝ }
 {
     if j < next {
         return is_image(images, j, v);
     }
-    if !passes_look(graph, uses, head, demands[j], v) {
+    let head = pattern_head(rule, j);
+    if !suits(graph, uses, head, demands[j], v) {
         return false;
     }
+    match_candidate(graph, rule, uses, demands, j, v, next, images)
+}
+
+// Matches source vertex j, which has no image yet, with slot v, a candidate for it: its inputs first, and then itself.
+pub fn match_candidate(
+    graph: &[u8],
+    rule: &[u8],
+    uses: &[u16; SLOT_LIMIT],
+    demands: &[u16; SIDE_CAPACITY],
+    j: usize,
+    v: usize,
+    next: usize,
+    images: &mut [u16; SIDE_CAPACITY],
+) -> bool
+    requires { ⌜ CandidateReady (now graph) (now rule) (now uses) (now demands) j v next (now images) ⌝ }
+    ensures { λ r. ⌜ Step (graphOf (now (graph .entry))) (ruleOf (now (rule .entry))) next (now (images .entry)) (Sends j v)
+        (max next (suc j)) r (now (images .exit)) ⌝ }
+{
     if !match_inputs(graph, rule, uses, demands, j, v, 0, next, images) {
         return false;
     }
     settle(graph, rule, j, v, images)
 }
 
-// Matches the inputs of source vertex j, from place i on, with those of slot v.
+// Matches the inputs of source vertex j, from place i on, with those of slot v, a candidate for it.
 fn match_inputs(
     graph: &[u8],
     rule: &[u8],
@@ -70,8 +87,7 @@ fn match_inputs(
     }
     let u = source_input(rule, j, i);
     let w = input_at(graph, v, i);
-    let head = pattern_head(rule, u);
-    if !match_vertex(graph, rule, uses, demands, head, u, w, next, images) {
+    if !match_vertex(graph, rule, uses, demands, u, w, next, images) {
         return false;
     }
     let reached = greater(next, u + 1);

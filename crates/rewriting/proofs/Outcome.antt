@@ -15,7 +15,7 @@ use Rattle.definitions.specs.Match.{leastMatch}
 use Rattle.definitions.specs.Operations.{outcome, mapBlock, blocksReply, accepted, turnedDown, rewritten, replaced, rewrite}
 use Rattle.theory.proofs.Fixing.{sound-fixing}
 use Rattle.theory.proofs.Least.{least-match}
-use Rattle.search.specs.Finds.{Finds}
+use Rattle.match_outputs.specs.Finds.{Finds}
 use Rattle.new_plan.specs.Planned.{Matched}
 
 module _ (graph rule : List ℕ) (start : ℕ) (images : List ℕ) where

@@ -1,2 +1,2 @@
-pub mod Steps
-pub mod Whole
+pub mod Outputs
+pub mod Skips

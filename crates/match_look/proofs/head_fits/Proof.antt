@@ -1,42 +1,32 @@
--- Each test decides one part of the look.
+-- A wildcard's answer is about the kind alone; another's is whether the words are equal.
 -- Assumes nothing.
-use borrow.Author.Tests.{eq-eqb, ne-eqb}
-use Rattle.match_look.specs.Candidate.{headFits}
-use Rattle.match_look.proofs.Candidates.{last-fits}
+use borrow.Author.Needs.{needs}
+use native.Mathlib.Omega.{arith}
+use mathlib.Core.Path.{sym, _∙_}
+use Rattle.match_look.specs.Head.{headIn}
+use Rattle.match_look.proofs.Look.{wild-fits}
+use Rattle.match_look.proofs.Words.{words-fit}
 use Rattle.match_look.proofs.head_fits.Statement.{statement}
 use Rattle.match_look.proofs.head_fits.Tie as tie
 
+kind-in-requires : tie.Need-kind-in-requires
+kind-in-requires c κs = search needs
+
+kind-in-requires-2 : tie.Need-kind-in-requires-2
+kind-in-requires-2 c κs = search needs
+
 returns : tie.Need-returns
-unfolding headFits
-returns c = simp (eq-eqb _ _ (c .before .if1 .taken))
+returns c =
+    let t = c .before in
+    let k = t .before in
+    let a = k .before .args in
+    rw (c .kind-in2 .ensures) (sym (wild-fits (headIn (a .pattern)) (headIn (a .slot)) (sym (k .kind-in .ensures) ∙ t .if1 .taken)))
 
 returns-2 : tie.Need-returns-2
-unfolding headFits
-returns-2 c = simp (ne-eqb _ _ (c .before .before .before .if1 .left), ne-eqb _ _ (c .if2 .taken))
-
-returns-3 : tie.Need-returns-3
-unfolding headFits
-returns-3 c =
-    let b = c .before .before .before in
-    let a = b .before .before .before in
-    simp (ne-eqb _ _ (a .if1 .left), eq-eqb _ _ (b .if2 .left), ne-eqb _ _ (c .if3 .taken))
-
-returns-4 : tie.Need-returns-4
-unfolding headFits
-returns-4 c =
-    let d = c .before .before .before in
-    let b = d .before .before .before in
-    let a = b .before .before .before in
-    simp (ne-eqb _ _ (a .if1 .left), eq-eqb _ _ (b .if2 .left), eq-eqb _ _ (d .if3 .left), ne-eqb _ _ (c .if4 .taken))
-
-returns-5 : tie.Need-returns-5
-returns-5 c =
-    let e = c .before .before in
-    let d = e .before .before .before in
-    let b = d .before .before .before in
-    let a = b .before .before .before in
-    let s = a .before .before in
-    last-fits (s .args .pattern) (s .args .slot) (a .if1 .left) (b .if2 .left) (d .if3 .left) (e .if4 .left)
+returns-2 c =
+    let k = c .before in
+    let a = k .before .args in
+    words-fit (a .pattern) (a .slot) (omega arith) (omega arith) (λ e. c .if1 .left (k .kind-in .ensures ∙ e))
 
 pub head-fits-spec : {M : Type 1} → statement M
-head-fits-spec = tie.close (tie.spec returns returns-2 returns-3 returns-4 returns-5)
+head-fits-spec = tie.close (tie.spec kind-in-requires kind-in-requires-2 returns returns-2)

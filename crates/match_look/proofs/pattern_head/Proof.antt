@@ -1,7 +1,7 @@
--- The four numbers, one by one.
+-- The four numbers, one by one, and then the word of them.
 -- Assumes nothing.
 use borrow.Author.Needs.{needs}
-use Rattle.match_look.specs.Candidate.{patternHead}
+use Rattle.match_look.specs.Head.{patternHead}
 use Rattle.match_look.proofs.pattern_head.Statement.{statement}
 use Rattle.match_look.proofs.pattern_head.Tie as tie
 
@@ -17,13 +17,17 @@ source-input-count-requires c κs = search needs
 source-attribute-count-requires : tie.Need-source-attribute-count-requires
 source-attribute-count-requires c κs = search needs
 
+packed-requires : tie.Need-packed-requires
+packed-requires c κs = search needs
+
 returns : tie.Need-returns
 unfolding patternHead
 returns c = simp (
-  c .source-attribute-count .ensures .0,
-  c .before .source-input-count .ensures .0,
-  c .before .before .source-operator .ensures .0,
-  c .before .before .before .source-kind .ensures .0,
+  c .packed .ensures,
+  c .before .source-attribute-count .ensures .0,
+  c .before .before .source-input-count .ensures .0,
+  c .before .before .before .source-operator .ensures .0,
+  c .before .before .before .before .source-kind .ensures .0,
 )
 
 pub pattern-head-spec : {M : Type 1} → statement M
@@ -34,4 +38,5 @@ pattern-head-spec =
     source-operator-requires
     source-input-count-requires
     source-attribute-count-requires
+    packed-requires
     returns)

@@ -1,7 +1,7 @@
--- The four numbers, one by one.
+-- The four numbers, one by one, and then the word of them.
 -- Assumes nothing.
 use borrow.Author.Needs.{needs}
-use Rattle.match_look.specs.Candidate.{slotHead}
+use Rattle.match_look.specs.Head.{slotHead}
 use Rattle.match_look.proofs.slot_head.Statement.{statement}
 use Rattle.match_look.proofs.slot_head.Tie as tie
 
@@ -17,13 +17,17 @@ input-count-requires c κs = search needs
 attribute-count-requires : tie.Need-attribute-count-requires
 attribute-count-requires c κs = search needs
 
+packed-requires : tie.Need-packed-requires
+packed-requires c κs = search needs
+
 returns : tie.Need-returns
 unfolding slotHead
 returns c = simp (
-  c .attribute-count .ensures .0,
-  c .before .input-count .ensures .0,
-  c .before .before .operator-of .ensures .0,
-  c .before .before .before .kind-of .ensures .0,
+  c .packed .ensures,
+  c .before .attribute-count .ensures .0,
+  c .before .before .input-count .ensures .0,
+  c .before .before .before .operator-of .ensures .0,
+  c .before .before .before .before .kind-of .ensures .0,
 )
 
 pub slot-head-spec : {M : Type 1} → statement M
@@ -34,4 +38,5 @@ slot-head-spec =
     operator-of-requires
     input-count-requires
     attribute-count-requires
+    packed-requires
     returns)

@@ -1,45 +1,105 @@
--- The counts are what the nested search asks for.
+-- Where no slot passes the look there is no match; else a search from the first that does finds what one from the start finds.
 -- Assumes nothing.
-use Rattle.graph_check.proofs.Readable.{graph-readable, graph-closed, graph-outputs}
-use Rattle.rule_check.proofs.Readable.{rule-readable, rule-layered}
-use Rattle.matching.proofs.Sound.{rule-matchable}
+use mathlib.Core.Path.{_≡_, refl}
+use mathlib.Core.List.{List, _∷_}
+use Prim.Native.Nat.{ℕ, _<_}
+use native.Mathlib.Omega.{arith}
+use lib.ListN.{length, drop}
+use Rattle.definitions.specs.Graph.{Graph, graphOf}
+use Rattle.definitions.specs.Rule.{Rule, ruleOf, sourceCount}
+use Rattle.laws.proofs.Rule.{length-source}
+use Rattle.theory.proofs.Fixing.{sound-fixing}
+use Rattle.graph_check.proofs.Readable.{graph-readable}
+use Rattle.rule_check.proofs.Readable.{rule-readable, output-counts}
+use Rattle.match_look.specs.Head.{headIn}
+use Rattle.match_outputs.proofs.Steps.{Passed, at-next, passed-start, first-inside, nothing-found}
+use Rattle.search.proofs.Outputs.{some-output}
+use Rattle.search.proofs.Skips.{least-skips}
 use Rattle.search.proofs.least_match.Statement.{statement}
 use Rattle.search.proofs.least_match.Tie as tie
 
-count-uses-requires : tie.Need-count-uses-requires
-count-uses-requires c κs =
+source-output-requires : tie.Need-source-output-requires
+source-output-requires c κs =
     let s = c .before .before in
-    let block = s .args .graph .now in
-    record {
-      readable = graph-readable block (s .pre .0);
-      closed = graph-closed block (s .pre .0);
-      outputs = graph-outputs block (s .pre .0);
-    }
+    (rule-readable (s .args .rule .now) (s .pre .1) .whole, output-counts (s .args .rule .now) (s .pre .1) .0)
 
-count-demands-requires : tie.Need-count-demands-requires
-count-demands-requires c κs =
-    let s = c .before .before .before in
-    let block = s .args .rule .now in
-    record { readable = rule-readable block (s .pre .1); layered = rule-layered block (s .pre .1) }
+-- ---- the first output
 
-search-requires : tie.Need-search-requires
-search-requires c κs =
-    let s = c .before .before .before .before .before .before in (
-      s .pre .0,
-      (
-        s .pre .1,
-        record {
-          readable = graph-readable (s .args .graph .now) (s .pre .0);
-          closed = graph-closed (s .args .graph .now) (s .pre .0);
-          matchable = rule-matchable (s .args .rule .now) (s .pre .1);
-          uses = c .before .before .before .count-uses .ensures;
-          demands = c .before .before .count-demands .ensures;
-        },
-      ),
-    )
+abbrev Rooted : Type 0
+Rooted = tie.After-source-output
+
+abbrev start : Rooted → tie.Start
+start t = t .before .before .before
+
+abbrev graphBlock : Rooted → List ℕ
+graphBlock t = start t .args .graph .now
+
+abbrev ruleBlock : Rooted → List ℕ
+ruleBlock t = start t .args .rule .now
+
+abbrev root : Rooted → ℕ
+root t = t .source-output .result
+
+abbrev others : Rooted → List ℕ
+others t = drop 1 (ruleOf (ruleBlock t) .sourceOutputs)
+
+listed : (t : Rooted) → ruleOf (ruleBlock t) .sourceOutputs ≡ root t ∷ others t
+listed t = some-output (ruleBlock t) (start t .pre .1) (root t) (t .source-output .ensures .0)
+
+inside : (t : Rooted) → root t < length (ruleOf (ruleBlock t) .source)
+inside t = first-inside (graphBlock t) (ruleBlock t) (start t .pre .1) (root t) (others t) (listed t)
+
+pattern-head-requires : tie.Need-pattern-head-requires
+pattern-head-requires c κs = (rule-readable (ruleBlock c) (start c .pre .1), omega (arith, inside c, length-source (ruleBlock c)))
+
+next-candidate-requires : tie.Need-next-candidate-requires
+next-candidate-requires c κs = let t = c .before in graph-readable (graphBlock t) (start t .pre .0)
+
+slot-count-requires : tie.Need-slot-count-requires
+slot-count-requires c κs =
+    let t = c .before .before in
+    omega (arith, graph-readable (graphBlock t) (start t .pre .0) .whole .size)
+
+-- ---- its first candidate
+
+passed : (n : tie.After-next-candidate)
+    → let t = n .before .before in
+    Passed (graphOf (graphBlock t)) (ruleOf (ruleBlock t)) (root t) (start t .args .start) (n .next-candidate .result)
+passed n =
+    let h = n .before in
+    let t = h .before in
+    let g : Graph = graphOf (graphBlock t) in
+    let r : Rule = ruleOf (ruleBlock t) in
+    at-next g r (root t) (start t .args .start) (headIn (h .pattern-head .result)) (inside t) (h .pattern-head .ensures) refl
+    (n .next-candidate .ensures) (passed-start g r (root t) (start t .args .start)) .passed
 
 returns : tie.Need-returns
-returns c = c .search .ensures
+returns c =
+    let k = c .before in
+    let n = k .before in
+    let t = n .before .before in
+    nothing-found (graphBlock t) (ruleBlock t) (start t .pre .1) (root t) (others t) (listed t) (start t .args .start)
+    (n .next-candidate .result) (passed n) (omega (arith, k .slot-count .ensures .0, c .if1 .taken)) refl
+
+search-requires : tie.Need-search-requires
+search-requires c κs = let s = start (c .before .before .before .before) in (s .pre .0, s .pre .1)
+
+returns-2 : tie.Need-returns-2
+returns-2 c =
+    let n = c .before .before .before in
+    let t = n .before .before in
+    rw (← least-skips (graphOf (graphBlock t)) (ruleOf (ruleBlock t)) (sound-fixing (ruleBlock t) (start t .pre .1)) (root t) (others t)
+    (listed t) (start t .args .start) (n .next-candidate .result) (passed n))
+    (c .search .ensures)
 
 pub least-match-spec : {M : Type 1} → statement M
-least-match-spec = tie.close (tie.spec count-uses-requires count-demands-requires search-requires returns)
+least-match-spec =
+    tie.close
+    (tie.spec
+    source-output-requires
+    pattern-head-requires
+    next-candidate-requires
+    slot-count-requires
+    returns
+    search-requires
+    returns-2)
