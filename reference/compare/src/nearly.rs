@@ -1,7 +1,7 @@
 //! Searches that fail by one place: what would be found if it named something
 //! of its own.
 
-use leafgraph_reference::blocks::{variable, GraphParts};
+use leafgraph_reference::blocks::variable;
 use leafgraph_reference::graph::{Graph, HEADER, RECORD};
 use leafgraph_reference::matching::{least_match, Images};
 use leafgraph_reference::operators::CONST;
@@ -70,7 +70,7 @@ fn with_place_of_its_own(graph: Graph, place: &Place) -> Vec<u8> {
     let named = usize::from(place.named);
     match graph.slot(named).kind() {
         CONST => bytes.extend_from_within(HEADER + RECORD * named..HEADER + RECORD * (named + 1)),
-        _ => bytes.extend(&GraphParts::new(vec![variable()], &[0]).block()[HEADER..]),
+        _ => bytes.extend(variable().record()),
     }
     bytes[6..8].copy_from_slice(&(slots as u16 + 1).to_le_bytes());
     bytes[place.at..place.at + 2].copy_from_slice(&(slots as u16).to_le_bytes());

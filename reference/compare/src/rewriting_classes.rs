@@ -2,6 +2,7 @@
 //! empty. All of it is taken from the second program's answer.
 
 use leafgraph_reference::attributes::results;
+use leafgraph_reference::blocks::empty;
 use leafgraph_reference::graph::{Graph, MAX_SLOTS};
 use leafgraph_reference::matching::{least_match, Images};
 use leafgraph_reference::operators::{CONST, VARIABLE};
@@ -425,7 +426,7 @@ impl<'a> Rewriting<'a> {
         let mut graph = self.old.bytes().to_vec();
         graph[6..8].copy_from_slice(&(slots as u16).to_le_bytes());
         for _ in 0..missing {
-            graph.extend([[0; 4].as_slice(), &[255; 12], &[0; 32]].concat());
+            graph.extend(empty().record());
         }
         rewrite(&mut graph, self.rule.bytes(), self.start, &mut [0; MAP_LENGTH]) == 7
     }

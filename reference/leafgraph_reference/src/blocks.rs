@@ -69,6 +69,17 @@ pub fn projection(input: u16, index: i32) -> Vertex {
     vertex(PROJ, 0, &[input], &[index])
 }
 
+impl Vertex {
+    /// The slot record. At most six inputs and six attributes.
+    pub fn record(&self) -> [u8; graph::RECORD] {
+        let counts = [self.inputs.len() as u8, self.attributes.len() as u8];
+        let head = [self.kind, self.operator, counts[0], counts[1]];
+        let mut record = [0; graph::RECORD];
+        write_record(&mut record, head, &self.inputs, &self.attributes);
+        record
+    }
+}
+
 impl GraphParts {
     pub fn new(slots: Vec<Vertex>, outputs: &[u16]) -> GraphParts {
         GraphParts { slots, outputs: outputs.to_vec() }
@@ -87,10 +98,7 @@ impl GraphParts {
         }
         let records = bytes[graph::HEADER..].chunks_exact_mut(graph::RECORD);
         for (record, vertex) in records.zip(&self.slots) {
-            let (inputs, attributes) = (&vertex.inputs, &vertex.attributes);
-            let counts = [inputs.len() as u8, attributes.len() as u8];
-            let head = [vertex.kind, vertex.operator, counts[0], counts[1]];
-            write_record(record, head, inputs, attributes);
+            record.copy_from_slice(&vertex.record());
         }
         bytes
     }
