@@ -5,15 +5,15 @@ use leafgraph_reference::graph::Graph;
 use leafgraph_reference::matching::{read_map, Images};
 use leafgraph_reference::operators::CONST;
 use leafgraph_reference::rule::{
-    Rule, ACCESS, ANY, CONSTANT, DIVIDE, MAX_NODES, MINUS, PLUS, REMAINDER, TIMES,
+    Pattern, Rule, ACCESS, ANY, CONSTANT, DIVIDE, MAX_NODES, MINUS, PLUS, REMAINDER, TIMES,
 };
 
 use crate::constants::{matched_consts, MatchedConst, Namer};
 use crate::nearly::{reasons, Reason};
 use crate::tally::{Class, Tally};
 
-/// Every class must occur. A candidate is a slot from the start on that has
-/// the kind, operator and counts of the first output.
+/// Every class must occur, and those of `look_classes`. A candidate is a slot
+/// from the start on that has the kind, operator and counts of the first output.
 pub const CLASSES: [&str; 37] = [
     "one output, found",
     "one output, none",
@@ -61,12 +61,12 @@ const LARGEST_GRAPH: usize = 512;
 const LARGEST_SOURCE: usize = 16;
 
 /// A search in sound blocks, and what came of it.
-struct Search<'a> {
-    graph: Graph<'a>,
-    rule: Rule<'a>,
-    start: usize,
+pub struct Search<'a> {
+    pub graph: Graph<'a>,
+    pub rule: Rule<'a>,
+    pub start: usize,
     /// Where there is a match.
-    images: Option<Images>,
+    pub images: Option<Images>,
 }
 
 pub fn count_classes(
@@ -85,19 +85,28 @@ pub fn count_classes(
     };
     let images = (reply == 0).then(|| read_map(map));
     let search = Search { graph, rule, start, images };
-    let classes =
-        [search.shapes(), search.course(), search.expressions(), search.constants()].concat();
-    tally.count_all(&classes);
+    let classes = [
+        search.shapes(),
+        search.course(),
+        search.expressions(),
+        search.constants(),
+        search.looks(),
+    ];
+    tally.count_all(&classes.concat());
 }
 
 impl Search<'_> {
-    fn found(&self) -> bool {
+    pub fn found(&self) -> bool {
         self.images.is_some()
+    }
+
+    pub fn has_two_outputs(&self) -> bool {
+        self.rule.output_count() == 2
     }
 
     /// Outputs, sizes and starts.
     fn shapes(&self) -> Vec<Class> {
-        let (found, two) = (self.found(), self.rule.output_count() == 2);
+        let (found, two) = (self.found(), self.has_two_outputs());
         let largest = self.graph.slot_count() == LARGEST_GRAPH;
         vec![
             ("one output, found", found && !two),
@@ -120,7 +129,7 @@ impl Search<'_> {
             return vec![("none though there were candidates", some)];
         };
         let later = self.has_candidate(first);
-        let second = self.rule.output_count() == 2 && self.output_image(1) < Some(self.start);
+        let second = self.has_two_outputs() && self.output_image(1) < Some(self.start);
         vec![
             ("found at the first candidate", !later),
             ("found at a later candidate", later),
@@ -128,15 +137,24 @@ impl Search<'_> {
         ]
     }
 
-    fn output_image(&self, place: usize) -> Option<usize> {
+    pub fn output_image(&self, place: usize) -> Option<usize> {
         let output = usize::from(self.rule.source_output(place));
         self.images.as_ref().map(|images| images[output].into())
     }
 
     /// Whether there is a candidate below this slot.
     fn has_candidate(&self, below: usize) -> bool {
-        let head = self.rule.source(self.rule.source_output(0).into()).head();
-        (self.start..below).any(|slot| self.graph.slot(slot).head() == head)
+        (self.start..below).any(|slot| self.is_like(slot, 0))
+    }
+
+    /// Whether this slot has the kind, operator and counts of the output in
+    /// this place.
+    pub fn is_like(&self, slot: usize, place: usize) -> bool {
+        self.graph.slot(slot).head() == self.output(place).head()
+    }
+
+    pub fn output(&self, place: usize) -> Pattern<'_> {
+        self.rule.source(self.rule.source_output(place).into())
     }
 
     /// Whether a vertex that is read from inside alone is read twice. A Const

@@ -12,6 +12,7 @@ mod checks;
 mod classes;
 mod constants;
 mod graph_fault_classes;
+mod look_classes;
 mod matching;
 mod nearly;
 mod refusal_classes;

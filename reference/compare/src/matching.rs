@@ -6,6 +6,7 @@ use leafgraph_reference::random::Random;
 
 use crate::arguments::Arguments;
 use crate::classes::{count_classes, CLASSES};
+use crate::look_classes;
 use crate::refusal_classes::{count_refusal, with_refusals};
 use crate::tally::{Call, Tally, CHANGED};
 
@@ -13,7 +14,8 @@ use crate::tally::{Call, Tally, CHANGED};
 const NUMBERS: [u8; 12] = [0, 1, 20, 21, 22, 23, 30, 31, 32, 33, 34, 4];
 
 pub fn run(random: &mut Random, calls: u64) -> Vec<Tally> {
-    let mut tally = Tally::new("find match", &NUMBERS, &with_refusals(&CLASSES));
+    let own = [&CLASSES[..], &look_classes::CLASSES].concat();
+    let mut tally = Tally::new("find match", &NUMBERS, &with_refusals(&own));
     for _ in 0..calls {
         let (change, case) = search_case(random);
         Arguments::damaged(random, change, case).find(random, &mut tally);

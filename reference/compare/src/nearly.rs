@@ -7,8 +7,8 @@ use leafgraph_reference::matching::{least_match, Images};
 use leafgraph_reference::operators::CONST;
 use leafgraph_reference::rule::Rule;
 
-/// Larger graphs are not looked at, since each place costs a search.
-const MOST_SLOTS: usize = 24;
+/// Larger graphs are not looked at, since each change costs a search.
+pub const MOST_SLOTS: usize = 24;
 
 /// Why a search fails.
 #[derive(Clone, Copy, PartialEq, Eq)]
