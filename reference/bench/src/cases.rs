@@ -8,8 +8,8 @@ use leafgraph_reference::reply::{refuse_at, reply_of, DONE, GRAPH_CYCLE};
 use leafgraph_reference::MAP_LENGTH;
 
 use crate::graphs::{
-    double_relus, gain_and_mean, gains_and_means, hanging_from_cycle, leading_to_cycle, pairs,
-    shared_const,
+    double_relus, gain_and_mean, gains_and_means, hanging_from_cycle, in_a_chain, leading_to_cycle,
+    pairs, shared_const, side_by_side, two_relus,
 };
 
 /// What a call leaves; the checks leave the map as it was.
@@ -42,6 +42,8 @@ type Graph = fn(u16) -> GraphParts;
 type Rule = fn() -> RuleParts;
 /// The reply to a graph of so many slots.
 type Reply = fn(u16) -> u64;
+/// Where a search of a graph of so many slots starts.
+type Start = fn(u16) -> usize;
 
 const CHECKS: [(&str, Graph, Reply); 3] = [
     ("check graph: a chain", chain, |_| DONE),
@@ -64,6 +66,29 @@ const SEARCHES: [(&str, u64, Graph, Rule); 7] = [
     ("match: shared Const, last slot", FOUND, shared_const, const_dropped),
 ];
 
+/// Rows that tell what the look at the outputs' kind, operator and counts takes,
+/// with so many slots that pass it. None has a match. With no slot to look at, a
+/// call does only what comes before the first look.
+const LOOKS: [(&str, Graph, Rule, Start); 8] = [
+    ("match: look, 1 output, no slot to look at", |slots| side_by_side(slots, 0), rr, at_end),
+    ("match: look, 1 output, none passes", |slots| side_by_side(slots, 0), rr, at_0),
+    ("match: look, 1 output, one in ten", |slots| side_by_side(slots, 10), rr, at_0),
+    ("match: look, 1 output, all pass", |slots| side_by_side(slots, 1), rr, at_0),
+    ("match: look, 2 outputs, no slot to look at", |slots| in_a_chain(slots, 0), two_relus, at_end),
+    ("match: look, 2 outputs, none passes", |slots| in_a_chain(slots, 0), two_relus, at_0),
+    ("match: look, 2 outputs, one in ten", |slots| in_a_chain(slots, 10), two_relus, at_0),
+    ("match: look, 2 outputs, all pass", |slots| in_a_chain(slots, 1), two_relus, at_0),
+];
+
+fn at_0(_: u16) -> usize {
+    0
+}
+
+/// No slot is at or above this start.
+fn at_end(slots: u16) -> usize {
+    slots.into()
+}
+
 const REWRITINGS: [(&str, u64, Graph, Rule, Course); 4] = [
     ("rewrite: 1 output, last slot", FOUND, |slots| double_relus(slots, true), rr, once),
     ("rewrite: 2 outputs, last pair", FOUND, |slots| pairs(slots, true), p7_rule, once),
@@ -76,12 +101,16 @@ fn const_dropped() -> RuleParts {
     dropped_constant(1)
 }
 
-/// All searches start at 0.
+/// All searches start at 0, but for those with no slot to look at.
 pub fn searches() -> Vec<Case> {
     let of_all_sizes = |(name, reply, graph, rule): (_, _, Graph, Rule)| {
-        SIZES.map(|slots| search(name, reply, graph(slots), rule()))
+        SIZES.map(|slots| search(name, reply, graph(slots), rule(), 0))
     };
-    SEARCHES.into_iter().flat_map(of_all_sizes).collect()
+    let looks_of_all_sizes = |(name, graph, rule, start): (_, Graph, Rule, Start)| {
+        SIZES.map(|slots| search(name, NONE, graph(slots), rule(), start(slots)))
+    };
+    let looks = LOOKS.into_iter().flat_map(looks_of_all_sizes);
+    SEARCHES.into_iter().flat_map(of_all_sizes).chain(looks).collect()
 }
 
 /// All rewritings start at 0. Each timed call copies the graph first, in both
@@ -111,12 +140,18 @@ pub fn checks() -> Vec<Case> {
 
 type FindMatch = fn(&[u8], &[u8], usize, &mut [u8]) -> u64;
 
-fn search(name: &'static str, reply: u64, graph: GraphParts, rule: RuleParts) -> Case {
+fn search(
+    name: &'static str,
+    reply: u64,
+    graph: GraphParts,
+    rule: RuleParts,
+    start: usize,
+) -> Case {
     let program = |find_match: FindMatch| -> Program {
         let (graph, rule) = (graph.block(), rule.block());
         Box::new(move |_| {
             let mut map = [0; MAP_LENGTH];
-            let reply = find_match(black_box(&graph), black_box(&rule), black_box(0), &mut map);
+            let reply = find_match(black_box(&graph), black_box(&rule), black_box(start), &mut map);
             Answer { reply, map }
         })
     };

@@ -1,11 +1,11 @@
-//! The graphs and the rule that are made for the rows; the others are the
+//! The graphs and the rules that are made for the rows; the others are the
 //! second program's own examples.
 
 use leafgraph_reference::blocks::{
     access_node, add, any_node, call, call_pattern, constant, operation_node, relu, target_place,
     tuple, variable, wildcard, GraphParts, RuleParts, Vertex,
 };
-use leafgraph_reference::operators::{GAIN, MEAN, PLACES, RELU};
+use leafgraph_reference::operators::{CAST, GAIN, MEAN, PLACES, RELU};
 use leafgraph_reference::rule::{PLUS, TIMES};
 
 /// For RR: every slot but the first has its kind and operator, and only the
@@ -106,4 +106,41 @@ pub fn gains_and_means(slots: u16, found: bool) -> GraphParts {
         table[last - 1] = call(MEAN, &[0], &[3 * last as i32 + 1]);
     }
     GraphParts::new(table, &[slots - 1])
+}
+
+/// relu(x) twice, both of which become x: two outputs of the same kind, operator
+/// and counts.
+pub fn two_relus() -> RuleParts {
+    let relu = call_pattern(RELU, &[0], &[]);
+    RuleParts {
+        source: vec![wildcard(), relu.clone(), relu],
+        target: vec![],
+        source_outputs: vec![1, 2],
+        target_outputs: vec![0; 2],
+        nodes: vec![],
+    }
+}
+
+/// For the look at RR's output: all read the Variable, so that no relu reads a
+/// relu, and there is no match.
+pub fn side_by_side(slots: u16, every: u16) -> GraphParts {
+    relus_and_casts(slots, every, |_| 0)
+}
+
+/// For the look at both outputs of the two relus: each reads the slot before it,
+/// so that no two read the same one, and there is no match.
+pub fn in_a_chain(slots: u16, every: u16) -> GraphParts {
+    relus_and_casts(slots, every, |slot| slot - 1)
+}
+
+/// A Variable in slot 0, then a relu, which passes the look, in each slot whose
+/// number is a multiple of `every`, and a cast in each other. With 0 there is no
+/// relu, since 0 has no other multiple.
+fn relus_and_casts(slots: u16, every: u16, read_by: fn(u16) -> u16) -> GraphParts {
+    let vertex = |slot: u16| match slot {
+        0 => variable(),
+        _ if slot.is_multiple_of(every) => relu(read_by(slot)),
+        _ => call(CAST, &[read_by(slot)], &[0]),
+    };
+    GraphParts::new((0..slots).map(vertex).collect(), &[slots - 1])
 }

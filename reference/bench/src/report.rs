@@ -14,8 +14,11 @@ pub struct Row {
     pub second: f64,
 }
 
+/// The longest call's name fits.
+const CALL: usize = 44;
+
 pub fn print_table(rows: &[Row]) {
-    println!("{:32}{:>6}{:>14}{:>14}{:>9}", "call", "slots", "proved ns", "second ns", "ratio");
+    println!("{:CALL$}{:>6}{:>14}{:>14}{:>9}", "call", "slots", "proved ns", "second ns", "ratio");
     rows.iter().for_each(Row::print);
     println!(
         "ratio: the proved library's time over the second program's, in nearly the best rounds"
@@ -26,7 +29,7 @@ impl Row {
     fn print(&self) {
         let slots = self.slots.map_or("-".to_string(), |slots| slots.to_string());
         let Row { call, proved, second, .. } = self;
-        println!("{call:32}{slots:>6}{proved:>14.0}{second:>14.0}{:>9.2}", self.ratio());
+        println!("{call:CALL$}{slots:>6}{proved:>14.0}{second:>14.0}{:>9.2}", self.ratio());
     }
 
     /// The call is quoted, since it may have a comma; a row without a graph

@@ -52,6 +52,7 @@ pub const RELU: u8 = 7;
 pub const GAIN: u8 = 10;
 pub const MEAN: u8 = 12;
 pub const RESHAPE: u8 = 13;
+pub const CAST: u8 = 14;
 
 /// The operator of this number, "1 to 14".
 pub fn operator_of(number: u8) -> Option<Operator> {
