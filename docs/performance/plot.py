@@ -45,11 +45,11 @@ def operations(rows):
     return list(dict.fromkeys(operation(row.call) for row in rows))
 
 
-def series(rows, wanted):
-    """The rows of each of an operation's calls that were timed with growing graphs."""
+def series(rows):
+    """The rows of each call that was timed with growing graphs."""
     calls = {}
     for row in rows:
-        if row.slots is not None and operation(row.call) == wanted:
+        if row.slots is not None:
             calls.setdefault(row.call, []).append(row)
     return calls
 
@@ -80,11 +80,10 @@ def exponent(before, after, column):
 def exponents_table(rows):
     """All calls are timed with the same numbers of slots."""
     cells = []
-    for wanted in operations(rows):
-        for call, steps in series(rows, wanted).items():
-            pairs = list(zip(steps, steps[1:]))
-            proved = [exponent(*pair, "proved") for pair in pairs]
-            cells.append((call, *proved, exponent(*pairs[-1], "second")))
+    for call, steps in series(rows).items():
+        pairs = list(zip(steps, steps[1:]))
+        proved = [exponent(*pair, "proved") for pair in pairs]
+        cells.append((call, *proved, exponent(*pairs[-1], "second")))
     sizes = sorted({row.slots for row in rows if row.slots})
     spans = [f"{before} to {after}" for before, after in zip(sizes, sizes[1:])]
     return markdown_table(("Call", *spans, f"Second, {spans[-1]}"), cells)
@@ -120,6 +119,9 @@ def filled(page, parts):
 
 # ---- the pictures
 
+# The calls about the look have a panel of their own: with them, match's has too many lines.
+LOOK = "match: look"
+
 # Okabe and Ito's colours, which the colour-blind can tell apart too.
 COLOURS = {
     "check graph: a chain": "#0072B2",
@@ -130,6 +132,14 @@ COLOURS = {
     "match: attributes, last pair": "#CC79A7",
     "match: attributes, none": "#000000",
     "match: shared Const, last slot": "#009E73",
+    "match: look, 1 output, no slot to look at": "#F0E442",
+    "match: look, 1 output, none passes": "#CC79A7",
+    "match: look, 1 output, one in ten": "#56B4E9",
+    "match: look, 1 output, all pass": "#0072B2",
+    "match: look, 2 outputs, no slot to look at": "#009E73",
+    "match: look, 2 outputs, none passes": "#000000",
+    "match: look, 2 outputs, one in ten": "#E69F00",
+    "match: look, 2 outputs, all pass": "#D55E00",
     "rewrite: 1 output, last slot": "#0072B2",
     "rewrite: 2 outputs, last pair": "#D55E00",
     "rewrite: shared Const, last slot": "#CC79A7",
@@ -147,6 +157,16 @@ Tick = namedtuple("Tick", "value label colour")
 Panel = namedtuple("Panel", "title axis height share ticks lines")
 
 
+def panel_of(call):
+    """The title of the panel that a call is drawn in."""
+    return LOOK if call.startswith(LOOK) else operation(call)
+
+
+def is_thin(call):
+    """Whether a call has a thin line with open squares: it may run together with a thick one."""
+    return "2 outputs" in call if panel_of(call) == LOOK else call.endswith("none")
+
+
 def text(x, y, words, more=""):
     return f'<text x="{x:.1f}" y="{y:.1f}"{more}>{escape(words)}</text>'
 
@@ -157,9 +177,9 @@ def stroke(points, colour, more):
 
 
 def mark(x, y, call):
-    """A dot, or an open square where nothing is found: both show where they meet."""
+    """A dot, or an open square on a thin line: both show where they meet."""
     colour = COLOURS.get(call, OTHER)
-    if call.endswith("none"):
+    if is_thin(call):
         box = f'x="{x - 4.5:.1f}" y="{y - 4.5:.1f}" width="9" height="9"'
         return f'<rect {box} fill="none" stroke="{colour}" stroke-width="1.6"/>'
     return f'<circle cx="{x:.1f}" cy="{y:.1f}" r="4" fill="{colour}"/>'
@@ -167,7 +187,7 @@ def mark(x, y, call):
 
 def drawn(points, line):
     """Where two lines run together, the thinner is seen upon the thicker. Dashes have no marks."""
-    width = 1.2 if line.call.endswith("none") else 3.6
+    width = 1.2 if is_thin(line.call) else 3.6
     shown = stroke(points, COLOURS.get(line.call, OTHER), f' stroke-width="{width}"{line.dash}')
     return [shown] + [mark(x, y, line.call) for x, y in points if line.dash == SOLID]
 
@@ -202,7 +222,7 @@ def legend(panel, top):
         y = top + 12 + 24 * place
         left = RIGHT + 24
         parts += drawn([(left, y), (left + 22, y), (left + 44, y)], line)
-        name = line.call[len(operation(line.call)):].lstrip(": ")
+        name = line.call[len(panel_of(line.call)):].lstrip(":, ")
         parts.append(text(left + 56, y + 4.5, name))
     return parts
 
@@ -284,10 +304,12 @@ def ratio_panel(title, calls, lowest, highest):
 
 
 def pictures(facts, rows):
-    calls = {wanted: series(rows, wanted) for wanted in operations(rows)}
+    panels = {}
+    for call, steps in series(rows).items():
+        panels.setdefault(panel_of(call), {})[call] = steps
     ratios = [row.ratio for row in rows]
-    growth = [growth_panel(wanted, of) for wanted, of in calls.items()]
-    ratio = [ratio_panel(wanted, of, min(ratios), max(ratios)) for wanted, of in calls.items()]
+    growth = [growth_panel(title, calls) for title, calls in panels.items()]
+    ratio = [ratio_panel(title, calls, min(ratios), max(ratios)) for title, calls in panels.items()]
     programs = [("proved library", INK, SOLID), ("second program", INK, DASHED)]
     limits = [
         ("1.0: as fast as the second program", EQUAL, SOLID),
