@@ -1,7 +1,7 @@
 -- A word of four bytes holds the four numbers of a head, and no other word holds the same four.
 -- Assumes nothing.
-use mathlib.Core.Path.{_≡_, sym, _∙_}
-use mathlib.Core.Bool.{true, false}
+use mathlib.Core.Path.{_≡_, refl, sym}
+use mathlib.Core.Bool.{true, false, not}
 use mathlib.Core.Logic.{⊎-elim}
 use Prim.Native.Nat.{ℕ, _+_, _*_, _/_, _%_, _^_, _<_}
 use native.Mathlib.Nat.{div-div-eq-div-mul, mod-eq-of-lt}
@@ -12,7 +12,7 @@ use Rattle.definitions.specs.Operators.{kindEmpty}
 use Rattle.laws.proofs.Lists.{decided, fails}
 use Rattle.match_look.specs.Head.{head, headIn, SameHead}
 use Rattle.match_look.specs.Candidate.{headFits}
-use Rattle.match_look.proofs.Look.{same-fits, fits-same}
+use Rattle.match_look.proofs.Look.{wild-fits, same-fits, fits-same}
 
 -- ---- from numbers to a word
 
@@ -42,13 +42,19 @@ word-back w l =
 same-words : (w z : ℕ) → w < 2 ^ 32 → z < 2 ^ 32 → SameHead (headIn w) (headIn z) → z ≡ w
 same-words w z a b same = omega (arith, word-back w a, word-back z b, same .kind, same .operator, same .inputs, same .attributes)
 
--- where the pattern is no wildcard, the look compares the words
-pub words-fit : (p s : ℕ) → p < 2 ^ 32 → s < 2 ^ 32 → (headIn p .kind ≡ kindEmpty → ⊥) → eqb s p ≡ headFits (headIn p) (headIn s)
-words-fit p s a b other = ⊎-elim
-    (λ (t : eqb s p ≡ true).
-    let e : s ≡ p = eqb-true s p t in
-    t ∙ sym (same-fits (headIn p) (headIn s) other
-    record { kind = rw e; operator = rw e; inputs = rw e; attributes = rw e }))
-    (λ (t : eqb s p ≡ false).
-    t ∙ sym (fails (λ f. eqb-false s p t (same-words p s a b (fits-same (headIn p) (headIn s) other f)))))
-    (decided (eqb s p))
+-- ---- the look, by the words
+
+module _ (p s : ℕ) where
+  -- equal words fit, but for a wildcard and an Empty slot
+  pub equal-words : s ≡ p → not (eqb (headIn p .kind) kindEmpty) ≡ headFits (headIn p) (headIn s)
+  equal-words e = ⊎-elim
+      (λ (t : eqb (headIn p .kind) kindEmpty ≡ true).
+      rw e (sym (wild-fits (headIn p) (headIn p) (eqb-true (headIn p .kind) kindEmpty t))))
+      (λ (t : eqb (headIn p .kind) kindEmpty ≡ false).
+      rw (t, e) (sym (same-fits (headIn p) (headIn p) (eqb-false (headIn p .kind) kindEmpty t)
+      record { kind = refl; operator = refl; inputs = refl; attributes = refl })))
+      (decided (eqb (headIn p .kind) kindEmpty))
+
+  -- others fit a wildcard alone
+  pub other-words : p < 2 ^ 32 → s < 2 ^ 32 → (s ≡ p → ⊥) → (headIn p .kind ≡ kindEmpty → ⊥) → headFits (headIn p) (headIn s) ≡ false
+  other-words a b apart other = fails (λ f. apart (same-words p s a b (fits-same (headIn p) (headIn s) other f)))

@@ -67,14 +67,18 @@ fn kind_in(head: u32) -> usize
 }
 
 // The look: it takes nothing but the four numbers of each record. A wildcard, of kind 0, takes any slot that is not Empty; another
-// pattern takes a slot with the same four numbers.
+// pattern takes a slot with the same four numbers. These are compared first: in a pass over the heads that is all that most slots are
+// asked, since what the pattern is does not change.
 pub fn head_fits(pattern: u32, slot: u32) -> bool
     ensures { λ r. ⌜ Looked pattern slot r ⌝ }
 {
-    if kind_in(pattern) == KIND_EMPTY {
-        return kind_in(slot) != KIND_EMPTY;
+    if slot == pattern {
+        return kind_in(pattern) != KIND_EMPTY;
     }
-    slot == pattern
+    if kind_in(pattern) != KIND_EMPTY {
+        return false;
+    }
+    kind_in(slot) != KIND_EMPTY
 }
 
 // Whether slot v passes the look for a source vertex with that head.
