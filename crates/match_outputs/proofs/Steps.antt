@@ -165,6 +165,17 @@ module _ (graph rule : List ℕ) (sound : SoundRule rule) where
         rest = λ b i l. blank .rest i (rw (length-source rule) l);
       }
 
+  -- where there is no match from the start on, nothing is to be found
+  pub nothing-found : (start : ℕ) → ((whole : List ℕ) → MatchFrom g r start whole → ⊥) → {ok : Bool} {images : List ℕ} → ok ≡ false
+      → Finds (leastMatch g r start) (sourceCount rule) ok images
+  nothing-found start never f = record {
+    found = λ t. absurd (true-not-false t f);
+    none = λ t. none-found g r (sound-fixing rule sound) start never;
+    size = λ t. absurd (true-not-false t f);
+    small = λ t. absurd (true-not-false t f);
+    rest = λ t. absurd (true-not-false t f);
+  }
+
   module _ (o : ℕ) (others : List ℕ) (outputs : r .sourceOutputs ≡ o ∷ others) where
     first-listed : List·Memᴰ o (r .sourceOutputs)
     first-listed = subst (List·Memᴰ o) (sym outputs) (List·Memᴰ·head refl)
@@ -183,21 +194,10 @@ module _ (graph rule : List ℕ) (sound : SoundRule rule) where
       pub first-from : (whole : List ℕ) → MatchFrom g r start whole → first ≤ imageOf whole o
       first-from whole from = passed .left whole (from .isMatch) (rw outputs at (from .first))
 
-      pub nothing-found : {ok : Bool} {images : List ℕ} → slotCount graph ≤ first → ok ≡ false
-          → Finds (leastMatch g r start) (sourceCount rule) ok images
-      nothing-found h f = record {
-        found = λ t. absurd (true-not-false t f);
-        none = λ t. none-found g r (sound-fixing rule sound) start
-            (λ whole from. omega (
-              arith,
-              first-from whole from,
-              image-inside g r whole o (from .isMatch) first-inside,
-              length-slots graph,
-            ));
-        size = λ t. absurd (true-not-false t f);
-        small = λ t. absurd (true-not-false t f);
-        rest = λ t. absurd (true-not-false t f);
-      }
+      -- where every slot from the start on is passed, there is no match
+      pub all-passed : slotCount graph ≤ first → (whole : List ℕ) → MatchFrom g r start whole → ⊥
+      all-passed h whole from =
+          omega (arith, first-from whole from, image-inside g r whole o (from .isMatch) first-inside, length-slots graph)
 
   -- one output: its image decides alone
   module _ (o : ℕ) (outputs : r .sourceOutputs ≡ o ∷ []) (start first : ℕ) (passed : Passed g r o start first) where

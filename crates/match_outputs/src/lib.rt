@@ -7,6 +7,8 @@ use graph_fields::slot_count;
 use match_candidates::next_candidate;
 use match_look::pattern_head;
 use matching::match_candidate;
+ghost use mathlib.Core.Path.{_≡_};
+ghost use mathlib.Core.Bool.{false};
 ghost use mathlib.Core.List.{[], _∷_};
 ghost use Rattle.definitions.specs.Graph.{graphOf};
 ghost use Rattle.definitions.specs.Rule.{sourceCount, ruleOf};
@@ -17,6 +19,16 @@ ghost use Rattle.match_outputs.specs.Finds.{SearchReady, Finds};
 pub struct Found {
     pub ok: bool,
     pub images: [u16; SIDE_CAPACITY],
+}
+
+// What a search answers that finds nothing.
+pub fn none_found() -> Found
+    ensures { λ r. ⌜ r .ok ≡ false ⌝ }
+{
+    Found {
+        ok: false,
+        images: [UNUSED_PLACE; SIDE_CAPACITY],
+    }
 }
 
 // The least match of a rule with one output, which is source vertex `root`: its image from `start` up decides alone. What the look turns

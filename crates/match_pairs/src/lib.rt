@@ -8,6 +8,7 @@ use match_candidates::all_candidates;
 use match_candidates::next_candidate;
 use match_look::pattern_head;
 use match_outputs::Found;
+use match_outputs::none_found;
 use matching::match_candidate;
 ghost use mathlib.Core.List.{[], _∷_};
 ghost use Rattle.definitions.specs.Graph.{graphOf};
@@ -34,7 +35,9 @@ pub fn search_pairs(
     let slots = slot_count(graph);
     let head = pattern_head(rule, root);
     let seconds = all_candidates(graph, pattern_head(rule, last));
-    let count = seconds.count;
+    if seconds.count == 0 {
+        return none_found();
+    }
     let next = root + 1;
     let mut images = [UNUSED_PLACE; SIDE_CAPACITY];
     let mut ok = false;
@@ -42,7 +45,7 @@ pub fn search_pairs(
     'search: while first < slots {
         if match_candidate(graph, rule, uses, demands, root, first, 0, &mut images) {
             let mut k = 0;
-            while k < count {
+            while k < seconds.count {
                 let second = widened(seconds.slots[k]);
                 if match_candidate(graph, rule, uses, demands, last, second, next, &mut images) {
                     ok = true;

@@ -1,12 +1,11 @@
 // The least match from a start, by the number of a rule's outputs. The first output's candidates are looked for before anything is counted:
 // where no slot passes the look, there is no match.
-use definitions::SIDE_CAPACITY;
-use definitions::UNUSED_PLACE;
 use graph_fields::slot_count;
 use graph_uses::count_uses;
 use match_candidates::next_candidate;
 use match_look::pattern_head;
 use match_outputs::Found;
+use match_outputs::none_found;
 use match_outputs::search_one;
 use match_pairs::search_pairs;
 use rule_fields::output_count;
@@ -44,10 +43,7 @@ pub fn least_match(graph: &[u8], rule: &[u8], start: usize) -> Found
     let root = source_output(rule, 0);
     let first = next_candidate(graph, pattern_head(rule, root), start);
     if slot_count(graph) <= first {
-        return Found {
-            ok: false,
-            images: [UNUSED_PLACE; SIDE_CAPACITY],
-        };
+        return none_found();
     }
     search(graph, rule, first)
 }

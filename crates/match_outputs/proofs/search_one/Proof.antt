@@ -9,7 +9,7 @@ use Rattle.definitions.specs.Graph.{slotCount, Graph, graphOf}
 use Rattle.definitions.specs.Rule.{sourceCount, Rule, ruleOf}
 use Rattle.laws.proofs.Rule.{length-source}
 use Rattle.match_look.specs.Head.{headIn}
-use Rattle.match_outputs.proofs.Steps.{AtCandidate, at-next, passed-start, Blank, blank-start, blank-after, nothing-mapped, root-fails, root-made, first-inside, first-candidate, first-in-order, nothing-found, one-found}
+use Rattle.match_outputs.proofs.Steps.{AtCandidate, at-next, passed-start, Blank, blank-start, blank-after, nothing-mapped, root-fails, root-made, first-inside, first-candidate, first-in-order, all-passed, nothing-found, one-found}
 use Rattle.match_outputs.proofs.search_one.Statement.{statement}
 use Rattle.match_outputs.proofs.search_one.Tie as tie
 
@@ -141,8 +141,10 @@ returns-2 : tie.Need-returns-2 Inv-loop μ-loop
 returns-2 c =
     let a = c .before in
     let k = counted a in
-    nothing-found (graphBlock k) (ruleBlock k) (start k .pre .sound) (root k) [] (start k .pre .listed) (start k .args .start)
-    (a .loop .slot) (a .loop .inv .0 .passed) (omega (arith, c .loop-test .left, all-slots k)) refl
+    let s = start k in
+    nothing-found (graphBlock k) (ruleBlock k) (s .pre .sound) (s .args .start)
+    (all-passed (graphBlock k) (ruleBlock k) (s .pre .sound) (root k) [] (s .pre .listed) (s .args .start) (a .loop .slot)
+    (a .loop .inv .0 .passed) (omega (arith, c .loop-test .left, all-slots k))) refl
 
 pub search-one-spec : {M : Type 1} → statement M
 search-one-spec =

@@ -9,6 +9,7 @@ use native.Mathlib.Omega.{arith}
 use lib.ListN.{length, getD}
 use Rattle.definitions.specs.Graph.{slotLimit, slotCount, Graph, graphOf}
 use Rattle.definitions.specs.Rule.{Rule, ruleOf}
+use Rattle.definitions.specs.Match.{imageOf}
 use Rattle.laws.proofs.Graph.{length-slots}
 use Rattle.laws.proofs.Rule.{length-source}
 use Rattle.match_images.specs.Partial.{Sends, Step}
@@ -16,25 +17,25 @@ use Rattle.match_look.specs.Head.{headIn}
 use Rattle.match_look.specs.Candidate.{passesLook}
 use Rattle.match_look.proofs.Candidates.{formed}
 use Rattle.match_candidates.specs.Listed.{Listed}
-use Rattle.match_outputs.proofs.Steps.{AtCandidate, at-next, passed-start, Blank, blank-start, blank-after, Rooted, nothing-mapped, root-fails, root-made, first-inside, first-candidate, first-in-order, nothing-found}
+use Rattle.match_outputs.proofs.Steps.{AtCandidate, at-next, passed-start, Blank, blank-start, blank-after, Rooted, nothing-mapped, root-fails, root-made, first-inside, first-candidate, first-in-order, all-passed, nothing-found}
 use Rattle.match_pairs.proofs.Pairs.{Left, left-all, left-least, left-next, none-left, rooted-after, second-inside, second-candidate, second-in-order, second-later, two-found}
 use Rattle.match_pairs.proofs.search_pairs.Statement.{statement}
 use Rattle.match_pairs.proofs.search_pairs.Tie as tie
 
 abbrev Inv-loop : tie.InvT-loop
-Inv-loop graph rule uses demands root last start slots head seconds count next images₀ ok₀ first k₀ images ok k =
-    Left (graphOf graph) (ruleOf rule) root last first (seconds .slots) count k
+Inv-loop graph rule uses demands root last start slots head seconds next images₀ ok₀ first k₀ images ok k =
+    Left (graphOf graph) (ruleOf rule) root last first (seconds .slots) (seconds .count) k
     × Rooted (graphOf graph) (ruleOf rule) root first images × Blank (ruleOf rule) images × (ok ≡ false)
 
 abbrev μ-loop : tie.MeasureT-loop
-μ-loop graph rule uses demands root last start slots head seconds count next images₀ ok₀ first k₀ images ok k = count - k
+μ-loop graph rule uses demands root last start slots head seconds next images₀ ok₀ first k₀ images ok k = seconds .count - k
 
 abbrev Inv-search : tie.InvT-search
-Inv-search graph rule uses demands root last start slots head seconds count next images₀ ok₀ first₀ images ok first =
+Inv-search graph rule uses demands root last start slots head seconds next images₀ ok₀ first₀ images ok first =
     AtCandidate (graphOf graph) (ruleOf rule) root start (headIn head) slots first × Blank (ruleOf rule) images × (ok ≡ false)
 
 abbrev μ-search : tie.MeasureT-search
-μ-search graph rule uses demands root last start slots head seconds count next images₀ ok₀ first₀ images ok first = slots - first
+μ-search graph rule uses demands root last start slots head seconds next images₀ ok₀ first₀ images ok first = slots - first
 
 -- ---- before the loops
 
@@ -103,17 +104,33 @@ listed : (l : Ready)
     (l .all-candidates .result .count)
 listed l = rw (length-slots (graphBlock (counted l))) (l .all-candidates .ensures)
 
+-- where none is listed, there is no match
+none-found-requires : tie.Need-none-found-requires Inv-loop μ-loop Inv-search μ-search
+none-found-requires c κs = tt
+
+returns : tie.Need-returns Inv-loop μ-loop Inv-search μ-search
+returns c =
+    let t = c .before in
+    let l = t .before in
+    let k = counted l in
+    nothing-found (graphBlock k) (ruleBlock k) (start k .pre .sound) (start k .args .start)
+    (λ whole from.
+    let left = left-all (g k) (r k) (o k) (q k) (imageOf whole (o k)) (headIn (l .before .pattern-head2 .result))
+    (l .before .pattern-head2 .ensures) (listed l) (within k) whole (from .isMatch) refl in
+    omega (arith, left .2, t .if1 .taken))
+    (c .none-found .ensures)
+
 add-next : tie.Need-add-next Inv-loop μ-loop Inv-search μ-search
 add-next c =
-    let k = counted c in
+    let k = counted (c .before) in
     omega (arith, inside k, length-source (ruleBlock k), start k .pre .setting .matchable .readable .whole .source)
 
 next-candidate-requires : tie.Need-next-candidate-requires Inv-loop μ-loop Inv-search μ-search
-next-candidate-requires c κs = start (counted c) .pre .setting .readable
+next-candidate-requires c κs = start (counted (c .before)) .pre .setting .readable
 
 search-holds : tie.Need-search-holds Inv-loop μ-loop Inv-search μ-search
 search-holds c =
-    let l = c .before in
+    let l = c .before .before in
     let k = counted l in
     let from = start k .args .start in (
       at-next (g k) (r k) (o k) from (headIn (head l .pattern-head .result)) (inside k) (head l .pattern-head .ensures)
@@ -128,7 +145,7 @@ abbrev Turn : Type 0
 Turn = tie.At-search Inv-loop μ-loop Inv-search μ-search
 
 abbrev ready : Turn → Ready
-ready a = a .before .before
+ready a = a .before .before .before
 
 abbrev turn : tie.After-match-candidate Inv-loop μ-loop Inv-search μ-search → Turn
 turn v = v .before .before .before
@@ -162,7 +179,7 @@ loop-holds c =
     let step = v .match-candidate .ensures in (
       left-all (g k) (r k) (o k) (q k) (a .search .first) (headIn (l .before .pattern-head2 .result)) (l .before .pattern-head2 .ensures)
           (listed l) (within k),
-      root-made (g k) (r k) (o k) (a .search .first) step (c .if1 .taken),
+      root-made (g k) (r k) (o k) (a .search .first) step (c .if2 .taken),
       blank-after (step .size) (step .rest) (a .search .inv .1),
       a .search .inv .2,
     )
@@ -243,7 +260,7 @@ loop-again c =
     let k = counted l in
     let step = stepped w in (
       left-next (g k) (r k) (o k) (q k) (a .search .first) (headIn (l .before .pattern-head2 .result)) (l .before .pattern-head2 .ensures)
-          (listed l) (b .loop .k) (b .loop .inv .0) (b .loop .inv .1) step (c .if2 .left),
+          (listed l) (b .loop .k) (b .loop .inv .0) (b .loop .inv .1) step (c .if3 .left),
       rooted-after (g k) (r k) (o k) (a .search .first) (formed (ruleBlock k) (start k .pre .setting .matchable)) step (b .loop .inv .1),
       blank-after (step .size) (step .rest) (b .loop .inv .2),
       b .loop .inv .3,
@@ -285,19 +302,21 @@ search-again c =
       rw (w .1) (blank-after (step .size) (step .rest) (a .search .inv .1)),
       rw (w .2) (a .search .inv .2),
     ))
-    (j .if1 .came)
+    (j .if2 .came)
 
--- ---- the two ends
-
-returns : tie.Need-returns Inv-loop μ-loop Inv-search μ-search
-returns c =
-    let a = c .before in
-    let k = counted (ready a) in
-    nothing-found (graphBlock k) (ruleBlock k) (start k .pre .sound) (o k) (q k ∷ []) (start k .pre .listed) (start k .args .start)
-    (a .search .first) (a .search .inv .0 .passed) (omega (arith, c .search-test .left, all-slots k)) (a .search .inv .2)
+-- ---- the other ends
 
 returns-2 : tie.Need-returns-2 Inv-loop μ-loop Inv-search μ-search
 returns-2 c =
+    let a = c .before in
+    let k = counted (ready a) in
+    let s = start k in
+    nothing-found (graphBlock k) (ruleBlock k) (s .pre .sound) (s .args .start)
+    (all-passed (graphBlock k) (ruleBlock k) (s .pre .sound) (o k) (q k ∷ []) (s .pre .listed) (s .args .start) (a .search .first)
+    (a .search .inv .0 .passed) (omega (arith, c .search-test .left, all-slots k))) (a .search .inv .2)
+
+returns-3 : tie.Need-returns-3 Inv-loop μ-loop Inv-search μ-search
+returns-3 c =
     let w = c .before in
     let b = second w in
     let a = outer b in
@@ -308,7 +327,7 @@ returns-2 c =
     (a .search .first) (getD (l .all-candidates .result .slots) (b .loop .k) 0) (a .search .inv .0 .passed)
     (left-least (g k) (r k) (o k) (q k) (a .search .first) (headIn (l .before .pattern-head2 .result)) (l .before .pattern-head2 .ensures)
     (listed l) (b .loop .k) (b .loop .inv .0) (w .before .before .before .before .loop-test .taken))
-    (b .loop .inv .1) step (c .if2 .taken) (blank-after (step .size) (step .rest) (b .loop .inv .2))
+    (b .loop .inv .1) step (c .if3 .taken) (blank-after (step .size) (step .rest) (b .loop .inv .2))
 
 pub search-pairs-spec : {M : Type 1} → statement M
 search-pairs-spec =
@@ -322,6 +341,8 @@ search-pairs-spec =
     pattern-head-requires
     pattern-head-requires-2
     all-candidates-requires
+    none-found-requires
+    returns
     add-next
     next-candidate-requires
     search-holds
@@ -338,5 +359,5 @@ search-pairs-spec =
     next-candidate-requires-2
     search-less
     search-again
-    returns
-    returns-2)
+    returns-2
+    returns-3)

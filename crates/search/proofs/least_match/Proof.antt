@@ -12,7 +12,7 @@ use Rattle.theory.proofs.Fixing.{sound-fixing}
 use Rattle.graph_check.proofs.Readable.{graph-readable}
 use Rattle.rule_check.proofs.Readable.{rule-readable, output-counts}
 use Rattle.match_look.specs.Head.{headIn}
-use Rattle.match_outputs.proofs.Steps.{Passed, at-next, passed-start, first-inside, nothing-found}
+use Rattle.match_outputs.proofs.Steps.{Passed, at-next, passed-start, first-inside, all-passed, nothing-found}
 use Rattle.search.proofs.Outputs.{some-output}
 use Rattle.search.proofs.Skips.{least-skips}
 use Rattle.search.proofs.least_match.Statement.{statement}
@@ -73,13 +73,19 @@ passed n =
     at-next g r (root t) (start t .args .start) (headIn (h .pattern-head .result)) (inside t) (h .pattern-head .ensures) refl
     (n .next-candidate .ensures) (passed-start g r (root t) (start t .args .start)) .passed
 
+none-found-requires : tie.Need-none-found-requires
+none-found-requires c κs = tt
+
 returns : tie.Need-returns
 returns c =
-    let k = c .before in
+    let e = c .before in
+    let k = e .before in
     let n = k .before in
     let t = n .before .before in
-    nothing-found (graphBlock t) (ruleBlock t) (start t .pre .1) (root t) (others t) (listed t) (start t .args .start)
-    (n .next-candidate .result) (passed n) (omega (arith, k .slot-count .ensures .0, c .if1 .taken)) refl
+    nothing-found (graphBlock t) (ruleBlock t) (start t .pre .1) (start t .args .start)
+    (all-passed (graphBlock t) (ruleBlock t) (start t .pre .1) (root t) (others t) (listed t) (start t .args .start)
+    (n .next-candidate .result) (passed n) (omega (arith, k .slot-count .ensures .0, e .if1 .taken)))
+    (c .none-found .ensures)
 
 search-requires : tie.Need-search-requires
 search-requires c κs = let s = start (c .before .before .before .before) in (s .pre .0, s .pre .1)
@@ -100,6 +106,7 @@ least-match-spec =
     pattern-head-requires
     next-candidate-requires
     slot-count-requires
+    none-found-requires
     returns
     search-requires
     returns-2)
