@@ -1,6 +1,6 @@
 -- What one turn of each loop adds to what is known.
 -- Assumes nothing.
-use mathlib.Core.Path.{_≡_, refl, sym, _∙_}
+use mathlib.Core.Path.{_≡_, _∙_}
 use mathlib.Core.Bool.{Bool, true, false}
 use mathlib.Core.List.{List}
 use mathlib.Core.Logic.{⊎-elim}
@@ -8,11 +8,11 @@ use Prim.Native.Nat.{ℕ, _+_, _<_, _≤_}
 use native.Mathlib.Omega.{arith}
 use borrow.Author.Tests.{eqb-true, eqb-false, ltb-true, ltb-false}
 use lib.Dec.{eqb, ltb}
-use lib.ListN.{length, getD, set, replicate, length-set, length-replicate}
+use lib.ListN.{getD, set, replicate, length-set, length-replicate}
 use lib.Seq.{getD-set-same, getD-set-other}
 use Rattle.definitions.specs.Graph.{slotLimit}
 use Rattle.laws.proofs.Lists.{decided, true-not-false}
-use Rattle.match_candidates.specs.Listed.{NextFrom, Listed}
+use Rattle.match_candidates.specs.Listed.{Listed}
 
 -- ---- the next one: what was passed
 

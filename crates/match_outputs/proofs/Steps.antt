@@ -10,7 +10,7 @@ use native.Mathlib.Omega.{arith}
 use borrow.Author.Tests.{ltb-true, ltb-false}
 use lib.Dec.{ltb}
 use lib.ListN.{length, getD, take, replicate, length-replicate}
-use Rattle.definitions.specs.Graph.{unusedPlace, slotCount, Graph, graphOf}
+use Rattle.definitions.specs.Graph.{unusedPlace, slotCount, Graph, graphOf, slotOf}
 use Rattle.definitions.specs.Rule.{sideCapacity, sourceCount, Rule, ruleOf, sourceOf, SoundRule}
 use Rattle.definitions.specs.Match.{imageOf, Match, MatchFrom, outputImages, NotAfter, leastMatch}
 use Rattle.laws.proofs.Lists.{decided, true-not-false}
@@ -28,7 +28,8 @@ use Rattle.match_images.specs.Partial.{Partial, Extends, Sends, Step}
 use Rattle.match_look.specs.Head.{Head, patternHead}
 use Rattle.match_look.specs.Candidate.{passesLook, isCandidate}
 use Rattle.match_look.proofs.Candidates.{formed, output-candidate}
-use Rattle.match_look.proofs.Look.{match-passes}
+use Rattle.match_look.specs.Look.{look}
+use Rattle.match_look.proofs.Look.{no-match-after-no}
 use Rattle.match_candidates.specs.Listed.{NextFrom}
 use Rattle.matching.proofs.Sound.{rule-matchable}
 use Rattle.match_outputs.specs.Finds.{Finds}
@@ -61,7 +62,9 @@ at-next g r o start h {next = next} l e n found passed = record {
         let x : ℕ = imageOf whole o in
         ⊎-elim
         (λ (t : ltb x next ≡ true).
-        absurd (true-not-false (rw e (match-passes g r whole m o l)) (found .passed x (passed .left whole m s) (ltb-true x next t))))
+        let refused : look (sourceOf r o) (slotOf g x) ≡ false = rw e at (found .passed x (passed .left whole m s) (ltb-true x next t)) in
+        absurd (no-match-after-no r o (slotOf g x) l refused g x
+        record { kind = refl; operator = refl; inputs = refl; attributes = refl } whole m refl))
         (λ (t : ltb x next ≡ false). ltb-false x next t)
         (decided (ltb x next));
   };

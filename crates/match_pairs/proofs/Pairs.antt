@@ -9,17 +9,16 @@ use native.Mathlib.Omega.{arith}
 use borrow.Author.Tests.{eqb-true, eqb-false}
 use lib.Dec.{eqb}
 use lib.ListN.{length, getD}
-use Rattle.definitions.specs.Graph.{slotCount, Graph, graphOf}
+use Rattle.definitions.specs.Graph.{Graph, graphOf}
 use Rattle.definitions.specs.Rule.{sourceCount, Rule, ruleOf, sourceOf, SoundRule}
 use Rattle.definitions.specs.Match.{imageOf, Match, leastMatch}
 use Rattle.laws.proofs.Lists.{decided, true-not-false}
 use Rattle.laws.proofs.Members.{mem-member}
-use Rattle.laws.proofs.Graph.{length-slots}
 use Rattle.laws.proofs.Match.{image-inside}
 use Rattle.theory.proofs.Fixing.{sound-fixing}
 use Rattle.rule_order.specs.InOrder.{InOrder, visitedAfter}
 use Rattle.rule_order.proofs.InOrder.{in-order-rest, in-order-start, in-order-whole}
-use Rattle.match_images.specs.Partial.{Extends, Sends, Step}
+use Rattle.match_images.specs.Partial.{Sends, Step}
 use Rattle.match_images.proofs.Maps.{partial-same}
 use Rattle.match_look.specs.Head.{Head, patternHead}
 use Rattle.match_look.specs.Candidate.{passesLook, isCandidate}

@@ -1,7 +1,7 @@
 -- The loop passes one slot more in each turn, or has the next candidate.
 -- Assumes nothing.
-use mathlib.Core.Path.{_≡_, sym, _∙_}
-use Prim.Native.Nat.{ℕ, _-_, _<_, _≤_, max}
+use mathlib.Core.Path.{sym, _∙_}
+use Prim.Native.Nat.{_-_, _≤_, max}
 use native.Mathlib.Omega.{arith}
 use Rattle.definitions.specs.Graph.{graphOf}
 use Rattle.match_look.specs.Head.{headIn}

@@ -1,6 +1,6 @@
 -- Equal words fit where they are no wildcard's; other words fit a wildcard, where the slot is not Empty.
 -- Assumes nothing.
-use mathlib.Core.Path.{_≡_, refl, sym, _∙_}
+use mathlib.Core.Path.{sym, _∙_}
 use native.Mathlib.Omega.{arith}
 use borrow.Author.Needs.{needs}
 use Rattle.match_look.specs.Head.{headIn}

@@ -6,7 +6,7 @@ use Prim.Native.Nat.{ℕ, _<_}
 use native.Mathlib.Omega.{arith}
 use lib.ListN.{length, drop}
 use Rattle.definitions.specs.Graph.{Graph, graphOf}
-use Rattle.definitions.specs.Rule.{Rule, ruleOf, sourceCount}
+use Rattle.definitions.specs.Rule.{Rule, ruleOf}
 use Rattle.laws.proofs.Rule.{length-source}
 use Rattle.theory.proofs.Fixing.{sound-fixing}
 use Rattle.graph_check.proofs.Readable.{graph-readable}
