@@ -147,7 +147,7 @@ COLOURS = {
 }
 OTHER = "#009E73"
 INK, GRID, FRAME, EQUAL, LIMIT = "#222222", "#E4E4E4", "#666666", "#444444", "#B22222"
-WIDTH, LEFT, RIGHT, HEAD, GAP = 860, 90, 610, 120, 84
+WIDTH, LEFT, RIGHT, HEAD, GAP = 920, 90, 610, 120, 84
 SOLID, DASHED = "", ' stroke-dasharray="7 4"'
 
 # A line has a call, a dash and points; height and ticks are those of the
