@@ -27,7 +27,7 @@
  * Version 2 tells the kinds of fault apart: what was reply 2 (bad graph) is one of
  * 20 to 23, and what was reply 3 (bad rule) one of 30 to 34, each with a place. A
  * caller that needs no more than before asks lg_is_bad_graph and lg_is_bad_rule. */
-#define LEAFGRAPH_VERSION "2.0.0"
+#define LEAFGRAPH_VERSION "2.0.1"
 
 #ifdef __cplusplus
 extern "C" {
