@@ -3,14 +3,14 @@
 use mathlib.Core.Path.{_≡_}
 use mathlib.Core.Bool.{Bool, true, false}
 use mathlib.Core.List.{List}
-use Prim.Native.Nat.{ℕ, _<_, _≤_}
+use Prim.Native.Nat.{ℕ, _<_, _≤_, max}
 use lib.ListN.{length, getD}
 use Rattle.definitions.specs.Graph.{slotLimit}
 
--- r is the lowest number from `from` on, and below `end`, of which p holds; where there is none, r is `end` or `from`, whichever is greater
+-- r is the lowest number from `from` on, and below `end`, of which p holds; where there is none, r is `from` or `end`, whichever is greater
 pub record NextFrom (p : ℕ → Bool) (from end r : ℕ) : Type 0 where
   pub begun : from ≤ r
-  pub near : from ≤ end → r ≤ end
+  pub near : r ≤ max from end
   pub holds : r < end → p r ≡ true
   pub passed : (k : ℕ) → from ≤ k → k < r → p k ≡ false
 

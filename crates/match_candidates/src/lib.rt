@@ -1,5 +1,5 @@
-// The slots that pass the look for a source vertex, in ascending order. Each slot's head is looked at once: what the look turns away costs
-// a pass over the heads, and nothing of a match is tried for it.
+// The slots that pass the look for a source vertex, in ascending order. A pass over the heads finds them; of a match nothing is tried for
+// what the look turns away. An output may be named from anywhere, so that for an output these are the candidates.
 use definitions::SLOT_LIMIT;
 use graph_fields::slot_count;
 use match_look::passes_look;

@@ -1,5 +1,5 @@
-// The look at a candidate before its inputs are entered: what can be told from its own record and from how often it is named. It turns
-// away most candidates.
+// What is asked of a slot before its inputs are entered: the look at its kind, operator and counts, which turns away most slots, and then
+// how often it is named.
 use definitions::KIND_EMPTY;
 use definitions::SLOT_LIMIT;
 use graph_fields::attribute_count;
@@ -67,8 +67,8 @@ fn kind_in(head: u32) -> usize
 }
 
 // The look: it takes nothing but the four numbers of each record. A wildcard, of kind 0, takes any slot that is not Empty; another
-// pattern takes a slot with the same four numbers. These are compared first: in a pass over the heads that is all that most slots are
-// asked, since what the pattern is does not change.
+// pattern takes a slot with the same four numbers. These are compared first, since whether the pattern is a wildcard does not change in a
+// pass over the heads: the compiler asks it once.
 pub fn head_fits(pattern: u32, slot: u32) -> bool
     ensures { λ r. ⌜ Looked pattern slot r ⌝ }
 {

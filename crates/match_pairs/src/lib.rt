@@ -18,7 +18,8 @@ ghost use Rattle.match_outputs.specs.Finds.{SearchReady, Finds};
 
 // The nested search: the first output, source vertex `root`, from `start` up, and for each image of it the second, `last`, from 0 up. The
 // slots that pass the look for the second are listed once, so that what it turns away is not looked at again for every first image.
-// The array is lent to every step: a step that fails leaves the images that it was given.
+// The array is lent to every step: a step that fails leaves the images that it was given, which after the first output's step are those
+// of the first `next` vertices.
 pub fn search_pairs(
     graph: &[u8],
     rule: &[u8],
@@ -34,8 +35,8 @@ pub fn search_pairs(
 {
     let slots = slot_count(graph);
     let head = pattern_head(rule, root);
-    let seconds = all_candidates(graph, pattern_head(rule, last));
-    if seconds.count == 0 {
+    let candidates = all_candidates(graph, pattern_head(rule, last));
+    if candidates.count == 0 {
         return none_found();
     }
     let next = root + 1;
@@ -45,8 +46,8 @@ pub fn search_pairs(
     'search: while first < slots {
         if match_candidate(graph, rule, uses, demands, root, first, 0, &mut images) {
             let mut k = 0;
-            while k < seconds.count {
-                let second = widened(seconds.slots[k]);
+            while k < candidates.count {
+                let second = widened(candidates.slots[k]);
                 if match_candidate(graph, rule, uses, demands, last, second, next, &mut images) {
                     ok = true;
                     break 'search;

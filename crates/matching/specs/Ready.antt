@@ -42,7 +42,8 @@ pub record InputsReady (graph rule used demanded : List ℕ) (j v i next : ℕ) 
   pub partial : Partial (graphOf graph) (ruleOf rule) next images
   pub order : InOrder (ruleOf rule) next (drop i (sourceInputs (ruleOf rule) j))
 
--- After a no of the look, vertex matching says no, and no image is written: no input was entered, which asks for a candidate.
+-- After a no of the look, vertex matching says no, and the images are as they were. That it enters no input on the way is no matter of values:
+-- it goes to inputs by way of CandidateReady and InputsReady alone, and both ask for a candidate.
 abbrev pub AfterNo : Graph → Rule → ℕ → ℕ → ℕ → List ℕ → Bool → List ℕ → Type 0
 AfterNo g r j v next images ok made =
     next ≤ j → look (sourceOf r j) (slotOf g v) ≡ false → (ok ≡ false) × (made ≡ images)

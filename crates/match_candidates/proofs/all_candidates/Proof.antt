@@ -31,7 +31,7 @@ loop-holds c =
     let s = c .before .before .before in
     let next = c .next-candidate .ensures in
     let n = c .before .slot-count .ensures .0 in (
-      omega (arith, next .near (omega arith)),
+      omega (arith, next .near),
       λ l. next .holds (omega arith),
       listed-past (listed-none (passesLook (headIn (s .args .head)) (graphOf (s .args .graph .now)))) (c .next-candidate .result)
           (next .begun) (next .passed),
@@ -75,7 +75,7 @@ loop-again c =
     let a = i .before in
     let n = a .before .before .slot-count .ensures .0 in
     let next = c .next-candidate2 .ensures in (
-      omega (arith, next .near (omega (arith, i .loop-test .taken))),
+      omega (arith, next .near, i .loop-test .taken),
       λ l. next .holds (omega arith),
       listed-past (listed-put (a .loop .inv .2) (room i) (a .loop .inv .1 (i .loop-test .taken))) (c .next-candidate2 .result)
           (next .begun) (next .passed),

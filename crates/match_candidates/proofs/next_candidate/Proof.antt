@@ -36,7 +36,7 @@ returns c =
     let n = a .before .slot-count .ensures .0 in
     record {
       begun = a .loop .inv .0;
-      near = λ h. omega (arith, d .before .loop-test .taken);
+      near = omega (arith, a .loop .inv .1);
       holds = λ h. sym (d .passes-look .ensures) ∙ c .if1 .taken;
       passed = a .loop .inv .2;
     }
@@ -66,7 +66,7 @@ returns-2 c =
     let n = a .before .slot-count .ensures .0 in
     record {
       begun = a .loop .inv .0;
-      near = λ h. omega (arith, a .loop .inv .1);
+      near = omega (arith, a .loop .inv .1);
       holds = λ h. absurd (omega (arith, c .loop-test .left));
       passed = a .loop .inv .2;
     }

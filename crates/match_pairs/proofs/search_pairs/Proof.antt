@@ -23,19 +23,19 @@ use Rattle.match_pairs.proofs.search_pairs.Statement.{statement}
 use Rattle.match_pairs.proofs.search_pairs.Tie as tie
 
 abbrev Inv-loop : tie.InvT-loop
-Inv-loop graph rule uses demands root last start slots head seconds next images₀ ok₀ first k₀ images ok k =
-    Left (graphOf graph) (ruleOf rule) root last first (seconds .slots) (seconds .count) k
+Inv-loop graph rule uses demands root last start slots head candidates next images₀ ok₀ first k₀ images ok k =
+    Left (graphOf graph) (ruleOf rule) root last first (candidates .slots) (candidates .count) k
     × Rooted (graphOf graph) (ruleOf rule) root first images × Blank (ruleOf rule) images × (ok ≡ false)
 
 abbrev μ-loop : tie.MeasureT-loop
-μ-loop graph rule uses demands root last start slots head seconds next images₀ ok₀ first k₀ images ok k = seconds .count - k
+μ-loop graph rule uses demands root last start slots head candidates next images₀ ok₀ first k₀ images ok k = candidates .count - k
 
 abbrev Inv-search : tie.InvT-search
-Inv-search graph rule uses demands root last start slots head seconds next images₀ ok₀ first₀ images ok first =
+Inv-search graph rule uses demands root last start slots head candidates next images₀ ok₀ first₀ images ok first =
     AtCandidate (graphOf graph) (ruleOf rule) root start (headIn head) slots first × Blank (ruleOf rule) images × (ok ≡ false)
 
 abbrev μ-search : tie.MeasureT-search
-μ-search graph rule uses demands root last start slots head seconds next images₀ ok₀ first₀ images ok first = slots - first
+μ-search graph rule uses demands root last start slots head candidates next images₀ ok₀ first₀ images ok first = slots - first
 
 -- ---- before the loops
 
@@ -206,28 +206,6 @@ element-copy-out-widened c = omega (arith, c .loop-test .taken, most (c .before)
 widened-requires : tie.Need-widened-requires Inv-loop μ-loop Inv-search μ-search
 widened-requires c κs = tt
 
-match-candidate-requires-2 : tie.Need-match-candidate-requires-2 Inv-loop μ-loop Inv-search μ-search
-match-candidate-requires-2 c κs =
-    let w = c .before in
-    let i = w .before .before in
-    let b = i .before in
-    let l = ready (outer b) in
-    let k = counted l in
-    let s = start k in
-    let taken = i .loop-test .taken in
-    let e = w .widened .ensures in
-    record {
-      setting = s .pre .setting;
-      vertex = omega (arith, within k, length-source (ruleBlock k));
-      slot = omega (arith, e, listed l .below (b .loop .k) taken, length-slots (graphBlock k));
-      candidate = second-candidate (graphBlock k) (ruleBlock k) (s .pre .sound) (o k) (q k) (s .pre .listed)
-          (headIn (l .before .pattern-head2 .result)) (l .before .pattern-head2 .ensures) (w .widened .result)
-          (rw e (listed l .holds (b .loop .k) taken));
-      fresh = omega (arith, second-later (graphBlock k) (ruleBlock k) (s .pre .sound) (o k) (q k) (s .pre .listed));
-      partial = b .loop .inv .1 .partial;
-      order = second-in-order (graphBlock k) (ruleBlock k) (s .pre .sound) (o k) (q k) (s .pre .listed);
-    }
-
 -- the step for the second output, by the place in the list
 abbrev Tried : Type 0
 Tried = tie.After-match-candidate2 Inv-loop μ-loop Inv-search μ-search
@@ -265,6 +243,28 @@ loop-again c =
       blank-after (step .size) (step .rest) (b .loop .inv .2),
       b .loop .inv .3,
     )
+
+match-candidate-requires-2 : tie.Need-match-candidate-requires-2 Inv-loop μ-loop Inv-search μ-search
+match-candidate-requires-2 c κs =
+    let w = c .before in
+    let i = w .before .before in
+    let b = i .before in
+    let l = ready (outer b) in
+    let k = counted l in
+    let s = start k in
+    let taken = i .loop-test .taken in
+    let e = w .widened .ensures in
+    record {
+      setting = s .pre .setting;
+      vertex = omega (arith, within k, length-source (ruleBlock k));
+      slot = omega (arith, e, listed l .below (b .loop .k) taken, length-slots (graphBlock k));
+      candidate = second-candidate (graphBlock k) (ruleBlock k) (s .pre .sound) (o k) (q k) (s .pre .listed)
+          (headIn (l .before .pattern-head2 .result)) (l .before .pattern-head2 .ensures) (w .widened .result)
+          (rw e (listed l .holds (b .loop .k) taken));
+      fresh = omega (arith, second-later (graphBlock k) (ruleBlock k) (s .pre .sound) (o k) (q k) (s .pre .listed));
+      partial = b .loop .inv .1 .partial;
+      order = second-in-order (graphBlock k) (ruleBlock k) (s .pre .sound) (o k) (q k) (s .pre .listed);
+    }
 
 -- ---- the next first image
 
