@@ -1,5 +1,5 @@
-//! What is timed: searches that have to look at everything, rewritings at the
-//! end of such a search, and the checks.
+//! What is timed: searches that have to look at everything or, to compare with,
+//! at nothing, rewritings at the end of such a search, and the checks.
 
 use std::hint::black_box;
 

@@ -25,8 +25,8 @@ pub const CLASSES: [&str; 17] = [
     "second image not the first slot like its output, found",
     "outputs like each other, found",
     "outputs like each other, none",
-    "input of a candidate turned away, found",
-    "input of a candidate turned away, none",
+    "input of a candidate unlike its pattern, found",
+    "input of a candidate unlike its pattern, none",
     "turned away by the operator alone, found",
     "turned away by the input count alone, found",
     "turned away by kind and operator alone, found",
@@ -50,7 +50,7 @@ impl Search<'_> {
         [self.passed(), self.turned_away()].concat()
     }
 
-    /// Which slots pass the look, and whether it turns an input of one away.
+    /// Which slots pass the look, and whether an input of one would not.
     fn passed(&self) -> Vec<Class> {
         let (found, two) = (self.found(), self.has_two_outputs());
         let slots = self.graph.slot_count();
@@ -60,7 +60,7 @@ impl Search<'_> {
         let candidate = some_like(from_start.clone(), 0);
         let all = from_start.len() > 1 && from_start.all(|slot| self.is_like(slot, 0));
         let alike = two && self.output(0).head() == self.output(1).head();
-        let below = self.has_input_turned_away();
+        let below = self.has_unlike_input();
         vec![
             ("no slot from the start on, none", self.start >= slots),
             ("no candidate, none", self.start < slots && !candidate),
@@ -76,8 +76,8 @@ impl Search<'_> {
             ),
             ("outputs like each other, found", found && alike),
             ("outputs like each other, none", !found && alike),
-            ("input of a candidate turned away, found", found && below),
-            ("input of a candidate turned away, none", !found && below),
+            ("input of a candidate unlike its pattern, found", found && below),
+            ("input of a candidate unlike its pattern, none", !found && below),
         ]
     }
 
@@ -113,7 +113,7 @@ impl Search<'_> {
 
     /// Whether a candidate that was tried without success has an input that is
     /// not like its pattern.
-    fn has_input_turned_away(&self) -> bool {
+    fn has_unlike_input(&self) -> bool {
         let candidates = self.tried(0).filter(|&slot| self.is_like(slot, 0));
         let mut pairs = candidates
             .flat_map(|slot| self.output(0).inputs().zip(self.graph.slot(slot).inputs()))
