@@ -8,7 +8,7 @@ use lib.Dec.{T}
 use lib.ListN.{length, getD}
 use Rattle.definitions.specs.Fields.{byteAt}
 use Rattle.definitions.specs.Reply.{numberIn}
-use Rattle.definitions.specs.Graph.{slotBytes, recordAt, Slot, Graph, graphOf, slotOf, inputsOf, slotBlock}
+use Rattle.definitions.specs.Graph.{slotBytes, recordAt, Slot, Graph, renamed, graphOf, slotOf, inputsOf, slotBlock}
 use Rattle.definitions.specs.Rule.{sourceCount, Rule, ruleOf}
 use Rattle.definitions.specs.Match.{outputImages}
 use Rattle.definitions.specs.Rewriting.{stays, redirect, stayingSlot, newGraph}
@@ -25,7 +25,7 @@ use Rattle.answers.specs.Statements.{Rewrote, KeptConst}
 use Rattle.answers.proofs.Demands.{accepted, table, at, shared-stays, shared-unmoved, shared-plain}
 
 slot-kept : (g : Graph) (r : Rule) (images : List ℕ) (k : ℕ) → ReadsNone g r images k → stayingSlot g r images k ≡ slotOf g k
-unfolding stayingSlot
+unfolding renamed stayingSlot
 slot-kept g r images k none =
     ap (λ l. record { kind = slotOf g k .kind; operator = slotOf g k .operator; inputs = l; attributes = slotOf g k .attributes })
     (map-same (redirect g r images) (λ v. v) (inputsOf g k) (λ v m. redirect-other g r images v (no-member v (outputImages r images) (none v m))) ∙ map-id (inputsOf g k))

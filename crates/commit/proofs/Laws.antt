@@ -12,8 +12,10 @@ use Rattle.definitions.specs.Graph.{headerBytes, slotBytes, tailOffset, tailByt
 use Rattle.laws.proofs.Parts.{putPart, length-part, part-more}
 use Rattle.encoding.proofs.Pieces.{in-pieces}
 use Rattle.encoding.proofs.Numbers.{u32-bytes}
-use Rattle.graph_records.specs.Records.{fieldsAt}
-use Rattle.commit.specs.Tables.{Committed, slotAt}
+use Rattle.graph_records.specs.Records.{fieldsAt, slotAt}
+use Rattle.graph_slots.specs.Written.{SlotWritten}
+use Rattle.graph_slots.proofs.Laws.{written-length, next-slot}
+use Rattle.commit.specs.Tables.{Committed}
 
 -- equal words of bytes are equal bytes
 pub words-same : (graph table : List ℕ) → Bytes graph → Bytes table → (at : ℕ)
@@ -56,29 +58,18 @@ written-header graph table bytes size l same =
     }
 
 module _ (graph table : List ℕ) (k : ℕ) (before : Committed (recordAt k) graph table) where
-  to-next : recordAt (k + 1) ≡ recordAt k + slotBytes
-  to-next = omega arith
-
   pub kept-slot : slotAt graph (recordAt k) ≡ slotAt table (recordAt k) → Committed (recordAt (k + 1)) graph table
-  unfolding slotAt
   kept-slot same = record {
     size = before .size;
-    front = rw to-next
-        (take-add (recordAt k) slotBytes graph ∙ ap₂ _++_ (before .front) same ∙ sym (take-add (recordAt k) slotBytes table));
+    front = next-slot k graph ∙ ap₂ _++_ (before .front) same ∙ sym (next-slot k table);
   }
 
-  pub written-slot : (bytes : List ℕ) → recordAt k + slotBytes ≤ length table → length bytes ≡ slotBytes
-      → bytes ≡ slotAt table (recordAt k) → Committed (recordAt (k + 1)) (putPart (recordAt k) (recordAt k + slotBytes) graph bytes) table
-  unfolding slotAt
-  written-slot bytes l size same =
-      let at = recordAt k in
-      let end = at + slotBytes in
-      record {
-        size = length-part at end graph bytes (omega arith) (omega arith) (omega (arith, before .size)) ∙ before .size;
-        front = rw to-next
-            (part-more at end graph bytes (omega arith) (omega arith) (take at table) (omega (arith, before .size)) (before .front)
-            ∙ ap (λ (t : List ℕ). take at table ++ t) same ∙ sym (take-add at slotBytes table));
-      }
+  pub written-slot : {after bytes : List ℕ} → SlotWritten k bytes graph after → recordAt (k + 1) ≤ length table → length bytes ≡ slotBytes
+      → bytes ≡ slotAt table (recordAt k) → Committed (recordAt (k + 1)) after table
+  written-slot written l size same = record {
+    size = written-length written (omega (arith, before .size)) size ∙ before .size;
+    front = written .front ∙ ap₂ _++_ (before .front) same ∙ sym (next-slot k table);
+  }
 
 -- all of them
 pub committed-all : (n : ℕ) (graph table : List ℕ) → Committed n graph table → length table ≤ n → graph ≡ table

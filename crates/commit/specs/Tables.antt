@@ -1,14 +1,9 @@
--- A record's bytes, and how far a block holds the table that is to be committed.
+-- How far a block holds the table that is to be committed.
 -- Assumes nothing.
 use mathlib.Core.Path.{_≡_}
 use mathlib.Core.List.{List}
 use Prim.Native.Nat.{ℕ}
-use lib.ListN.{length, take, drop}
-use Rattle.definitions.specs.Graph.{slotBytes}
-
--- the 48 bytes of the record that starts at `at`
-unfoldable pub slotAt : List ℕ → ℕ → List ℕ
-slotAt block at = take slotBytes (drop at block)
+use lib.ListN.{length, take}
 
 -- the graph's first n bytes are the table's, and it is as long
 pub record Committed (n : ℕ) (graph table : List ℕ) : Type 0 where

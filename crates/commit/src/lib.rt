@@ -6,7 +6,7 @@ use definitions::TAIL_OFFSET;
 use fields::u32_at;
 use graph_fields::slot_count;
 use graph_records::read_record;
-use graph_records::write_record;
+use graph_slots::write_slot;
 use writing::copy;
 ghost use mathlib.Core.Path.{_≡_};
 ghost use mathlib.Core.Bool.{true};
@@ -14,7 +14,8 @@ ghost use Prim.Native.Nat.{_+_, _<_, _≤_};
 ghost use lib.ListN.{length};
 ghost use Rattle.definitions.specs.Graph.{slotBytes, slotCount, recordAt};
 ghost use Rattle.graph_fields.specs.Layout.{WholeGraph};
-ghost use Rattle.commit.specs.Tables.{Committed, slotAt};
+ghost use Rattle.graph_records.specs.Records.{slotAt};
+ghost use Rattle.commit.specs.Tables.{Committed};
 
 // The 32-bit words of a record.
 const RECORD_WORDS: usize = SLOT_BYTES / 4;
@@ -37,8 +38,7 @@ fn same_record(graph: &[u8], table: &[u8], at: usize) -> bool
     true
 }
 
-// Writes slot k, where all before it is written: the 48-byte part of the lent graph is lent on to the record writer. A record that does
-// not change is not written again; that is for speed alone.
+// Writes slot k, where all before it is written. A record that does not change is not written again; that is for speed alone.
 fn commit_slot(graph: &mut [u8], table: &[u8], k: usize)
     requires { ⌜ WholeGraph (now table) ⌝ }
     requires { ⌜ k < slotCount (now table) ⌝ }
@@ -52,7 +52,7 @@ fn commit_slot(graph: &mut [u8], table: &[u8], k: usize)
     let record = read_record(table, at);
     let end = at + SLOT_BYTES;
     let tail = at + TAIL_OFFSET;
-    write_record(&mut graph[at..end], record, &table[tail..end]);
+    write_slot(graph, k, record, &table[tail..end]);
 }
 
 // Writes the new table over the old one, which is as long.

@@ -2,7 +2,7 @@
 -- Assumes nothing.
 use mathlib.Core.Path.{_≡_}
 use mathlib.Core.Bool.{Bool, true, false, not, _&&_, _||_}
-use mathlib.Core.List.{List, [], _∷_, _++_, List·Memᴰ}
+use mathlib.Core.List.{List, [], _∷_, _++_, map, List·Memᴰ}
 use Prim.Native.Nat.{ℕ, _+_, _-_, _*_, _<_}
 use lib.Dec.{eqb, ltb}
 use lib.IntN.{ℤ, pos, negsuc}
@@ -10,7 +10,7 @@ use lib.ListN.{length, getD, replicate}
 use Rattle.definitions.specs.declared.Reply.{Reply}
 use Rattle.definitions.specs.Lists.{within, lowest, total, tabulate, all, padded, concatMap, count}
 use Rattle.definitions.specs.Fields.{byteAt, u16At, u32At, filled, markFits, signed, u16Bytes, u32Bytes}
-use Rattle.definitions.specs.Operators.{kindEmpty, kindProj, shapeFits}
+use Rattle.definitions.specs.Operators.{kindEmpty, kindVariable, kindProj, shapeFits}
 use Rattle.definitions.specs.Paths.{Reads, Acyclic, onCycle}
 use Rattle.definitions.specs.Reply.{badGraphHeader, badGraphRecord, badGraphName, graphHasCycle, Fault, fault, flag, place, judged}
 
@@ -93,6 +93,10 @@ pub record Graph : Type 0 where
 unfoldable pub emptySlot : Slot
 emptySlot = record { kind = kindEmpty; operator = 0; inputs = []; attributes = [] }
 
+-- the slot with what each of its inputs names passed through `to`; nothing else changes
+unfoldable pub renamed : (ℕ → ℕ) → Slot → Slot
+renamed to s = record { kind = s .kind; operator = s .operator; inputs = map to (s .inputs); attributes = s .attributes }
+
 -- the slot whose record starts at `at`
 unfoldable pub slotFrom : List ℕ → ℕ → Slot
 slotFrom block at = record {
@@ -117,6 +121,9 @@ inputsOf g v = slotOf g v .inputs
 -- a vertex is a slot that is not Empty
 unfoldable pub isVertex : Graph → ℕ → Bool
 isVertex g v = not (eqb (slotOf g v .kind) kindEmpty)
+
+unfoldable pub isVariable : Graph → ℕ → Bool
+isVariable g v = eqb (slotOf g v .kind) kindVariable
 
 -- how many input places name slot v
 unfoldable pub readsOf : Graph → ℕ → ℕ

@@ -12,4 +12,6 @@ pub mod Attributes
 pub mod Match
 pub mod Rewriting
 pub mod Operations
+pub mod Sweep
+pub mod Squeeze
 pub mod Results

@@ -15,6 +15,12 @@ pub data Reaches (inputs : ℕ → List ℕ) (u : ℕ) : ℕ → Type 0 where
   here : Reaches inputs u u
   onward : {v w : ℕ} → Reaches inputs u v → Reads inputs w v → Reaches inputs u w
 
+-- v has a path to one of the starts; every start has, by the empty path
+pub record ReachesOne (inputs : ℕ → List ℕ) (starts : List ℕ) (v : ℕ) : Type 0 where
+  pub start : ℕ
+  pub listed : List·Memᴰ start starts
+  pub path : Reaches inputs v start
+
 -- v is on a cycle: it has a path of one or more edges to itself, the last of them from w
 abbrev pub OnCycle : (ℕ → List ℕ) → ℕ → Type 0
 OnCycle inputs v = (w : ℕ) × Reaches inputs v w × Reads inputs v w

@@ -54,6 +54,9 @@ noRoom = 6
 abbrev pub newCycle : ℕ
 newCycle = 7
 
+abbrev pub badMovesLength : ℕ
+badMovesLength = 40
+
 -- done, without a value: no request names one yet
 abbrev pub done : Reply
 done = Done 0
@@ -127,3 +130,8 @@ unfoldable pub firstRefusal : List Reply → Reply
 firstRefusal [] = done
 firstRefusal (Done value ∷ replies) = firstRefusal replies
 firstRefusal (Refused why ∷ replies) = Refused why
+
+-- what a lent block holds at the return: `after` where the reply is done; a refusal leaves it as it came
+unfoldable pub whereDone : Reply → List ℕ → List ℕ → List ℕ
+whereDone (Done value) after before = after
+whereDone (Refused why) after before = before

@@ -1,7 +1,7 @@
 -- Demand 3's words: results of vertices, and the results of a rule for one match.
 -- Assumes nothing.
 use mathlib.Core.Path.{_≡_}
-use mathlib.Core.Bool.{cond, not}
+use mathlib.Core.Bool.{true, cond, not}
 use mathlib.Core.List.{List, [], map, List·Memᴰ}
 use Prim.Native.Nat.{ℕ, _<_}
 use lib.Dec.{T, eqb}
@@ -10,7 +10,7 @@ use lib.ListN.{length, getD}
 use Rattle.definitions.specs.Fields.{wordOf}
 use Rattle.definitions.specs.Operators.{kindVariable}
 use Rattle.definitions.specs.Paths.{Reaches}
-use Rattle.definitions.specs.Graph.{Graph, slotOf, inputsOf, isVertex, unusedPlace}
+use Rattle.definitions.specs.Graph.{Graph, slotOf, inputsOf, isVertex, isVariable, unusedPlace}
 use Rattle.definitions.specs.Rule.{Origin, given, made, Rule, sourceOf, targetOf, isRuleInput}
 use Rattle.definitions.specs.Match.{imageOf}
 use Rattle.definitions.specs.Rewriting.{stays}
@@ -60,6 +60,12 @@ module _ {ℓ} {R : Type ℓ} (m : Meaning R) where
       (source target : ℕ → R) → AreSourceResults g r images source → AreTargetResults r values source target
       → (k : ℕ) → k < length (r .sourceOutputs)
       → originResult source target (getD (r .targetOutputs) k (made 0)) ≡ source (getD (r .sourceOutputs) k 0)
+
+-- Where slots get new numbers, `to v` for v, "a Variable's result follows it to its new number": `after` has the functions of m, and
+-- gives at `to v` what m gives at v, for every Variable v.
+pub record Follows {ℓ} {R : Type ℓ} (g : Graph) (to : ℕ → ℕ) (m after : Meaning R) : Type ℓ where
+  pub function : after .function ≡ m .function
+  pub variable : (v : ℕ) → isVariable g v ≡ true → after .variable (to v) ≡ m .variable v
 
 -- v has no path to it, in the old table, from a replaced output
 abbrev pub Untouched : Graph → Rule → List ℕ → ℕ → Type 0

@@ -11,7 +11,7 @@ use lib.ListN.{length, getD}
 use Rattle.definitions.specs.Lists.{tabulate, all, filter, member, position, range}
 use Rattle.definitions.specs.Fields.{wordOf}
 use Rattle.definitions.specs.Operators.{kindProj}
-use Rattle.definitions.specs.Graph.{unusedPlace, Slot, Graph, emptySlot, slotOf, isVertex, atLeastOne}
+use Rattle.definitions.specs.Graph.{unusedPlace, Slot, Graph, emptySlot, renamed, slotOf, isVertex, atLeastOne}
 use Rattle.definitions.specs.Rule.{Expression, Origin, given, made, Pattern, Rule, targetOf, isRuleInput}
 use Rattle.definitions.specs.Attributes.{result}
 use Rattle.definitions.specs.Match.{imageOf, isConst, imagesWhere, Private, isPrivate, outputImages}
@@ -100,12 +100,7 @@ targetSlot g r images values t = record {
 }
 
 unfoldable pub stayingSlot : Graph → Rule → List ℕ → ℕ → Slot
-stayingSlot g r images k = record {
-  kind = slotOf g k .kind;
-  operator = slotOf g k .operator;
-  inputs = map (redirect g r images) (slotOf g k .inputs);
-  attributes = slotOf g k .attributes;
-}
+stayingSlot g r images k = renamed (redirect g r images) (slotOf g k)
 
 -- slot k of the new table: what stays, redirected; the target vertex that took it; or Empty
 unfoldable pub newSlot : Graph → Rule → List ℕ → List (List ℤ) → ℕ → Slot

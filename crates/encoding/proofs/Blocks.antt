@@ -8,7 +8,8 @@ use Prim.Native.Nat.{ℕ, _+_, _*_, _^_, _<_, _≤_}
 use native.Mathlib.Omega.{arith}
 use borrow.Author.Tests.{leb-true, ltb-true, ltb-false}
 use lib.Dec.{eqb, ltb, leb}
-use lib.ListN.{length, getD, List·getD-eq-default}
+use lib.ListN.{length, getD, take, drop, length-drop, List·getD-eq-default}
+use lib.Seq.{length-take-le, getD-take, getD-drop, take-at, ext-getD}
 use Rattle.definitions.specs.Fields.{byteAt, signed, filled}
 use Rattle.definitions.specs.Operators.{kindEmpty, kindProj, shapeFits}
 use Rattle.definitions.specs.Paths.{Acyclic}
@@ -35,7 +36,7 @@ records g = recordsBlock g (length (g .slots))
 module _ (g : Graph) (table : Table g) where
   -- ---- what the graph's counts are, and its inputs
 
-  few-slots : length (g .slots) ≤ slotLimit
+  pub few-slots : length (g .slots) ≤ slotLimit
   few-slots =
       leb-true (length (g .slots)) slotLimit (and-right (leb 1 (length (g .slots))) (leb (length (g .slots)) slotLimit) (table .size))
 
@@ -44,7 +45,7 @@ module _ (g : Graph) (table : Table g) where
       leb-true (length (g .outputs)) outputLimit
       (and-right (leb 1 (length (g .outputs))) (leb (length (g .outputs)) outputLimit) (table .outputCount))
 
-  shaped : (k : ℕ) → k < length (g .slots)
+  pub shaped : (k : ℕ) → k < length (g .slots)
       → shapeFits (slotOf g k .kind) (slotOf g k .operator) (length (slotOf g k .inputs)) (length (slotOf g k .attributes)) ≡ true
   unfolding slotFits
   shaped k l =
@@ -52,15 +53,15 @@ module _ (g : Graph) (table : Table g) where
       and-left (shapeFits (s .kind) (s .operator) (length (s .inputs)) (length (s .attributes)))
       (not (eqb (s .kind) kindProj) || atLeastOne (signed (getD (s .attributes) 0 0))) (table .shapes k l)
 
-  inputs-fit : (k : ℕ) → k < length (g .slots) → length (inputsOf g k) ≤ inputLimit
+  pub inputs-fit : (k : ℕ) → k < length (g .slots) → length (inputsOf g k) ≤ inputLimit
   inputs-fit k l =
       let s = slotOf g k in few-inputs (s .kind) (s .operator) (length (s .inputs)) (length (s .attributes)) (shaped k l)
 
-  attributes-fit : (k : ℕ) → k < length (g .slots) → length (slotOf g k .attributes) ≤ attributeLimit
+  pub attributes-fit : (k : ℕ) → k < length (g .slots) → length (slotOf g k .attributes) ≤ attributeLimit
   attributes-fit k l =
       let s = slotOf g k in few-attributes (s .kind) (s .operator) (length (s .inputs)) (length (s .attributes)) (shaped k l)
 
-  input-inside : (k i : ℕ) → i < length (inputsOf g k) → getD (inputsOf g k) i unusedPlace < length (g .slots)
+  pub input-inside : (k i : ℕ) → i < length (inputsOf g k) → getD (inputsOf g k) i unusedPlace < length (g .slots)
   input-inside k i l =
       let v = getD (inputsOf g k) i unusedPlace in vertex-inside g v (table .inputs k v (mem-at (inputsOf g k) i unusedPlace l))
 
@@ -70,7 +71,7 @@ module _ (g : Graph) (table : Table g) where
 
   -- ---- where the block holds the header and the records
 
-  sized : (k : ℕ) → k < length (g .slots) → length (recordBlock g k) ≡ slotBytes
+  pub sized : (k : ℕ) → k < length (g .slots) → length (recordBlock g k) ≡ slotBytes
   sized k l = length-slot (slotOf g k) (inputs-fit k l) (attributes-fit k l) (slotTail g k) (length-tail g k)
 
   length-headed : length (header g) ≡ headerBytes
@@ -95,6 +96,22 @@ module _ (g : Graph) (table : Table g) where
       let e : recordAt k + i ≡ headerBytes + (slotBytes * k + i) = omega arith in
       rw e (at-second (header g) (records g) headerBytes (slotBytes * k + i) 0 length-headed
       ∙ numbered-at (recordBlock g) slotBytes (length (g .slots)) (λ j. j) sized k i 0 l m)
+
+  -- so they can be cut out
+  pub record-cut : (k : ℕ) → k < length (g .slots) → take slotBytes (drop (recordAt k) (graphBlock g)) ≡ recordBlock g k
+  record-cut k l =
+      let run = take slotBytes (drop (recordAt k) (graphBlock g)) in
+      let long : length run ≡ slotBytes =
+      length-take-le slotBytes (drop (recordAt k) (graphBlock g)) (simp length-drop (omega (arith, block-length))) in
+      ext-getD 0 run (recordBlock g k) (long ∙ sym (sized k l))
+      (λ i m.
+      let inside : i < slotBytes = omega arith in
+      getD-take slotBytes (drop (recordAt k) (graphBlock g)) i 0 inside ∙ getD-drop (recordAt k) (graphBlock g) i 0
+      ∙ record-held k l i inside)
+
+  pub header-cut : take headerBytes (graphBlock g) ≡ header g
+  unfolding graphBlock
+  header-cut = take-at (header g) (records g) headerBytes length-headed
 
   -- ---- what is read from it
 
@@ -198,7 +215,7 @@ module _ (g : Graph) (table : Table g) where
 
   module _ (words : Words g) where
     -- an attribute is a word, and so is what stands past the last
-    word-at : (k : ℕ) → k < length (g .slots) → (i : ℕ) → getD (slotOf g k .attributes) i 0 < 2 ^ 32
+    pub word-at : (k : ℕ) → k < length (g .slots) → (i : ℕ) → getD (slotOf g k .attributes) i 0 < 2 ^ 32
     word-at k inside i =
         let xs = slotOf g k .attributes in
         ⊎-elim (λ (t : ltb i (length xs) ≡ true).

@@ -8,11 +8,11 @@ use Prim.Native.Nat.{ℕ, _+_, _*_, _^_, _<_}
 use native.Mathlib.Omega.{arith}
 use borrow.Author.Tests.{eqb-true}
 use lib.Dec.{eqb}
-use lib.ListN.{length, getD}
+use lib.ListN.{length, getD, length-map}
 use lib.Seq.{ext-getD}
 use Rattle.definitions.specs.Fields.{byteAt, Bytes, u32At, signed}
 use Rattle.definitions.specs.Operators.{kindProj, rowOf, kinds, shapeFits}
-use Rattle.definitions.specs.Graph.{headerBytes, slotBytes, attributesOffset, slotCount, outputCount, recordAt, Slot, slotFrom, graphOf, slotTail, slotBlock, headerBlock, graphBlock, atLeastOne, recordFits, SoundGraph}
+use Rattle.definitions.specs.Graph.{headerBytes, slotBytes, attributesOffset, slotCount, outputCount, recordAt, Slot, emptySlot, renamed, slotFrom, graphOf, slotTail, slotBlock, headerBlock, graphBlock, atLeastOne, recordFits, SoundGraph}
 use Rattle.laws.proofs.Lists.{decided, needed}
 use Rattle.laws.proofs.Members.{tabulate-mem}
 use Rattle.laws.proofs.Operators.{row-attributes}
@@ -43,6 +43,15 @@ follows s fits index =
     simp (fits, t, index proj (omega arith)))
     (λ (t : eqb (s .kind) kindProj ≡ false). simp (fits, t))
     (decided (eqb (s .kind) kindProj))
+
+-- the Empty slot does, and new names for what a slot reads change nothing in it
+pub empty-fits : slotFits emptySlot ≡ true
+unfolding slotFits emptySlot shapeFits rowOf kinds
+empty-fits = refl
+
+pub renamed-fits : (to : ℕ → ℕ) (s : Slot) → slotFits s ≡ true → slotFits (renamed to s) ≡ true
+unfolding renamed slotFits
+renamed-fits to s fits = rw (length-map (s .inputs) to) fits
 
 -- a record that follows its kind gives such a slot
 module _ (block : List ℕ) (at : ℕ) (fits : recordFits block at ≡ true) where

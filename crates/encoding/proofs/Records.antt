@@ -76,7 +76,7 @@ module _ (s : Slot) (fewInputs : length (s .inputs) ≤ inputLimit) (fewAttribut
       unfolding slotBlock
       operator-back = held 1 (omega arith)
 
-      input-count-back : byteAt block (at + 2) ≡ length (s .inputs)
+      pub input-count-back : byteAt block (at + 2) ≡ length (s .inputs)
       unfolding slotBlock
       input-count-back = held 2 (omega arith)
 
@@ -94,7 +94,13 @@ module _ (s : Slot) (fewInputs : length (s .inputs) ≤ inputLimit) (fewAttribut
       tail-held i l = rw add-assoc (held (tailOffset + i) (omega arith)) ∙ tail-byte i
 
       -- a place holds its number, where the number fits
-      attribute-back : (k : ℕ) → k < attributeLimit → getD (s .attributes) k 0 < 2 ^ 32
+      pub input-back : (k : ℕ) → k < inputLimit → getD (s .inputs) k unusedPlace < 65536
+          → u16At block (at + inputsOffset + 2 * k) ≡ getD (s .inputs) k unusedPlace
+      input-back k l =
+          u16-back block (at + inputsOffset + 2 * k) (getD (s .inputs) k unusedPlace)
+          (place-held u16Bytes 2 inputLimit unusedPlace (s .inputs) length-u16 fewInputs block (at + inputsOffset) inputs-held k l)
+
+      pub attribute-back : (k : ℕ) → k < attributeLimit → getD (s .attributes) k 0 < 2 ^ 32
           → u32At block (at + attributesOffset + 4 * k) ≡ getD (s .attributes) k 0
       attribute-back k l =
           u32-back block (at + attributesOffset + 4 * k) (getD (s .attributes) k 0)
@@ -105,9 +111,7 @@ module _ (s : Slot) (fewInputs : length (s .inputs) ≤ inputLimit) (fewAttribut
       unfolding slotFrom
       inputs-back small =
           tabulated (byteAt block (at + 2)) (λ k. u16At block (at + inputsOffset + 2 * k)) (s .inputs) unusedPlace input-count-back
-          (λ k l. u16-back block (at + inputsOffset + 2 * k) (getD (s .inputs) k unusedPlace)
-          (place-held u16Bytes 2 inputLimit unusedPlace (s .inputs) length-u16 fewInputs block (at + inputsOffset) inputs-held k (omega arith))
-          (small k l))
+          (λ k l. input-back k (omega arith) (small k l))
 
       pub attributes-back : ((k : ℕ) → k < length (s .attributes) → getD (s .attributes) k 0 < 2 ^ 32)
           → slotFrom block at .attributes ≡ s .attributes

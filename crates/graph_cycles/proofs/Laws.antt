@@ -1,60 +1,30 @@
--- What is marked while the inputs of a slot are taken in turn: once all are, the slot is marked exactly where it is on a cycle.
+-- Whether a slot is on a cycle, by marks from its inputs on; and the lowest slot of which that holds.
 -- Assumes nothing.
 use mathlib.Core.Path.{_≡_, refl, sym, _∙_}
 use mathlib.Core.Bool.{Bool, true, false}
 use mathlib.Core.List.{List}
-use mathlib.Core.Logic.{⊎-elim}
-use Prim.Native.Nat.{ℕ, _+_, _<_}
-use lib.ListN.{length, getD, replicate}
+use Prim.Native.Nat.{ℕ, _<_, _≤_}
+use lib.ListN.{length, take}
+use lib.Seq.{take-all}
 use Rattle.definitions.specs.Lists.{lowest}
-use Rattle.definitions.specs.Graph.{unusedPlace, slotCount, graphOf, inputsOf, lowestOnCycle, hasCycle}
-use Rattle.definitions.specs.Paths.{Reaches, isMarked, onCycle}
-use Rattle.laws.proofs.Lists.{true-not-false, fails, lowest-none, lowest-found}
+use Rattle.definitions.specs.Graph.{slotCount, graphOf, inputsOf, lowestOnCycle, hasCycle}
+use Rattle.definitions.specs.Paths.{isMarked, onCycle}
+use Rattle.laws.proofs.Lists.{fails, lowest-none, lowest-found}
 use Rattle.laws.proofs.Graph.{length-slots}
-use Rattle.laws.proofs.Members.{mem-at}
-use Rattle.laws.proofs.Builds.{getD-none}
 use Rattle.theory.proofs.Paths.{Table}
 use Rattle.graph_fields.specs.Layout.{Closed}
 use Rattle.acyclic.proofs.Laws.{table, slots-table}
-use Rattle.reachability.specs.Marks.{ReachesOne}
-use Rattle.reachability.specs.Spread.{Spread, ClosedMarks}
+use Rattle.reachability.specs.Marks.{Marks}
 use Rattle.reachability.proofs.Marks.{marks-unique}
 use Rattle.reachability.proofs.Reaching.{reaching-marks}
 use Rattle.reachability.proofs.Cycles.{cycle-sound, free-acyclic}
-use Rattle.reachability.proofs.Worklist.{Passed, passed-none, passed-more, passed-all, passed-spread}
 
--- all is marked that has a path to one of the first i inputs of v, and nothing that has none to an input of v
-pub record Marked (inputs : ℕ → List ℕ) (v i : ℕ) (marks : List Bool) : Type 0 where
-  pub closed : ClosedMarks inputs marks
-  pub passed : Passed inputs marks unusedPlace v i
-  pub paths : (u : ℕ) → isMarked marks u ≡ true → ReachesOne inputs (inputs v) u
-
-pub marked-none : {inputs : ℕ → List ℕ} (v n : ℕ) → Marked inputs v 0 (replicate n false)
-marked-none v n = record {
-  closed = λ w u t e. absurd (true-not-false t (getD-none n w false));
-  passed = passed-none;
-  paths = λ u t. absurd (true-not-false t (getD-none n u false));
-}
-
-module _ {inputs : ℕ → List ℕ} {v i : ℕ} {marks : List Bool} (marked : Marked inputs v i marks) where
-  pub marked-more : {root : ℕ} {after : List Bool} → i < length (inputs v) → root ≡ getD (inputs v) i unusedPlace
-      → Spread inputs root marks after → Marked inputs v (i + 1) after
-  marked-more {root} {after} l e spread = record {
-    closed = spread .closed;
-    passed = passed-more (passed-spread (marked .passed) spread) l (rw e at (spread .rooted));
-    paths = λ u t. ⊎-elim
-        (λ (k : isMarked marks u ≡ true). marked .paths u k)
-        (λ (p : Reaches inputs u root). record { start = root; listed = rw e (mem-at (inputs v) i unusedPlace l); path = p })
-        (spread .paths u t);
-  }
-
-  pub marked-ends : {n : ℕ} → Table inputs n → i ≡ length (inputs v) → isMarked marks v ≡ onCycle inputs n v
-  unfolding onCycle
-  marked-ends table e =
-      marks-unique
-      (record { started = passed-all (marked .passed) e; closed = marked .closed; paths = marked .paths })
-      (reaching-marks table (inputs v) (table .closed v))
-      v
+-- once all inputs of v are taken, v is marked exactly where it is on a cycle
+pub marked-ends : {inputs : ℕ → List ℕ} {n : ℕ} (v i : ℕ) (marks : List Bool) → Marks inputs (take i (inputs v)) (isMarked marks)
+    → Table inputs n → length (inputs v) ≤ i → isMarked marks v ≡ onCycle inputs n v
+unfolding onCycle
+marked-ends {inputs} v i marks are slots l =
+    marks-unique (rw (take-all i (inputs v) l) at are) (reaching-marks slots (inputs v) (slots .closed v)) v
 
 -- ---- the lowest slot on a cycle, of the graph of a block
 

@@ -1,2 +1,3 @@
 pub mod Laws
 pub mod Read
+pub mod Standing

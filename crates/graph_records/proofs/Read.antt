@@ -14,7 +14,7 @@ use Rattle.encoding.proofs.Pieces.{in-pieces, below-four, length-numbered, numb
 use Rattle.encoding.proofs.Numbers.{length-u16, length-u32, u16-bytes, u32-bytes}
 use Rattle.graph_arrays.specs.Arrays.{inputsAt, attributesAt}
 use Rattle.graph_records.specs.declared.Record.{Record}
-use Rattle.graph_records.specs.Records.{fieldsOf, fieldsAt}
+use Rattle.graph_records.specs.Records.{fieldsOf, fieldsAt, ReadFrom}
 
 -- ---- bytes of a block, by index
 
@@ -82,9 +82,8 @@ module _ (block : List ℕ) (bytes : Bytes block) (at : ℕ) (whole : at + slotB
       take-add attributesOffset (4 * attributeLimit) (drop at block)
       ∙ rw (take-add inputsOffset (2 * inputLimit) (drop at block), drop-drop inputsOffset at block, drop-drop attributesOffset at block)
 
-  pub record-back : (r : Record) → r .kind ≡ byteAt block at → r .operator ≡ byteAt block (at + 1) → r .n ≡ byteAt block (at + 2)
-      → r .m ≡ byteAt block (at + 3) → r .inputs ≡ inputsAt block at → r .attributes ≡ attributesAt block at
-      → fieldsOf r ≡ fieldsAt block at
+  pub record-back : (r : Record) → ReadFrom block at r → fieldsOf r ≡ fieldsAt block at
   unfolding fieldsOf
-  record-back r kind operator n m inputs attributes =
-      rw (kind, operator, n, m, inputs, attributes) (joined (first-four block at (omega arith)) inputs-back attributes-back ∙ sym in-fields)
+  record-back r read =
+      rw (read .kind, read .operator, read .inputCount, read .attributeCount, read .inputs, read .attributes)
+      (joined (first-four block at (omega arith)) inputs-back attributes-back ∙ sym in-fields)

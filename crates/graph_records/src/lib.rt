@@ -3,8 +3,10 @@ use definitions::ATTRIBUTE_LIMIT;
 use definitions::ATTRIBUTES_OFFSET;
 use definitions::INPUT_LIMIT;
 use definitions::INPUTS_OFFSET;
+use definitions::KIND_EMPTY;
 use definitions::SLOT_BYTES;
 use definitions::TAIL_OFFSET;
+use definitions::UNUSED_PLACE;
 use graph_arrays::read_attributes;
 use graph_arrays::read_inputs;
 use writing::copy;
@@ -13,8 +15,8 @@ use writing::put_u32s;
 ghost use mathlib.Core.Path.{_≡_};
 ghost use Prim.Native.Nat.{_+_, _≤_};
 ghost use lib.ListN.{length};
-ghost use Rattle.definitions.specs.Graph.{slotBytes, tailBytes, inputLimit, attributeLimit};
-ghost use Rattle.graph_records.specs.Records.{fieldsOf, recordBytes, fieldsAt};
+ghost use Rattle.definitions.specs.Graph.{slotBytes, tailBytes, inputLimit, attributeLimit, emptySlot};
+ghost use Rattle.graph_records.specs.Records.{fieldsOf, recordBytes, Stands, fieldsAt, ReadFrom};
 
 // What a slot's record holds: kind, operator, input count n, attribute count m, and every place, the unused ones too.
 pub struct Record {
@@ -24,6 +26,20 @@ pub struct Record {
     pub m: u8,
     pub inputs: [u16; INPUT_LIMIT],
     pub attributes: [u32; ATTRIBUTE_LIMIT],
+}
+
+// The record of an Empty slot.
+pub fn empty_record() -> Record
+    ensures { λ r. ⌜ Stands r emptySlot ⌝ }
+{
+    Record {
+        kind: KIND_EMPTY as u8,
+        operator: 0,
+        n: 0,
+        m: 0,
+        inputs: [UNUSED_PLACE; INPUT_LIMIT],
+        attributes: [0u32; ATTRIBUTE_LIMIT],
+    }
 }
 
 // Writes a slot's record into the 48 bytes of its slot, with the tail that the caller gives it.
@@ -49,6 +65,7 @@ pub fn write_record(part: &mut [u8], record: Record, tail: &[u8])
 // that is read and written again have the bytes that they were read from. The tail is not looked at.
 pub fn read_record(block: &[u8], at: usize) -> Record
     requires { ⌜ at + slotBytes ≤ length (now block) ⌝ }
+    ensures { λ r. ⌜ ReadFrom (now (block .entry)) at r ⌝ }
     ensures { λ r. ⌜ (length (r .inputs) ≡ inputLimit) × (length (r .attributes) ≡ attributeLimit) ⌝ }
     ensures { λ r. ⌜ fieldsOf r ≡ fieldsAt (now (block .entry)) at ⌝ }
 {

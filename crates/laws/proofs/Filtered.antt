@@ -10,8 +10,8 @@ use native.Mathlib.Omega.{arith}
 use borrow.Author.Tests.{eq-eqb, not-true, ltb-true, ltb-false}
 use lib.Dec.{eqb, ltb}
 use lib.ListN.{length, getD, length-append}
-use Rattle.definitions.specs.Lists.{filter, member, position, distinct, range}
-use Rattle.laws.proofs.Lists.{decided, true-not-false, and-left, and-right}
+use Rattle.definitions.specs.Lists.{tabulate, filter, member, position, distinct, range}
+use Rattle.laws.proofs.Lists.{decided, bit, true-not-false, and-left, and-right}
 use Rattle.laws.proofs.Ranges.{length-range, range-at, range-more}
 use Rattle.laws.proofs.Members.{mem-range, mem-at, mem-member, no-member, position-at, position-least, distinct-places, places-distinct, range-mem}
 
@@ -134,6 +134,30 @@ module _ (p : ℕ → Bool) where
       ap length (filtered-more n)
       ∙ length-append (filter p (range 0 n)) (cond (p n) (n ∷ []) [])
       ∙ ap (λ (k : ℕ). length (filter p (range 0 n)) + k) one
+
+  pub filtered-most : (n : ℕ) → length (filter p (range 0 n)) ≤ n
+  unfolding filter range tabulate
+  filtered-most zero = omega arith
+  filtered-most (suc n) = omega (arith, filtered-count n, filtered-most n, bit (p n))
+
+  -- more, once a number is passed of which it holds
+  pub filtered-after : (n k : ℕ) → k < n → p k ≡ true → length (filter p (range 0 k)) < length (filter p (range 0 n))
+  filtered-after zero k l t = absurd (not-suc-le-zero l)
+  filtered-after (suc n) k l t = ⊎-elim
+      (λ (s : ltb k n ≡ true). omega (arith, filtered-count n, filtered-after n k (ltb-true k n s) t))
+      (λ (s : ltb k n ≡ false).
+      let e : k ≡ n = omega (arith, ltb-false k n s) in
+      let one : _≡_ {A = ℕ} (cond (p n) 1 0) 1 = rw (ap p (sym e) ∙ t) in
+      rw e (omega (arith, filtered-count n, one)))
+      (decided (ltb k n))
+
+  -- all of them, where it holds of all
+  pub filtered-all : (n : ℕ) → ((k : ℕ) → k < n → p k ≡ true) → length (filter p (range 0 n)) ≡ n
+  unfolding filter range tabulate
+  filtered-all zero every = refl
+  filtered-all (suc n) every =
+      let one : _≡_ {A = ℕ} (cond (p n) 1 0) 1 = rw (every n (omega arith)) in
+      omega (arith, filtered-count n, one, filtered-all n (λ k l. every k (omega arith)))
 
   pub filtered-holds : (n t d : ℕ) → t < length (filter p (range 0 n)) → p (getD (filter p (range 0 n)) t d) ≡ true
   filtered-holds n t d l = filter-holds p (range 0 n) (mem-at (filter p (range 0 n)) t d l)

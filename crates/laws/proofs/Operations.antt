@@ -4,7 +4,7 @@ use mathlib.Core.Path.{_≡_, refl, subst}
 use mathlib.Core.Bool.{Bool, true, false, cond}
 use mathlib.Core.List.{List, [], _∷_}
 use mathlib.Core.Option.{Option, none, some}
-use Prim.Native.Nat.{ℕ}
+use Prim.Native.Nat.{ℕ, _*_}
 use native.Mathlib.Omega.{arith}
 use lib.Dec.{eqb}
 use lib.IntN.{ℤ}
@@ -12,12 +12,13 @@ use lib.ListN.{length}
 use Rattle.definitions.specs.declared.Refusal.{Refusal}
 use Rattle.definitions.specs.declared.Reply.{Reply}
 use Rattle.definitions.specs.declared.Reply.the-variants.{Done, Refused}
-use Rattle.definitions.specs.Reply.{done, badMapLength, noMatch, noResult, noRoom, newCycle, refusalAt, refusal, refused, firstRefusal}
-use Rattle.definitions.specs.Graph.{Graph, graphOf, hasCycle, graphFaults, graphReply}
+use Rattle.definitions.specs.Reply.{done, badMapLength, badMovesLength, noMatch, noResult, noRoom, newCycle, refusalAt, refusal, refused, firstRefusal}
+use Rattle.definitions.specs.Graph.{slotCount, Graph, graphOf, hasCycle, graphFaults, graphReply}
 use Rattle.definitions.specs.Rule.{sideLimit, Rule, ruleOf, ruleFaults, ruleReply}
 use Rattle.definitions.specs.Match.{readAttribute, leastMatch}
 use Rattle.definitions.specs.Rewriting.{targetResults, hasRoom, newGraph}
 use Rattle.definitions.specs.Operations.{mapBytes, mapReply, blocksReply, matched, findMatch, Rewritten, accepted, turnedDown, rewrittenWith, rewritten, replaced, rewrite}
+use Rattle.definitions.specs.Squeeze.{movesReply, squeezeReply}
 use Rattle.laws.proofs.Reply.{Valueless, Plain, plain-done, plain-refused, refused-valueless, judged-valueless}
 
 -- ---- the lent blocks
@@ -50,6 +51,22 @@ blocks-valueless graph rule map =
     first-valueless (mapReply map) (graphReply graph ∷ ruleReply rule ∷ []) (map-valueless map)
     (first-valueless (graphReply graph) (ruleReply rule ∷ []) (graph-valueless graph)
     (first-valueless (ruleReply rule) [] (rule-valueless rule) (plain-done .value)))
+
+-- ---- the squeeze
+
+pub moves-valueless : (graph moves : List ℕ) → Valueless (movesReply graph moves)
+unfolding movesReply
+moves-valueless graph moves = either (eqb (length moves) (2 * slotCount graph))
+  where
+    either : (b : Bool) → Valueless (cond b done (refused badMovesLength))
+    either true = plain-done .value
+    either false = refused-valueless badMovesLength 0
+
+pub squeeze-valueless : (graph moves : List ℕ) → Valueless (squeezeReply graph moves)
+unfolding squeezeReply firstRefusal
+squeeze-valueless graph moves =
+    first-valueless (graphReply graph) (movesReply graph moves ∷ []) (graph-valueless graph)
+    (first-valueless (movesReply graph moves) [] (moves-valueless graph moves) (plain-done .value))
 
 -- ---- matching
 

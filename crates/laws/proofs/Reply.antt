@@ -1,6 +1,6 @@
 -- A list of faults is answered by the first that holds, and by done where none does; a list of replies by its first refusal.
 -- Assumes nothing.
-use mathlib.Core.Path.{_≡_, refl, sym, ap}
+use mathlib.Core.Path.{_≡_, refl, sym, ap, _∙_}
 use mathlib.Core.List.{List, [], _∷_}
 use mathlib.Core.Option.{none, some}
 use Prim.Native.Nat.{ℕ, _<_, _^_}
@@ -8,7 +8,7 @@ use native.Mathlib.Omega.{arith}
 use Rattle.definitions.specs.declared.Refusal.{Refusal}
 use Rattle.definitions.specs.declared.Reply.{Reply}
 use Rattle.definitions.specs.declared.Reply.the-variants.{Done, Refused}
-use Rattle.definitions.specs.Reply.{done, refusalAt, refusedAt, refused, numberOf, indexOf, valueBeside, valueLimit, packed, numberIn, placeIn, valueIn, Fault, fault, judged, firstRefusal}
+use Rattle.definitions.specs.Reply.{done, refusalAt, refusedAt, refused, numberOf, indexOf, valueBeside, valueLimit, packed, numberIn, placeIn, valueIn, Fault, fault, judged, firstRefusal, whereDone}
 
 -- ---- what the C side reads in the number that it gets
 
@@ -52,6 +52,20 @@ plain-refused n = record { index = refl; value = refl }
 -- such a value fits in the bits that a value has
 pub valueless-fits : {reply answer : Reply} → reply ≡ answer → Valueless answer → valueBeside reply < valueLimit
 valueless-fits e h = rw e (omega (arith, h))
+
+-- done without a value is done with value 0
+pub done-plain : {reply : Reply} {value : ℕ} → Valueless reply → reply ≡ Done value → reply ≡ done
+unfolding valueBeside
+done-plain {reply} {value} h e = let none : value ≡ 0 = rw e at h in e ∙ ap Done none
+
+-- what a lent block holds at the return
+pub where-done : {reply : Reply} {value : ℕ} (after before : List ℕ) → reply ≡ Done value → whereDone reply after before ≡ after
+unfolding whereDone
+where-done after before e = rw (e, whereDone)
+
+pub where-refused : {reply : Reply} {why : Refusal} (after before : List ℕ) → reply ≡ Refused why → whereDone reply after before ≡ before
+unfolding whereDone
+where-refused after before e = rw (e, whereDone)
 
 pub done-or-refused : (n p : ℕ) → done ≡ refusedAt n p → ⊥
 unfolding refusalAt

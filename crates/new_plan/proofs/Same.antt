@@ -11,7 +11,7 @@ use lib.IntN.{ℤ}
 use lib.ListN.{length, getD}
 use Rattle.definitions.specs.Lists.{allBelow, tabulate, filter, member, position, range}
 use Rattle.definitions.specs.Fields.{wordOf}
-use Rattle.definitions.specs.Graph.{unusedPlace, Slot, Graph, emptySlot, slotOf, inputsOf, isVertex, hasCycle}
+use Rattle.definitions.specs.Graph.{unusedPlace, Slot, Graph, emptySlot, renamed, slotOf, inputsOf, isVertex, hasCycle}
 use Rattle.definitions.specs.Rule.{Rule, Origin, given, made, targetOf, isRuleInput}
 use Rattle.definitions.specs.Match.{imageOf, attributeOf, readAttribute, isConst, imagesWhere, innerImages, isPrivate}
 use Rattle.definitions.specs.Rewriting.{goes, isRemoved, stays, freeSlots, placeOf, resolve, hasRoom, redirect, targetSlot, stayingSlot, newSlot, newGraph, targetResults}
@@ -92,7 +92,7 @@ module _ (g : Graph) (r : Rule) (one other : List ℕ) (same : (j : ℕ) → ima
       emptySlot)
 
   slot-same : newSlot g r one ≡ newSlot g r other
-  unfolding newSlot stayingSlot targetSlot slot-with
+  unfolding newSlot renamed stayingSlot targetSlot slot-with
   slot-same = λ i. slot-with (stays-same i) (redirect-same i) (resolve-same i) (free-same i)
 
   pub new-same : newGraph g r one ≡ newGraph g r other

@@ -8,7 +8,7 @@ use borrow.Author.Tests.{lt-ltb, le-ltb}
 use lib.IntN.{ℤ}
 use lib.ListN.{length}
 use Rattle.definitions.specs.Lists.{filter, position, range}
-use Rattle.definitions.specs.Graph.{slotCount, Graph, emptySlot, graphOf, slotOf}
+use Rattle.definitions.specs.Graph.{slotCount, Graph, emptySlot, renamed, graphOf, slotOf}
 use Rattle.definitions.specs.Rule.{targetCount, ruleOf}
 use Rattle.definitions.specs.Rewriting.{stays, freeSlots, redirect, targetSlot, stayingSlot, newSlot}
 use Rattle.laws.proofs.Lists.{map-same}
@@ -19,7 +19,6 @@ use Rattle.graph_records.specs.Records.{Stands}
 use Rattle.vacancies.proofs.Laws.{free-position}
 use Rattle.redirection.specs.declared.Redirection.{Redirection}
 use Rattle.redirection.specs.Moves.{moved}
-use Rattle.new_vertices.specs.Slots.{movedSlot}
 use Rattle.new_records.specs.Slots.{Redirects}
 
 module _ (graph rule images : List ℕ) (values : List (List ℤ)) (k : ℕ) where
@@ -29,8 +28,8 @@ module _ (graph rule images : List ℕ) (values : List (List ℤ)) (k : ℕ) whe
 
   -- what stays
   pub stands-staying : {r : Record} (way : Redirection) → Redirects graph rule images way → stays g (ruleOf rule) images k ≡ true
-      → Stands r (movedSlot (moved way) (slotOf g k)) → Stands r (newSlot g (ruleOf rule) images values k)
-  unfolding movedSlot newSlot stayingSlot
+      → Stands r (renamed (moved way) (slotOf g k)) → Stands r (newSlot g (ruleOf rule) images values k)
+  unfolding renamed newSlot stayingSlot
   stands-staying way same h s =
       rw (h, ← map-same (moved way) (redirect g (ruleOf rule) images) (slotOf g k .inputs) (λ v _. same v)) s
 

@@ -1,7 +1,7 @@
 // The record of each slot of the new table: which of those that can stand there it is.
 use definitions::SIDE_CAPACITY;
 use graph_records::Record;
-use new_vertices::empty_record;
+use graph_records::empty_record;
 use new_vertices::staying_record;
 use new_vertices::target_record;
 use redirection::Redirection;

@@ -2,12 +2,10 @@
 // nothing is read from a slot that was written before, and every place is redirected once.
 use definitions::HEADER_BYTES;
 use definitions::SIDE_CAPACITY;
-use definitions::SLOT_BYTES;
 use definitions::SLOT_LIMIT;
 use definitions::TAIL_BYTES;
 use graph_fields::output_count;
 use graph_fields::slot_count;
-use graph_records::write_record;
 use new_header::write_header;
 use new_places::new_outputs;
 use new_records::new_record;
@@ -22,7 +20,7 @@ ghost use Rattle.definitions.specs.Lists.{filter, range};
 ghost use Rattle.definitions.specs.Graph.{headerBytes, slotBytes, slotLimit, slotCount, graphOf, graphBlock, recordBlock, recordsBlock};
 ghost use Rattle.definitions.specs.Rule.{ruleOutputCount, ruleOf};
 ghost use Rattle.definitions.specs.Rewriting.{stays};
-ghost use Rattle.vacancies.specs.Vacant.{Marks};
+ghost use Rattle.laws.specs.Marked.{Marked};
 ghost use Rattle.new_vertices.specs.Slots.{Prepared};
 ghost use Rattle.new_records.specs.Slots.{Redirects};
 ghost use Rattle.new_table.specs.Table.{newTable};
@@ -61,10 +59,8 @@ fn write_slot(
         ++ recordBlock (newTable (now (graph .entry)) (now (rule .entry)) (now (images .entry))) k ⌝ }
 {
     let record = new_record(graph, rule, images, places, way, k, free, next);
-    let at = HEADER_BYTES + SLOT_BYTES * k;
-    let end = at + SLOT_BYTES;
     let tail = [0u8; TAIL_BYTES];
-    write_record(&mut table[at..end], record, &tail);
+    graph_slots::write_slot(table, k, record, &tail);
 }
 
 // Writes every slot; the header is left as it is.
@@ -79,7 +75,7 @@ fn write_slots(
 )
     requires { ⌜ Prepared (now graph) (now rule) (now images) (now places) ⌝ }
     requires { ⌜ Redirects (now graph) (now rule) (now images) way ⌝ }
-    requires { ⌜ Marks (λ k. not (stays (graphOf (now graph)) (ruleOf (now rule)) (now images) k)) (slotCount (now graph)) (now free) ⌝ }
+    requires { ⌜ Marked (λ k. not (stays (graphOf (now graph)) (ruleOf (now rule)) (now images) k)) (slotCount (now graph)) (now free) ⌝ }
     requires { ⌜ length (now table) ≡ length (now graph) ⌝ }
     ensures { λ r. ⌜ now (table .exit) ≡ take headerBytes (now (table .entry))
         ++ recordsBlock (newTable (now (graph .entry)) (now (rule .entry)) (now (images .entry)))
@@ -107,7 +103,7 @@ pub fn write_table(
 )
     requires { ⌜ Prepared (now graph) (now rule) (now images) (now places) ⌝ }
     requires { ⌜ 0 < ruleOutputCount (now rule) ⌝ }
-    requires { ⌜ Marks (λ k. not (stays (graphOf (now graph)) (ruleOf (now rule)) (now images) k)) (slotCount (now graph)) (now free) ⌝ }
+    requires { ⌜ Marked (λ k. not (stays (graphOf (now graph)) (ruleOf (now rule)) (now images) k)) (slotCount (now graph)) (now free) ⌝ }
     requires { ⌜ length (now table) ≡ length (now graph) ⌝ }
     ensures { λ r. ⌜ now (table .exit) ≡ graphBlock (newTable (now (graph .entry)) (now (rule .entry)) (now (images .entry))) ⌝ }
 {

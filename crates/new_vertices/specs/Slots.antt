@@ -2,12 +2,12 @@
 -- Assumes nothing.
 use mathlib.Core.Path.{_≡_}
 use mathlib.Core.Bool.{true}
-use mathlib.Core.List.{List, [], map}
+use mathlib.Core.List.{List, []}
 use mathlib.Core.Option.{Option, none, some}
 use Prim.Native.Nat.{ℕ, _<_}
 use lib.IntN.{ℤ}
 use lib.ListN.{getD}
-use Rattle.definitions.specs.Graph.{unusedPlace, Slot, graphOf}
+use Rattle.definitions.specs.Graph.{unusedPlace, graphOf}
 use Rattle.definitions.specs.Rule.{sideCapacity, ruleOf}
 use Rattle.definitions.specs.Match.{readAttribute}
 use Rattle.definitions.specs.Rewriting.{targetResults, placeOf}
@@ -16,15 +16,6 @@ use Rattle.rule_fields.specs.Layout.{ReadableRule}
 use Rattle.match_leaves.specs.Evaluable.{Evaluable}
 use Rattle.target_attributes.specs.Words.{isGiven}
 use Rattle.redirection.specs.Moves.{Movable}
-
--- a slot whose input places are passed through `move`
-unfoldable pub movedSlot : (ℕ → ℕ) → Slot → Slot
-movedSlot move s = record {
-  kind = s .kind;
-  operator = s .operator;
-  inputs = map move (s .inputs);
-  attributes = s .attributes;
-}
 
 -- the results, where there are such
 unfoldable pub valuesOf : {A : Type 0} → Option (List A) → List A

@@ -1,10 +1,7 @@
-// The records that can stand in a slot of the new table, each made from the old table and the rule, which are only read: a vertex that
-// stays, with its places redirected, a target vertex, and the Empty slot.
+// The records that a vertex of the new table can have, each made from the old table and the rule, which are only read: a vertex that
+// stays, with its places redirected, and a target vertex.
 use definitions::ATTRIBUTE_LIMIT;
-use definitions::INPUT_LIMIT;
-use definitions::KIND_EMPTY;
 use definitions::SIDE_CAPACITY;
-use definitions::UNUSED_PLACE;
 use graph_fields::attribute_count;
 use graph_fields::attribute_word;
 use graph_fields::input_count;
@@ -22,27 +19,13 @@ use target_attributes::vertex_words;
 ghost use mathlib.Core.Path.{_≡_};
 ghost use Prim.Native.Nat.{_<_};
 ghost use Rattle.definitions.specs.Lists.{padded};
-ghost use Rattle.definitions.specs.Graph.{attributeLimit, emptySlot, graphOf, slotOf};
+ghost use Rattle.definitions.specs.Graph.{attributeLimit, renamed, graphOf, slotOf};
 ghost use Rattle.definitions.specs.Rule.{targetCount, ruleOf};
 ghost use Rattle.definitions.specs.Rewriting.{targetSlot};
 ghost use Rattle.graph_records.specs.Records.{Stands};
 ghost use Rattle.redirection.specs.Moves.{moved};
 ghost use Rattle.new_places.specs.Places.{ReadableSlot};
-ghost use Rattle.new_vertices.specs.Slots.{movedSlot, valuesOf, fitResults, Prepared};
-
-// The record of an Empty slot.
-pub fn empty_record() -> Record
-    ensures { λ r. ⌜ Stands r emptySlot ⌝ }
-{
-    Record {
-        kind: KIND_EMPTY as u8,
-        operator: 0,
-        n: 0,
-        m: 0,
-        inputs: [UNUSED_PLACE; INPUT_LIMIT],
-        attributes: [0u32; ATTRIBUTE_LIMIT],
-    }
-}
+ghost use Rattle.new_vertices.specs.Slots.{valuesOf, fitResults, Prepared};
 
 // Every attribute place of slot k; zero stands in the unused ones.
 fn attribute_words(graph: &[u8], k: usize) -> [u32; ATTRIBUTE_LIMIT]
@@ -62,7 +45,7 @@ fn attribute_words(graph: &[u8], k: usize) -> [u32; ATTRIBUTE_LIMIT]
 // The record of a vertex that stays: its input places redirected, and nothing else changed.
 pub fn staying_record(graph: &[u8], k: usize, way: Redirection) -> Record
     requires { ⌜ ReadableSlot (now graph) k ⌝ }
-    ensures { λ r. ⌜ Stands r (movedSlot (moved way) (slotOf (graphOf (now (graph .entry))) k)) ⌝ }
+    ensures { λ r. ⌜ Stands r (renamed (moved way) (slotOf (graphOf (now (graph .entry))) k)) ⌝ }
 {
     let kind = kind_of(graph, k);
     let operator = operator_of(graph, k);

@@ -11,11 +11,11 @@ use borrow.Author.Tests.{ltb-true, ltb-false, not-true}
 use lib.Dec.{ltb}
 use lib.ListN.{length, List·getD-eq-default}
 use Rattle.definitions.specs.Lists.{anyBelow, tabulate, member}
-use Rattle.definitions.specs.Paths.{Reads, here, onward, isMarked, grown, grownBy, reaching}
+use Rattle.definitions.specs.Paths.{Reads, here, onward, ReachesOne, isMarked, grown, grownBy, reaching}
 use Rattle.laws.proofs.Lists.{decided, true-not-false, and-left, and-right, anyBelow-found, anyBelow-some, length-tabulate, getD-tabulate}
 use Rattle.laws.proofs.Members.{member-mem, mem-member}
 use Rattle.theory.proofs.Paths.{Table, reaches-trans}
-use Rattle.reachability.specs.Marks.{ReachesOne, Marks}
+use Rattle.reachability.specs.Marks.{Marks}
 use Rattle.laws.proofs.Tallies.{tally, tally-full, tally-more}
 use Rattle.reachability.proofs.Marks.{marked-reaches, reaches-marked}
 

@@ -221,10 +221,6 @@ module _ {inputs : ℕ → List ℕ} {marks : List Bool} {none w passed : ℕ} (
       let found = mem-place none m in
       rw (found .2) at (done .each (found .0) (omega (arith, found .1)))
 
-  -- more marks
-  pub passed-spread : {root : ℕ} {after : List Bool} → Spread inputs root marks after → Passed inputs after none w passed
-  passed-spread spread = record { few = done .few; each = λ k b. spread .kept (getD (inputs w) k none) (done .each k b) }
-
   -- one more mark
   pub passed-kept : (v : ℕ) → v < length marks → Passed inputs (set marks v true) none w passed
   passed-kept v held = record { few = done .few; each = λ k b. set-kept marks v held (getD (inputs w) k none) (done .each k b) }

@@ -15,7 +15,7 @@ use lib.ListN.{length, getD, length-map, List·getD-map}
 use Rattle.definitions.specs.Lists.{all, position}
 use Rattle.definitions.specs.Fields.{Bytes, signed, wordOf}
 use Rattle.definitions.specs.Operators.{kindProj, kinds, rowOf, shapeFits}
-use Rattle.definitions.specs.Graph.{slotCount, Slot, Graph, emptySlot, graphOf, slotOf, atLeastOne, SoundGraph}
+use Rattle.definitions.specs.Graph.{slotCount, Slot, Graph, emptySlot, renamed, graphOf, slotOf, atLeastOne, SoundGraph}
 use Rattle.definitions.specs.Rule.{sourceCount, targetCount, vertexAt, Rule, ruleOf, targetOf, SoundRule}
 use Rattle.definitions.specs.Attributes.{inRange}
 use Rattle.definitions.specs.Match.{readAttribute}
@@ -25,20 +25,15 @@ use Rattle.laws.proofs.Graph.{length-slots}
 use Rattle.laws.proofs.Rule.{length-target, target-kind-at, target-operator-at, target-count-at, pattern-shape}
 use Rattle.laws.proofs.Results.{vertex-index}
 use Rattle.encoding.specs.Tables.{slotFits}
-use Rattle.encoding.proofs.Graphs.{follows, table-of, words-of}
+use Rattle.encoding.proofs.Graphs.{follows, empty-fits, renamed-fits, table-of, words-of}
 use Rattle.replacement.proofs.Values.{word-small, signed-word, target-values, value-count, values-small}
-
-empty-shape : slotFits emptySlot ≡ true
-unfolding slotFits emptySlot shapeFits rowOf kinds
-empty-shape = refl
 
 -- redirection keeps the counts
 staying-shape : (graph : List ℕ) (r : Rule) (images : List ℕ) → SoundGraph graph → (k : ℕ) → k < slotCount graph
     → slotFits (stayingSlot (graphOf graph) r images k) ≡ true
-unfolding stayingSlot slotFits
+unfolding stayingSlot
 staying-shape graph r images sound k l =
-    rw (length-map (slotOf (graphOf graph) k .inputs) (redirect (graphOf graph) r images))
-    (table-of graph sound .shapes k (rw (length-slots graph) l))
+    renamed-fits (redirect (graphOf graph) r images) (slotOf (graphOf graph) k) (table-of graph sound .shapes k (rw (length-slots graph) l))
 
 -- ---- the slots of target vertices
 
@@ -114,14 +109,14 @@ new-shapes graph rule images values sound rules found k l =
     new-slot (graphOf graph) (ruleOf rule) images values k (λ (s : Slot). slotFits s ≡ true)
     (staying-shape graph (ruleOf rule) images sound k l)
     (λ t h. target-shape graph rule images values rules found t (rw (length-target rule) at h))
-    empty-shape
+    empty-fits
 
 -- and its attributes are 32-bit words
 pub new-words : (graph rule images : List ℕ) (values : List (List ℤ)) → SoundGraph graph → SoundRule rule → Bytes graph
     → targetResults (readAttribute (graphOf graph) images) (ruleOf rule .target) ≡ some values
     → (k : ℕ) → k < slotCount graph → (w : ℕ) → List·Memᴰ w (newSlot (graphOf graph) (ruleOf rule) images values k .attributes)
     → w < 2 ^ 32
-unfolding stayingSlot emptySlot
+unfolding renamed stayingSlot emptySlot
 new-words graph rule images values sound rules bytes found k l =
     new-slot (graphOf graph) (ruleOf rule) images values k (λ (s : Slot). (w : ℕ) → List·Memᴰ w (s .attributes) → w < 2 ^ 32)
     (words-of graph bytes k (rw (length-slots graph) l))

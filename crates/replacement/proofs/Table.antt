@@ -13,7 +13,7 @@ use lib.ListN.{length, getD, length-map}
 use Rattle.definitions.specs.Lists.{member, position, range}
 use Rattle.definitions.specs.Operators.{kindEmpty, kindVariable}
 use Rattle.definitions.specs.Paths.{Reads, Acyclic}
-use Rattle.definitions.specs.Graph.{unusedPlace, Slot, Graph, emptySlot, slotOf, inputsOf, isVertex}
+use Rattle.definitions.specs.Graph.{unusedPlace, Slot, Graph, emptySlot, renamed, slotOf, inputsOf, isVertex}
 use Rattle.definitions.specs.Rule.{Origin, given, made, Rule, sourceOf, targetOf, inputKind, isRuleInput, originFits}
 use Rattle.definitions.specs.Match.{imageOf, isInterior, isConst, mustBePrivate, innerImages, Private, outputImages}
 use Rattle.definitions.specs.Rewriting.{isRemoved, stays, freeSlots, placeOf, resolve, hasRoom, redirect, targetSlot, stayingSlot, newSlot, newGraph}
@@ -247,7 +247,7 @@ module _ (g : Graph) (r : Rule) (images : List ℕ) (values : List (List ℤ)) (
   -- ---- vertices of the new table
 
   pub staying-vertex : (v : ℕ) → T (stays g r images v) → T (isVertex new v)
-  unfolding isVertex stayingSlot
+  unfolding isVertex renamed stayingSlot
   staying-vertex v h =
       let s : stays g r images v ≡ true = holds (stays g r images v) h in
       true-holds (isVertex new v) (rw (slot-staying v s) (stays-vertex g r images v s))
@@ -280,7 +280,7 @@ module _ (g : Graph) (r : Rule) (images : List ℕ) (values : List (List ℤ)) (
   -- what a slot of the new table reads: a staying vertex reads what it read, redirected, and a target vertex what its places name
   pub reads-staying : (k v : ℕ) → stays g r images k ≡ true → Reads (inputsOf new) k v
       → (u : ℕ) × Reads (inputsOf g) k u × (redirect g r images u ≡ v)
-  unfolding stayingSlot
+  unfolding renamed stayingSlot
   reads-staying k v h m = Memᴰ·of-map (redirect g r images) (inputsOf g k)
       (subst (λ (s : Slot). List·Memᴰ v (s .inputs)) (slot-staying k h) m)
 
@@ -293,7 +293,7 @@ module _ (g : Graph) (r : Rule) (images : List ℕ) (values : List (List ℤ)) (
   -- and the other way round
   pub staying-reads : (k u : ℕ) → stays g r images k ≡ true → Reads (inputsOf g) k u
       → Reads (inputsOf new) k (redirect g r images u)
-  unfolding stayingSlot
+  unfolding renamed stayingSlot
   staying-reads k u h m =
       subst (λ (s : Slot). List·Memᴰ (redirect g r images u) (s .inputs)) (sym (slot-staying k h))
       (Memᴰ·map (redirect g r images) m)

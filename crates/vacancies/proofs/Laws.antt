@@ -12,11 +12,11 @@ use Rattle.definitions.specs.Rewriting.{stays, freeSlots, placeOf}
 use Rattle.laws.proofs.Members.{range-mem}
 use Rattle.laws.proofs.Filtered.{filter-same, filtered-position}
 use Rattle.new_slots.specs.Vacant.{marked, Lowest}
-use Rattle.vacancies.specs.Vacant.{Marks}
+use Rattle.laws.specs.Marked.{Marked}
 
 -- the marked slots are the definition's free ones
 pub marked-free : (g : Graph) (r : Rule) (images : List ℕ) (marks : List Bool)
-    → Marks (λ k. not (stays g r images k)) (length (g .slots)) marks
+    → Marked (λ k. not (stays g r images k)) (length (g .slots)) marks
     → marked marks (length (g .slots)) ≡ freeSlots g r images
 unfolding marked freeSlots
 marked-free g r images marks m =

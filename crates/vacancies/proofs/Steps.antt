@@ -20,19 +20,19 @@ use Rattle.laws.proofs.Lists.{decided, and-left, and-right, anyBelow-found, any
 use Rattle.laws.proofs.Tests.{same-tests}
 use Rattle.laws.proofs.Builds.{getD-none}
 use Rattle.laws.proofs.Rewriting.{removed-image, image-removed}
-use Rattle.vacancies.specs.Vacant.{Marks}
+use Rattle.laws.specs.Marked.{Marked}
 
 -- ---- marks
 
-pub marks-none : (n : ℕ) → Marks (λ k. false) n (replicate 512 false)
+pub marks-none : (n : ℕ) → Marked (λ k. false) n (replicate 512 false)
 marks-none n = record { size = length-replicate 512 false; each = λ k l. getD-none 512 k false }
 
-pub marks-same : {f h : ℕ → Bool} {n : ℕ} {marks : List Bool} → ((k : ℕ) → k < n → f k ≡ h k) → Marks f n marks → Marks h n marks
+pub marks-same : {f h : ℕ → Bool} {n : ℕ} {marks : List Bool} → ((k : ℕ) → k < n → f k ≡ h k) → Marked f n marks → Marked h n marks
 marks-same e m = record { size = m .size; each = λ k l. m .each k l ∙ e k l }
 
 -- slot u is marked
 pub marks-put : {f h : ℕ → Bool} {n : ℕ} {marks : List Bool} (u : ℕ) → u < slotLimit → h u ≡ true
-    → ((k : ℕ) → (k ≡ u → ⊥) → f k ≡ h k) → Marks f n marks → Marks h n (set marks u true)
+    → ((k : ℕ) → (k ≡ u → ⊥) → f k ≡ h k) → Marked f n marks → Marked h n (set marks u true)
 marks-put {marks = marks} u l t e m = record {
   size = simp length-set (m .size);
   each = λ k below. ⊎-elim
@@ -59,13 +59,13 @@ module _ (g : Graph) (k : ℕ) where
       (λ (t : ltb i k ≡ false). simp (t, le-ltb i (k + 1) (omega (arith, ltb-false i k t, h))))
       (decided (ltb i k))
 
-  pub empty-more : {n : ℕ} {marks : List Bool} → k < slotLimit → isVertex g k ≡ false → Marks (emptyBelow g k) n marks
-      → Marks (emptyBelow g (k + 1)) n (set marks k true)
+  pub empty-more : {n : ℕ} {marks : List Bool} → k < slotLimit → isVertex g k ≡ false → Marked (emptyBelow g k) n marks
+      → Marked (emptyBelow g (k + 1)) n (set marks k true)
   unfolding emptyBelow
   empty-more l t m = marks-put k l (simp (t, lt-ltb k (k + 1) (omega arith))) other-empty m
 
-  pub empty-pass : {n : ℕ} {marks : List Bool} → isVertex g k ≡ true → Marks (emptyBelow g k) n marks
-      → Marks (emptyBelow g (k + 1)) n marks
+  pub empty-pass : {n : ℕ} {marks : List Bool} → isVertex g k ≡ true → Marked (emptyBelow g k) n marks
+      → Marked (emptyBelow g (k + 1)) n marks
   unfolding emptyBelow
   empty-pass t m = marks-same
       (λ i l. ⊎-elim
@@ -98,14 +98,14 @@ module _ (g : Graph) (r : Rule) (images : List ℕ) where
   other-free i j h = rw add-one (simp (h, or-false))
 
   pub free-put : {n : ℕ} {marks : List Bool} (j image : ℕ) → image ≡ imageOf images j → image < slotLimit → goes g r images j ≡ true
-      → Marks (freeBelow g r images j) n marks → Marks (freeBelow g r images (j + 1)) n (set marks image true)
+      → Marked (freeBelow g r images j) n marks → Marked (freeBelow g r images (j + 1)) n (set marks image true)
   unfolding freeBelow
   free-put j image e l h m = marks-put image l
       (simp (anyBelow-found (freed g r images image) (j + 1) j (omega arith) (simp (h, eq-eqb image (imageOf images j) e)), or-true))
       (λ i other. other-free i j (simp (h, ne-eqb i (imageOf images j) (λ s. other (s ∙ sym e))))) m
 
-  pub free-pass : {n : ℕ} {marks : List Bool} (j : ℕ) → goes g r images j ≡ false → Marks (freeBelow g r images j) n marks
-      → Marks (freeBelow g r images (j + 1)) n marks
+  pub free-pass : {n : ℕ} {marks : List Bool} (j : ℕ) → goes g r images j ≡ false → Marked (freeBelow g r images j) n marks
+      → Marked (freeBelow g r images (j + 1)) n marks
   free-pass j h m = marks-same (λ i l. other-free i j (simp h)) m
 
   removed-all : (i : ℕ) → anyBelow (freed g r images i) (length (r .source)) ≡ isRemoved g r images i

@@ -14,12 +14,12 @@ ghost use Rattle.definitions.specs.Rule.{ruleOf};
 ghost use Rattle.definitions.specs.Rewriting.{stays};
 ghost use Rattle.graph_fields.specs.Layout.{WholeGraph};
 ghost use Rattle.new_removal.specs.Removal.{Removable};
-ghost use Rattle.vacancies.specs.Vacant.{Marks};
+ghost use Rattle.laws.specs.Marked.{Marked};
 
 // Marks the slots that are Empty in the block as it came.
 fn mark_empty(graph: &[u8]) -> [bool; SLOT_LIMIT]
     requires { ⌜ WholeGraph (now graph) ⌝ }
-    ensures { λ r. ⌜ Marks (λ k. not (isVertex (graphOf (now (graph .entry))) k)) (slotCount (now (graph .entry))) r ⌝ }
+    ensures { λ r. ⌜ Marked (λ k. not (isVertex (graphOf (now (graph .entry))) k)) (slotCount (now (graph .entry))) r ⌝ }
 {
     let slots = slot_count(graph);
     let mut free = [false; SLOT_LIMIT];
@@ -36,7 +36,7 @@ fn mark_empty(graph: &[u8]) -> [bool; SLOT_LIMIT]
 // Marks the slots that are Empty after the removal: the images that go too.
 pub fn find_free(graph: &[u8], rule: &[u8], images: &[u16; SIDE_CAPACITY]) -> [bool; SLOT_LIMIT]
     requires { ⌜ Removable (now graph) (now rule) (now images) ⌝ }
-    ensures { λ r. ⌜ Marks (λ k. not (stays (graphOf (now (graph .entry))) (ruleOf (now (rule .entry))) (now (images .entry)) k))
+    ensures { λ r. ⌜ Marked (λ k. not (stays (graphOf (now (graph .entry))) (ruleOf (now (rule .entry))) (now (images .entry)) k))
         (slotCount (now (graph .entry))) r ⌝ }
 {
     let vertices = source_count(rule);

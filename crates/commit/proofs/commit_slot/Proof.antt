@@ -2,13 +2,14 @@
 -- Assumes nothing.
 use mathlib.Core.Path.{_≡_, ap, _∙_}
 use mathlib.Core.List.{_++_}
-use Prim.Native.Nat.{_+_, _-_, _≤_}
+use Prim.Native.Nat.{_+_, _-_}
 use native.Mathlib.Omega.{arith}
-use lib.ListN.{length, take, drop, length-drop}
+use lib.ListN.{take, drop, length-drop}
 use lib.Seq.{length-take-le}
 use Rattle.definitions.specs.Graph.{slotBytes, tailOffset, tailBytes, recordAt}
 use Rattle.graph_records.specs.Records.{recordBytes}
 use Rattle.graph_records.proofs.Laws.{record-length}
+use Rattle.graph_slots.specs.Written.{SlotWritten}
 use Rattle.commit.proofs.Laws.{whole-record, kept-slot, written-slot}
 use borrow.Author.Needs.{needs}
 use Rattle.commit.proofs.commit_slot.Statement.{statement}
@@ -40,26 +41,17 @@ add-end c = search needs
 add-tail : tie.Need-add-tail
 add-tail c = search needs
 
-sub-write-record : tie.Need-sub-write-record
-sub-write-record c = search needs
+sub-write-slot : tie.Need-sub-write-slot
+sub-write-slot c = search needs
 
-part-write-record-start : tie.Need-part-write-record-start
-part-write-record-start c = search needs
+part-write-slot-start : tie.Need-part-write-slot-start
+part-write-slot-start c = search needs
 
-part-write-record-end : tie.Need-part-write-record-end
-part-write-record-end c = search needs
+part-write-slot-end : tie.Need-part-write-slot-end
+part-write-slot-end c = search needs
 
-sub-write-record-2 : tie.Need-sub-write-record-2
-sub-write-record-2 c = search needs
-
-part-write-record-start-2 : tie.Need-part-write-record-start-2
-part-write-record-start-2 c = search needs
-
-part-write-record-end-2 : tie.Need-part-write-record-end-2
-part-write-record-end-2 c = search needs
-
-write-record-requires : tie.Need-write-record-requires
-write-record-requires c κs = search needs
+write-slot-requires : tie.Need-write-slot-requires
+write-slot-requires c κs = search needs
 
 same-length-2 : tie.Need-same-length-2
 same-length-2 c = search needs
@@ -73,15 +65,15 @@ returns-2 c =
     let k = s .args .k in
     let at = recordAt k in
     let tail = take tailBytes (drop (at + tailOffset) table) in
-    let fits : at + slotBytes ≤ length table = omega (arith, s .pre .0 .size, s .pre .1 .0) in
     let given : at + slotBytes - (at + tailOffset) ≡ tailBytes = omega arith in
-    let size = r .read-record .ensures .0 in
-    let bytes : w .write-record .last .0 ≡ recordBytes tail (r .read-record .result) = rw given at (w .write-record .ensures) in
-    written-slot (s .args .graph .now) table k (s .pre .1 .1) (w .write-record .last .0) fits
-    (ap length bytes
-    ∙ record-length tail (r .read-record .result) (length-take-le tailBytes (drop (at + tailOffset) table) (simp length-drop (omega arith)))
+    let size = r .read-record .ensures .1 .0 in
+    let written : SlotWritten k (recordBytes tail (r .read-record .result)) (s .args .graph .now) (w .write-slot .last .0) =
+    rw given at (w .write-slot .ensures) in
+    written-slot (s .args .graph .now) table k (s .pre .1 .1) written (omega (arith, s .pre .0 .size, s .pre .1 .0))
+    (record-length tail (r .read-record .result)
+    (length-take-le tailBytes (drop (at + tailOffset) table) (simp length-drop (omega (arith, s .pre .0 .size, s .pre .1 .0))))
     (size .0) (size .1))
-    (bytes ∙ ap (λ fields. fields ++ tail) (r .read-record .ensures .1) ∙ whole-record table at)
+    (ap (λ fields. fields ++ tail) (r .read-record .ensures .1 .1) ∙ whole-record table at)
 
 pub commit-slot-spec : {M : Type 1} → statement M
 commit-slot-spec =
@@ -95,12 +87,9 @@ commit-slot-spec =
     read-record-requires
     add-end
     add-tail
-    sub-write-record
-    part-write-record-start
-    part-write-record-end
-    sub-write-record-2
-    part-write-record-start-2
-    part-write-record-end-2
-    write-record-requires
+    sub-write-slot
+    part-write-slot-start
+    part-write-slot-end
+    write-slot-requires
     same-length-2
     returns-2)

@@ -3,17 +3,20 @@
 use mathlib.Core.Path.{_≡_}
 use Prim.Native.Nat.{_-_, _≤_, _<_}
 use native.Mathlib.Omega.{arith}
-use lib.ListN.{length, length-replicate}
+use lib.ListN.{length, take, length-replicate}
 use mathlib.Core.Bool.{Bool, false}
-use Rattle.definitions.specs.Graph.{slotLimit, slotCount, graphOf, inputsOf}
+use Rattle.definitions.specs.Graph.{slotLimit, unusedPlace, slotCount, graphOf, inputsOf}
+use Rattle.definitions.specs.Paths.{isMarked}
 use Rattle.acyclic.proofs.Laws.{table}
-use Rattle.graph_cycles.proofs.Laws.{Marked, marked-none, marked-more, marked-ends}
+use Rattle.reachability.specs.Marks.{Marks}
+use Rattle.reachability.proofs.Marks.{marks-none, marks-more}
+use Rattle.graph_cycles.proofs.Laws.{marked-ends}
 use Rattle.graph_cycles.proofs.is_on_cycle.Statement.{statement}
 use Rattle.graph_cycles.proofs.is_on_cycle.Tie as tie
 
 abbrev Inv-loop : tie.InvT-loop
 Inv-loop graph v inputs marks₀ i₀ marks i =
-    (i ≤ inputs) × (length marks ≡ slotLimit) × Marked (inputsOf (graphOf graph)) v i marks
+    (i ≤ inputs) × (length marks ≡ slotLimit) × Marks (inputsOf (graphOf graph)) (take i (inputsOf (graphOf graph) v)) (isMarked marks)
 
 abbrev μ-loop : tie.MeasureT-loop
 μ-loop graph v inputs marks₀ i₀ marks i = inputs - i
@@ -25,7 +28,7 @@ input-count-requires : tie.Need-input-count-requires Inv-loop μ-loop
 input-count-requires c κs = (c .before .pre .0, c .before .pre .1 .1)
 
 loop-holds : tie.Need-loop-holds Inv-loop μ-loop
-loop-holds c = (omega arith, length-replicate {A = Bool} 512 false, marked-none (c .before .before .args .v) 512)
+loop-holds c = (omega arith, length-replicate {A = Bool} 512 false, marks-none 512)
 
 -- there is a next input
 one-left : (c : tie.In-loop Inv-loop μ-loop)
@@ -60,7 +63,7 @@ loop-again c =
     let a = l .before in (
       omega (arith, l .loop-test .taken),
       c .mark-from .ensures .0,
-      marked-more (a .loop .inv .2) (one-left l) (i .input-at .ensures .0) (c .mark-from .ensures .1),
+      marks-more (inputsOf (graphOf (start a .args .graph .now)) (start a .args .v)) (a .loop .i) unusedPlace (a .loop .inv .2) (one-left l) (i .input-at .ensures .0) (c .mark-from .ensures .1),
     )
 
 array-read-result : tie.Need-array-read-result Inv-loop μ-loop
@@ -70,7 +73,7 @@ returns : tie.Need-returns Inv-loop μ-loop
 returns c =
     let a = c .before in
     let s = start a in
-    marked-ends (a .loop .inv .2) (table (s .pre .1 .0))
+    marked-ends (s .args .v) (a .loop .i) (a .loop .marks) (a .loop .inv .2) (table (s .pre .1 .0))
     (omega (arith, a .loop .inv .0, c .loop-test .left, a .before .input-count .ensures .0))
 
 pub is-on-cycle-spec : {M : Type 1} → statement M

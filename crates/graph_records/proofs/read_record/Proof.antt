@@ -5,6 +5,7 @@ use native.Mathlib.Omega.{arith}
 use lib.ListN.{length}
 use borrow.Author.Needs.{needs}
 use Rattle.graph_arrays.proofs.Arrays.{inputs-size, attributes-size}
+use Rattle.graph_records.specs.Records.{ReadFrom}
 use Rattle.graph_records.proofs.Read.{record-back}
 use Rattle.graph_records.proofs.read_record.Statement.{statement}
 use Rattle.graph_records.proofs.read_record.Tie as tie
@@ -42,10 +43,20 @@ returns c =
     let b = i .before .before .before .before .before in
     let s = b .before in
     let block = s .args .block .now in
-    let at = s .args .at in (
-      (ap length (i .read-inputs .ensures) ∙ inputs-size block at, ap length (c .read-attributes .ensures) ∙ attributes-size block at),
-      record-back block (λ j. omega (arith, b .shared-slice-known .given j)) at (s .pre) _ refl refl refl refl (i .read-inputs .ensures)
-          (c .read-attributes .ensures),
+    let at = s .args .at in
+    let read : ReadFrom block at _ = record {
+      kind = refl;
+      operator = refl;
+      inputCount = refl;
+      attributeCount = refl;
+      inputs = i .read-inputs .ensures;
+      attributes = c .read-attributes .ensures;
+    } in (
+      read,
+      (
+        (ap length (i .read-inputs .ensures) ∙ inputs-size block at, ap length (c .read-attributes .ensures) ∙ attributes-size block at),
+        record-back block (λ j. omega (arith, b .shared-slice-known .given j)) at (s .pre) _ read,
+      ),
     )
 
 pub read-record-spec : {M : Type 1} → statement M

@@ -3,9 +3,8 @@
 use mathlib.Core.Path.{sym, _∙_}
 use borrow.Author.Needs.{needs}
 use lib.ListN.{length-map}
-use Rattle.definitions.specs.Graph.{graphOf, inputsOf}
+use Rattle.definitions.specs.Graph.{renamed, graphOf, inputsOf}
 use Rattle.redirection.specs.Moves.{moved}
-use Rattle.new_vertices.specs.Slots.{movedSlot}
 use Rattle.new_vertices.proofs.staying_record.Statement.{statement}
 use Rattle.new_vertices.proofs.staying_record.Tie as tie
 
@@ -40,7 +39,7 @@ cast-t13 : tie.Need-cast-t13
 cast-t13 c = search needs
 
 returns : tie.Need-returns
-unfolding movedSlot
+unfolding renamed
 returns c =
     let e = c .before in
     let m = e .before in

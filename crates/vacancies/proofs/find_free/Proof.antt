@@ -12,14 +12,14 @@ use Rattle.definitions.specs.Rewriting.{goes}
 use Rattle.laws.proofs.Match.{image-at}
 use Rattle.laws.proofs.Rule.{length-source}
 use Rattle.new_removal.proofs.Laws.{goes-counted}
-use Rattle.vacancies.specs.Vacant.{Marks}
+use Rattle.laws.specs.Marked.{Marked}
 use Rattle.vacancies.proofs.Steps.{marks-same, freeBelow, free-none, free-put, free-pass, free-all}
 use Rattle.vacancies.proofs.find_free.Statement.{statement}
 use Rattle.vacancies.proofs.find_free.Tie as tie
 
 abbrev Inv-loop : tie.InvT-loop
 Inv-loop graph rule images vertices uses places free₀ j₀ free j =
-    (j ≤ vertices) × Marks (freeBelow (graphOf graph) (ruleOf rule) images j) (slotCount graph) free
+    (j ≤ vertices) × Marked (freeBelow (graphOf graph) (ruleOf rule) images j) (slotCount graph) free
 
 abbrev μ-loop : tie.MeasureT-loop
 μ-loop graph rule images vertices uses places free₀ j₀ free j = vertices - j

@@ -8,13 +8,13 @@ use native.Mathlib.Omega.{arith}
 use borrow.Author.Needs.{needs}
 use borrow.Author.Tests.{eq-eqb, ne-eqb}
 use Rattle.definitions.specs.Graph.{slotCount, graphOf, slotOf, isVertex}
-use Rattle.vacancies.specs.Vacant.{Marks}
+use Rattle.laws.specs.Marked.{Marked}
 use Rattle.vacancies.proofs.Steps.{marks-none, marks-same, emptyBelow, empty-none, empty-more, empty-pass, empty-all}
 use Rattle.vacancies.proofs.mark_empty.Statement.{statement}
 use Rattle.vacancies.proofs.mark_empty.Tie as tie
 
 abbrev Inv-loop : tie.InvT-loop
-Inv-loop graph slots free₀ k₀ free k = (k ≤ slots) × Marks (emptyBelow (graphOf graph) k) (slotCount graph) free
+Inv-loop graph slots free₀ k₀ free k = (k ≤ slots) × Marked (emptyBelow (graphOf graph) k) (slotCount graph) free
 
 abbrev μ-loop : tie.MeasureT-loop
 μ-loop graph slots free₀ k₀ free k = slots - k

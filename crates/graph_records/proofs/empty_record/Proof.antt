@@ -4,8 +4,8 @@ use mathlib.Core.Path.{refl}
 use Rattle.definitions.specs.Lists.{padded}
 use Rattle.definitions.specs.Graph.{emptySlot}
 use borrow.Author.Needs.{needs}
-use Rattle.new_vertices.proofs.empty_record.Statement.{statement}
-use Rattle.new_vertices.proofs.empty_record.Tie as tie
+use Rattle.graph_records.proofs.empty_record.Statement.{statement}
+use Rattle.graph_records.proofs.empty_record.Tie as tie
 
 cast-t1 : tie.Need-cast-t1
 cast-t1 c = search needs
