@@ -37,6 +37,9 @@ pub const NO_ROOM: u8 = 6;
 
 pub const NEW_CYCLE: u8 = 7;
 
+// The list of moves is not 2N bytes.
+pub const BAD_MOVES_LENGTH: u8 = 40;
+
 // The refusal with this number and this place. No request names a value beside the place yet.
 pub fn refuse_at(number: u8, index: u32) -> Reply
     ensures { λ r. ⌜ r ≡ answer.refusedAt number index ⌝ }
