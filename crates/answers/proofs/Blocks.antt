@@ -40,11 +40,11 @@ read answer small none reply contract = record {
 
 -- of done, and of a refusal
 module _ (reply : ℕ) where
-  read-done : reply ≡ packed done → Says reply 0 0
+  pub read-done : reply ≡ packed done → Says reply 0 0
   unfolding numberOf indexOf
   read-done e = read done (record { number = omega arith; place = omega arith }) (plain-done .value) reply e
 
-  read-refused : {n p : ℕ} → Small n p → reply ≡ packed (refusedAt n p) → Says reply n p
+  pub read-refused : {n p : ℕ} → Small n p → reply ≡ packed (refusedAt n p) → Says reply n p
   unfolding refusalAt numberOf indexOf
   read-refused {n} {p} small e = read (refusedAt n p) small (refused-valueless n p) reply e
 

@@ -8,4 +8,7 @@ pub mod Exclusive
 pub mod Rewriting
 pub mod Demands
 pub mod Unchanged
+pub mod Tidying
+pub mod Sweeping
+pub mod Squeezing
 pub mod Statements

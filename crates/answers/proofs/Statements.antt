@@ -10,12 +10,14 @@ use Rattle.definitions.specs.Rule.{sourceCount, ruleOf}
 use Rattle.definitions.specs.Results.{Meaning}
 use Rattle.answers.specs.Written.{imagesIn}
 use Rattle.answers.specs.Rewritten.{Due}
-use Rattle.answers.specs.Statements.{Says, CheckedGraph, CheckedRule, Searched, Rewrote, GraphVerdict, RuleVerdict, MatchReplies, Yields, RewriteReplies, Demand3}
+use Rattle.answers.specs.Statements.{Says, CheckedGraph, CheckedRule, Searched, Rewrote, Swept, Squeezed, GraphVerdict, RuleVerdict, MatchReplies, Yields, RewriteReplies, Demand3, SweepReplies, SweepKeeps, SweptTwice, SqueezeReplies, SqueezeKeeps, SqueezedTwice}
 use Rattle.answers.proofs.Blocks.{graph-verdict, rule-verdict}
 use Rattle.answers.proofs.Matching.{match-replies}
 use Rattle.answers.proofs.Rewriting.{block-replies, due, replied, listed, refusal-keeps, written}
 use Rattle.answers.proofs.Demands.{yields-sound, yields-table, demand-3}
 use Rattle.answers.proofs.Unchanged.{keeps-record, keeps-constant}
+use Rattle.answers.proofs.Sweeping.{sweep-replies, sweep-keeps, sweep-twice}
+use Rattle.answers.proofs.Squeezing.{squeeze-replies, squeeze-keeps, squeeze-twice}
 
 -- Number and place are all that the C side gets: what is said of them is said of the whole reply.
 pub whole-word : (reply n p : ℕ) → Says reply n p → reply ≡ n + 2 ^ 8 * p
@@ -67,3 +69,25 @@ module _ (graph rule : List ℕ) (start : ℕ) (map : List ℕ) (reply : ℕ) (g
     -- demand 3
     pub accepted-keeps {ℓ} : {R : Type ℓ} (m : Meaning R) → numberIn reply ≡ 0 → Demand3 m graph rule graphAfter mapAfter
     accepted-keeps = demand-3 graph rule start map reply graphAfter mapAfter contract
+
+module _ (graph : List ℕ) (reply : ℕ) (graphAfter : List ℕ) (contract : Swept graph reply graphAfter) where
+  -- lg_sweep
+  pub swept : SweepReplies graph reply graphAfter
+  swept = sweep-replies graph reply graphAfter contract
+
+  pub swept-keeps {ℓ} : {R : Type ℓ} (m : Meaning R) → numberIn reply ≡ 0 → SweepKeeps m graph graphAfter
+  swept-keeps m h = sweep-keeps graph reply graphAfter contract h m
+
+  pub swept-twice : numberIn reply ≡ 0 → SweptTwice graphAfter
+  swept-twice = sweep-twice graph reply graphAfter contract
+
+module _ (graph moves : List ℕ) (reply : ℕ) (graphAfter movesAfter : List ℕ) (contract : Squeezed graph moves reply graphAfter movesAfter) where
+  -- lg_squeeze
+  pub squeezed : SqueezeReplies graph moves reply graphAfter movesAfter
+  squeezed = squeeze-replies graph moves reply graphAfter movesAfter contract
+
+  pub squeezed-keeps {ℓ} : {R : Type ℓ} (m : Meaning R) → numberIn reply ≡ 0 → SqueezeKeeps m graph graphAfter movesAfter
+  squeezed-keeps m h = squeeze-keeps graph moves reply graphAfter movesAfter contract h m
+
+  pub squeezed-twice : numberIn reply ≡ 0 → SqueezedTwice graphAfter movesAfter
+  squeezed-twice = squeeze-twice graph moves reply graphAfter movesAfter contract

@@ -1,3 +1,4 @@
 pub mod Written
 pub mod Rewritten
+pub mod Tidied
 pub mod Statements

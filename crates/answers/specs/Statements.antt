@@ -1,13 +1,13 @@
 -- What to read first. The contracts say what the exported functions answer, for any bytes; crates/leafgraph/src/lib.rt cites them, and the
 -- code is proved to meet them. Below them stands what follows from each alone, whatever the code: proofs/Statements has the theorems. Words
--- in quotation marks are the owner's demands and document 01. What the words used here mean stands in the crate definitions and in
--- Written and Rewritten beside this file. Three things of demand 1 are not said by a type: no exported function has a `requires`, which
+-- in quotation marks are the owner's demands, document 01 and the requests. What the words used here mean stands in the crate definitions
+-- and in Written, Rewritten and Tidied beside this file. Three things of demand 1 are not said by a type: no exported function has a `requires`, which
 -- lib.rt shows; and that each one ends, and touches nothing but what it is lent, is part of every proof.
 -- Assumes nothing.
 use mathlib.Core.Path.{_≡_}
 use mathlib.Core.Bool.{true, false}
-use mathlib.Core.List.{List, [], _∷_, _++_}
-use mathlib.Core.Logic.{_↔_}
+use mathlib.Core.List.{List, [], _∷_, _++_, map}
+use mathlib.Core.Logic.{_↔_, _⊎_}
 use mathlib.Core.Option.{some}
 use Prim.Native.Nat.{ℕ, _+_, _*_, _<_, _≤_}
 use lib.Dec.{T}
@@ -15,21 +15,24 @@ use lib.IntN.{ℤ}
 use lib.ListN.{length}
 use Rattle.definitions.specs.Lists.{member}
 use Rattle.definitions.specs.Fields.{Bytes, byteAt, u16At}
-use Rattle.definitions.specs.Reply.{badMapLength, badGraphHeader, badGraphRecord, badGraphName, graphHasCycle, badRuleHeader, badRuleRecord, badRuleOrder, badRuleOutputs, badRuleExpression, noMatch, noResult, noRoom, newCycle, packed, numberIn, placeIn, valueIn}
-use Rattle.definitions.specs.Graph.{unusedPlace, slotBytes, recordAt, graphOf, graphBlock, graphReply, SoundGraph}
+use Rattle.definitions.specs.Reply.{badMapLength, badGraphHeader, badGraphRecord, badGraphName, graphHasCycle, badRuleHeader, badRuleRecord, badRuleOrder, badRuleOutputs, badRuleExpression, noMatch, noResult, noRoom, newCycle, badMovesLength, packed, numberIn, placeIn, valueIn}
+use Rattle.definitions.specs.Graph.{headerBytes, slotBytes, unusedPlace, slotCount, recordAt, renamed, graphOf, slotOf, isVertex, graphBlock, graphReply, SoundGraph}
 use Rattle.definitions.specs.Rule.{sourceCount, ruleOf, ruleReply, SoundRule}
 use Rattle.definitions.specs.Faults.{GraphFault, RuleFault}
 use Rattle.definitions.specs.Match.{readAttribute, MatchFrom, LeastFrom}
 use Rattle.definitions.specs.Rewriting.{targetResults, stays, redirect, newGraph}
 use Rattle.definitions.specs.Operations.{atReturn, returned, mapPlaces, mapBytes, findMatch, rewrite}
-use Rattle.definitions.specs.Results.{Meaning}
+use Rattle.definitions.specs.Sweep.{Unneeded, sweepGraph}
+use Rattle.definitions.specs.Squeeze.{squeezeReply, squeezeGraph, squeezeMoves}
+use Rattle.definitions.specs.Results.{Meaning, Follows}
 use Rattle.answers.specs.Written.{imagesIn}
 use Rattle.answers.specs.Rewritten.{Due, SharedConst, ReadsNone, Keeps}
+use Rattle.answers.specs.Tidied.{wentTo, Renumbers, KeepsResults}
 
 -- ==== the contracts
 
 -- Names with After are the lent bytes at the return, the others as they came. What is lent to read only cannot be written: the rule
--- always, and the graph except by lg_rewrite. For such a graph lib.rt gives the bytes as they came for graphAfter.
+-- always, and the graph by the checks and by lg_find_match. For such a graph lib.rt gives the bytes as they came for graphAfter.
 
 -- lg_check_graph and lg_check_rule: the reply is the definition's
 abbrev pub CheckedGraph : List ℕ → ℕ → Type 0
@@ -48,6 +51,20 @@ pub record Rewrote (graph rule : List ℕ) (start : ℕ) (map : List ℕ) (reply
   pub lentGraph : Bytes graph
   pub lentRule : Bytes rule
   pub lentMap : Bytes map
+
+-- lg_sweep: the reply is the check's, and the graph bytes are the definition's; what it is lent are bytes
+pub record Swept (graph : List ℕ) (reply : ℕ) (graphAfter : List ℕ) : Type 0 where
+  pub replied : reply ≡ packed (graphReply graph)
+  pub left : graphAfter ≡ sweepGraph graph
+  pub lentGraph : Bytes graph
+
+-- lg_squeeze: reply, graph bytes and list bytes are the definition's; likewise
+pub record Squeezed (graph moves : List ℕ) (reply : ℕ) (graphAfter movesAfter : List ℕ) : Type 0 where
+  pub replied : reply ≡ packed (squeezeReply graph moves)
+  pub left : graphAfter ≡ squeezeGraph graph moves
+  pub listed : movesAfter ≡ squeezeMoves graph moves
+  pub lentGraph : Bytes graph
+  pub lentMoves : Bytes moves
 
 -- ==== what follows: the checks
 
@@ -187,3 +204,90 @@ pub record Demand3 {ℓ} {R : Type ℓ} (m : Meaning R) (graph rule graphAfter m
   pub values : List (List ℤ)
   pub fit : targetResults (readAttribute (graphOf graph) (imagesIn mapAfter (sourceCount rule))) (ruleOf rule .target) ≡ some values
   pub keeps : Keeps m (graphOf graph) (ruleOf rule) (imagesIn mapAfter (sourceCount rule)) values (graphOf graphAfter)
+
+-- ==== what follows: the sweep
+
+-- What an accepted sweep leaves. Together this is every byte: a slot that is Empty in a sound block has one content.
+pub record Sweeps (graph graphAfter : List ℕ) : Type 0 where
+  -- "Every vertex from which no graph output is reached becomes Empty, except Variables": Empty after is what was so, and these
+  pub empty : (v : ℕ) → (isVertex (graphOf graphAfter) v ≡ false)
+      ↔ ((isVertex (graphOf graph) v ≡ false) ⊎ Unneeded (graphOf graph) v)
+  -- every other record keeps every byte, and so does the header
+  pub records : (v : ℕ) → v < slotCount graph → (Unneeded (graphOf graph) v → ⊥)
+      → (i : ℕ) → i < slotBytes → byteAt graphAfter (recordAt v + i) ≡ byteAt graph (recordAt v + i)
+  pub header : (i : ℕ) → i < headerBytes → byteAt graphAfter i ≡ byteAt graph i
+  -- N and the block's length stay
+  pub size : length graphAfter ≡ length graph
+  pub sound : SoundGraph graphAfter
+
+-- follows from Swept
+pub record SweepReplies (graph : List ℕ) (reply : ℕ) (graphAfter : List ℕ) : Type 0 where
+  -- "bad graph as before"
+  pub verdict : GraphVerdict graph reply
+  pub refusalKeeps : (numberIn reply ≡ 0 → ⊥) → graphAfter ≡ graph
+  pub sweeps : numberIn reply ≡ 0 → Sweeps graph graphAfter
+
+-- Every vertex that stays and every output has the same result after as before. Follows from Swept and reply 0, for every result type R
+-- and every meaning m.
+abbrev pub SweepKeeps {ℓ} : {R : Type ℓ} → Meaning R → List ℕ → List ℕ → Type ℓ
+SweepKeeps m graph graphAfter =
+    KeepsResults m m (graphOf graph) (graphOf graphAfter) (isVertex (graphOf graphAfter)) (λ v. v)
+
+-- A second sweep is accepted, and changes nothing more. Follows from Swept and reply 0.
+abbrev pub SweptTwice : List ℕ → Type 0
+SweptTwice graphAfter =
+    (reply : ℕ) (again : List ℕ) → Swept graphAfter reply again → (numberIn reply ≡ 0) × (again ≡ graphAfter)
+
+-- ==== what follows: the squeeze
+
+-- the numbers that a squeeze gives
+abbrev pub squeezeNumbers : List ℕ
+squeezeNumbers = 0 ∷ graphNumbers ++ badMovesLength ∷ []
+
+-- What an accepted squeeze leaves. Together this is every byte of both blocks, as above.
+pub record Squeezes (graph graphAfter movesAfter : List ℕ) : Type 0 where
+  -- "a lent list of N 16-bit numbers says where each old slot went"
+  pub moves : Renumbers (graphOf graph) (wentTo movesAfter)
+  pub movesSize : length movesAfter ≡ 2 * slotCount graph
+  -- "all inputs and outputs follow": each vertex's record is its old one, with its inputs renamed
+  pub records : (v : ℕ) → isVertex (graphOf graph) v ≡ true
+      → slotOf (graphOf graphAfter) (wentTo movesAfter v) ≡ renamed (wentTo movesAfter) (slotOf (graphOf graph) v)
+  pub outputs : graphOf graphAfter .outputs ≡ map (wentTo movesAfter) (graphOf graph .outputs)
+  -- the rest is Empty
+  pub rest : (k : ℕ) → isVertex (graphOf graphAfter) k ≡ true
+      → (v : ℕ) × (isVertex (graphOf graph) v ≡ true) × (wentTo movesAfter v ≡ k)
+  -- N and the block's length stay
+  pub size : length graphAfter ≡ length graph
+  pub sound : SoundGraph graphAfter
+
+-- follows from Squeezed
+pub record SqueezeReplies (graph moves : List ℕ) (reply : ℕ) (graphAfter movesAfter : List ℕ) : Type 0 where
+  pub done : (numberIn reply ≡ 0) ↔ (SoundGraph graph × (length moves ≡ 2 * slotCount graph))
+  -- "bad graph as before": n with place p exactly where n is the first kind of fault that holds and p its lowest place
+  pub wrongGraph : (member (numberIn reply) graphNumbers ≡ true) ↔ (SoundGraph graph → ⊥)
+  pub graphFault : (n p : ℕ) → ((member n graphNumbers ≡ true) × Says reply n p) ↔ GraphFault graph n p
+  -- "then 40 when the list is not 2N bytes"
+  pub wrongMoves : (numberIn reply ≡ badMovesLength) ↔ (SoundGraph graph × (length moves ≡ 2 * slotCount graph → ⊥))
+  pub listed : member (numberIn reply) squeezeNumbers ≡ true
+  -- only the graph's faults have a place, and nothing a value
+  pub plain : member (numberIn reply) graphNumbers ≡ false → placeIn reply ≡ 0
+  pub value : valueIn reply ≡ 0
+  pub refusalKeeps : (numberIn reply ≡ 0 → ⊥) → (graphAfter ≡ graph) × (movesAfter ≡ moves)
+  pub squeezes : numberIn reply ≡ 0 → Squeezes graph graphAfter movesAfter
+
+-- "Under demand 3's meanings a moved vertex has the same result after as before, with a Variable's result following it to its new number":
+-- `meant` is any meaning that gives a Variable at its new number the result that m gives it at its old one (Follows), and there is one.
+-- Follows from Squeezed and reply 0, for every result type R and every meaning m.
+pub record SqueezeKeeps {ℓ} {R : Type ℓ} (m : Meaning R) (graph graphAfter movesAfter : List ℕ) : Type ℓ where
+  pub some : (meant : Meaning R) × Follows (graphOf graph) (wentTo movesAfter) m meant
+  pub every : (meant : Meaning R) → Follows (graphOf graph) (wentTo movesAfter) m meant
+      → KeepsResults m meant (graphOf graph) (graphOf graphAfter) (isVertex (graphOf graph)) (wentTo movesAfter)
+
+-- A second squeeze with a list that is as long is accepted, changes nothing more, and its list says of every vertex that it stays where it
+-- is. Follows from Squeezed and reply 0.
+abbrev pub SqueezedTwice : List ℕ → List ℕ → Type 0
+SqueezedTwice graphAfter movesAfter =
+    (moves : List ℕ) (reply : ℕ) (again movesAgain : List ℕ) → Squeezed graphAfter moves reply again movesAgain
+    → length moves ≡ length movesAfter
+    → (numberIn reply ≡ 0) × (again ≡ graphAfter)
+    × ((v : ℕ) → isVertex (graphOf graphAfter) v ≡ true → wentTo movesAgain v ≡ v)
