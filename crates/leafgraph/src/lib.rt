@@ -2,7 +2,7 @@
 // their C prototypes. None has a `requires`: any bytes are answered. The contracts stand in
 // answers/specs/Statements, each with what follows from it.
 use reply::pack;
-ghost use Rattle.answers.specs.Statements.{CheckedGraph, CheckedRule, Searched, Rewrote};
+ghost use Rattle.answers.specs.Statements.{CheckedGraph, CheckedRule, Searched, Rewrote, Swept, Squeezed};
 
 // Checks a graph block: 0, or 20 to 23 with a place.
 #[no_mangle]
@@ -36,4 +36,20 @@ pub extern "C" fn lg_rewrite(graph: &mut [u8], rule: &[u8], start: usize, map: &
         r (now (graph .exit)) (now (map .exit)) ⌝ }
 {
     pack(rewriting::rewrite(graph, rule, start, map))
+}
+
+// Empties every vertex from which no graph output is reached, except Variables: what the check refuses, or 0. A refusal leaves every byte as it came.
+#[no_mangle]
+pub extern "C" fn lg_sweep(graph: &mut [u8]) -> u64
+    ensures { λ r. ⌜ Swept (now (graph .entry)) r (now (graph .exit)) ⌝ }
+{
+    pack(graph_sweep::sweep(graph))
+}
+
+// Moves the vertices to the lowest slots, in their order, and lists where each slot went: what the check refuses, 40, or 0. A refusal leaves every byte as it came.
+#[no_mangle]
+pub extern "C" fn lg_squeeze(graph: &mut [u8], moves: &mut [u8]) -> u64
+    ensures { λ r. ⌜ Squeezed (now (graph .entry)) (now (moves .entry)) r (now (graph .exit)) (now (moves .exit)) ⌝ }
+{
+    pack(graph_squeeze::squeeze(graph, moves))
 }
