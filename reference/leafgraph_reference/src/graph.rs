@@ -121,6 +121,10 @@ fn header_is_sound(bytes: &[u8]) -> bool {
 }
 
 impl<'a> Slot<'a> {
+    pub fn record(self) -> &'a [u8] {
+        self.record
+    }
+
     pub fn kind(self) -> u8 {
         self.record[0]
     }
@@ -174,6 +178,17 @@ impl<'a> Slot<'a> {
             && all_zero(&self.record[40..48])
             && (kind != PROJ || self.attribute(0) >= 1)
     }
+}
+
+/// N as any bytes tell it, sound or not: 0 where they are too few.
+pub fn slots_told(bytes: &[u8]) -> usize {
+    bytes.get(6..8).map_or(0, |field| u16_at(field, 0).into())
+}
+
+/// The record at a slot of a table still being made.
+pub(crate) fn record_mut(block: &mut [u8], slot: u16) -> &mut [u8] {
+    let at = HEADER + RECORD * usize::from(slot);
+    &mut block[at..at + RECORD]
 }
 
 /// The record of an Empty slot: there is exactly one.

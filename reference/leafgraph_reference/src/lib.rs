@@ -1,17 +1,19 @@
-//! The second program of leafgraph: document 01, with requests 1/13 and 2/13 of
-//! document 02, in plain Rust.
+//! The second program of leafgraph: document 01, with requests 1/13, 2/13 and
+//! 4/13 of document 02, in plain Rust.
 //!
 //! It is written from these papers alone, not from the proved library, so that
 //! an error of reading in one of the two shows up as a difference between
 //! them. Sentences in quotation marks are document 01's or a request's.
 //!
-//! "Four operations: check a graph, check a rule, find a match, rewrite."
+//! "Four operations: check a graph, check a rule, find a match, rewrite", and
+//! request 4/13's sweep and squeeze.
 //! Each answers any bytes of any length. The reply holds its number in bits 0
 //! to 7 and its place in bits 8 to 39; the other bits are 0 for now.
 #![forbid(unsafe_code)]
 
 pub mod attributes;
 pub mod blocks;
+pub mod cleanup;
 mod cycle;
 mod fields;
 pub mod generate;
@@ -28,6 +30,8 @@ mod rewriting;
 pub mod rule;
 mod rule_check;
 pub mod rule_faults;
+pub mod squeeze;
+pub mod sweep;
 
 use graph::{Graph, MAX_BLOCK};
 use reply::{reply_of, Refusal};
@@ -59,6 +63,19 @@ pub fn rewrite(graph: &mut [u8], rule: &[u8], start: usize, map: &mut [u8]) -> u
     reply_of(try_rewrite(graph, rule, start, map))
 }
 
+/// "Every vertex from which no graph output is reached becomes Empty, except
+/// Variables". "Refusals: bad graph as before".
+pub fn sweep(graph: &mut [u8]) -> u64 {
+    reply_of(try_sweep(graph))
+}
+
+/// "Vertices move to the lowest slots in their old order, all inputs and outputs
+/// follow, and a lent list of N 16-bit numbers says where each old slot went".
+/// "Refusals: bad graph as before, then 40 when the list is not 2N bytes."
+pub fn squeeze(graph: &mut [u8], moves: &mut [u8]) -> u64 {
+    reply_of(try_squeeze(graph, moves))
+}
+
 fn try_find_match(graph: &[u8], rule: &[u8], start: usize, map: &mut [u8]) -> Result<(), Refusal> {
     check_map_length(map)?;
     let graph = Graph::parse(graph)?;
@@ -78,6 +95,26 @@ fn try_rewrite(graph: &mut [u8], rule: &[u8], start: usize, map: &mut [u8]) -> R
     rewriting::write_new_table(new, old, rule, &images)?;
     graph.copy_from_slice(new);
     matching::write_map(map, &images);
+    Ok(())
+}
+
+fn try_sweep(graph: &mut [u8]) -> Result<(), Refusal> {
+    let dead = sweep::dead_slots(Graph::parse(graph)?);
+    sweep::remove(graph, &dead);
+    Ok(())
+}
+
+fn try_squeeze(graph: &mut [u8], moves: &mut [u8]) -> Result<(), Refusal> {
+    let old = Graph::parse(graph)?;
+    if moves.len() != squeeze::list_length(old) {
+        return Err(Refusal::LIST_LENGTH);
+    }
+    let numbers = squeeze::new_numbers(old);
+    let mut buffer = [0; MAX_BLOCK];
+    let new = &mut buffer[..old.bytes().len()];
+    squeeze::write_new_table(new, old, &numbers);
+    squeeze::write_list(moves, &numbers);
+    graph.copy_from_slice(new);
     Ok(())
 }
 

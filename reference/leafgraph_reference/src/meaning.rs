@@ -60,29 +60,36 @@ impl Meaning {
 
     /// The results of all vertices of a table, None for Empty slots.
     pub fn results(&mut self, graph: Graph) -> Vec<Option<u64>> {
+        let numbers: Vec<usize> = (0..graph.slot_count()).collect();
+        self.results_after_moves(graph, &numbers)
+    }
+
+    /// The same of a table whose vertices have moved, each from the slot given
+    /// here, "with a Variable's result following it to its new number".
+    pub fn results_after_moves(&mut self, graph: Graph, from: &[usize]) -> Vec<Option<u64>> {
         let mut results = vec![None; graph.slot_count()];
         for slot in 0..graph.slot_count() {
-            self.settle(graph, slot, &mut results);
+            self.settle(graph, slot, from, &mut results);
         }
         results
     }
 
     /// Gives this slot its result, and first all that it reads. At most 512
     /// calls deep, since the graph has no cycle.
-    fn settle(&mut self, graph: Graph, number: usize, results: &mut [Option<u64>]) {
+    fn settle(&mut self, graph: Graph, number: usize, from: &[usize], results: &mut [Option<u64>]) {
         let slot = graph.slot(number);
         if slot.is_empty() || results[number].is_some() {
             return;
         }
         let mut inputs = vec![];
         for input in slot.inputs().map(usize::from) {
-            self.settle(graph, input, results);
+            self.settle(graph, input, from, results);
             inputs.push(results[input].expect("an input names a vertex"));
         }
         let (kind, operator) = (slot.kind(), slot.operator());
         let attributes = slot.attributes().map(i64::from).collect();
         results[number] = Some(match kind {
-            VARIABLE => self.variable(number),
+            VARIABLE => self.variable(from[number]),
             _ => self.result(Term { kind, operator, attributes, inputs }),
         });
     }

@@ -42,6 +42,8 @@ impl Refusal {
     pub const NO_ROOM: Refusal = Refusal::without_place(6);
     /// "the table so made would have a cycle"
     pub const CYCLE: Refusal = Refusal::without_place(7);
+    /// "40 when the list is not 2N bytes"
+    pub const LIST_LENGTH: Refusal = Refusal::without_place(40);
 
     /// "wherever no request names a place, 0"
     const fn without_place(number: u8) -> Refusal {

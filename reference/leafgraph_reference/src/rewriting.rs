@@ -3,7 +3,7 @@
 use crate::attributes::results;
 use crate::cycle::has_cycle;
 use crate::fields::put_u16;
-use crate::graph::{write_empty, write_record, Graph, HEADER, MAX_SLOTS, RECORD};
+use crate::graph::{record_mut, write_empty, write_record, Graph, HEADER, MAX_SLOTS, RECORD};
 use crate::matching::Images;
 use crate::operators::{PLACES, PROJ};
 use crate::removal::removed_slots;
@@ -145,9 +145,4 @@ impl Plan<'_> {
             );
         }
     }
-}
-
-fn record_mut(block: &mut [u8], slot: u16) -> &mut [u8] {
-    let at = HEADER + RECORD * usize::from(slot);
-    &mut block[at..at + RECORD]
 }
