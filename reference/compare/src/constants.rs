@@ -4,6 +4,7 @@
 use leafgraph_reference::graph::Graph;
 use leafgraph_reference::operators::CONST;
 use leafgraph_reference::rule::Rule;
+use leafgraph_reference::sweep::{live_slots, Slots};
 
 /// What names a matched Const and is not the image of a non-input source
 /// vertex.
@@ -47,28 +48,16 @@ pub fn matched_consts(graph: Graph, rule: Rule, images: &[u16]) -> Vec<MatchedCo
     if rule.sources().all(|pattern| pattern.kind() != CONST) {
         return vec![];
     }
-    let looked_at = Match { graph, rule, images, reaching: reaching(graph) };
+    let looked_at = Match { graph, rule, images, live: live_slots(graph) };
     let pairs = rule.sources().zip(images).filter(|(pattern, _)| pattern.kind() == CONST);
     pairs.map(|(_, &image)| looked_at.matched_const(image)).collect()
-}
-
-/// The slots from which a graph output is reached.
-fn reaching(graph: Graph) -> Vec<bool> {
-    let mut reaching = vec![false; graph.slot_count()];
-    let mut open: Vec<usize> = graph.outputs().map(usize::from).collect();
-    while let Some(slot) = open.pop() {
-        if !std::mem::replace(&mut reaching[slot], true) {
-            open.extend(graph.slot(slot).inputs().map(usize::from));
-        }
-    }
-    reaching
 }
 
 struct Match<'a> {
     graph: Graph<'a>,
     rule: Rule<'a>,
     images: &'a [u16],
-    reaching: Vec<bool>,
+    live: Slots,
 }
 
 impl Match<'_> {
@@ -92,7 +81,7 @@ impl Match<'_> {
     fn namer(&self, reader: usize) -> Option<Namer> {
         match self.images.iter().position(|&image| usize::from(image) == reader) {
             Some(vertex) => self.rule.is_rule_input(vertex as u8).then_some(Namer::RuleInput),
-            None if self.reaching[reader] => Some(Namer::Vertex),
+            None if self.live[reader] => Some(Namer::Vertex),
             None => Some(Namer::DeadVertex),
         }
     }
