@@ -24,6 +24,8 @@ extern "C" {
         map: *mut u8,
         map_len: usize,
     ) -> u64;
+    fn lg_sweep(graph: *mut u8, graph_len: usize) -> u64;
+    fn lg_squeeze(graph: *mut u8, graph_len: usize, moves: *mut u8, moves_len: usize) -> u64;
 }
 
 pub fn check_graph(graph: &[u8]) -> u64 {
@@ -69,4 +71,16 @@ pub fn rewrite(graph: &mut [u8], rule: &[u8], start: usize, map: &mut [u8]) -> u
             map_len,
         )
     }
+}
+
+pub fn sweep(graph: &mut [u8]) -> u64 {
+    // SAFETY: the pointer is valid for the length, and not null even when the
+    // length is 0, also for writing.
+    unsafe { lg_sweep(graph.as_mut_ptr(), graph.len()) }
+}
+
+pub fn squeeze(graph: &mut [u8], moves: &mut [u8]) -> u64 {
+    // SAFETY: as above; and the two do not overlap, since each is borrowed for
+    // this call alone.
+    unsafe { lg_squeeze(graph.as_mut_ptr(), graph.len(), moves.as_mut_ptr(), moves.len()) }
 }
