@@ -1,7 +1,7 @@
 //! Runs the proved library and the second program on the same random blocks
 //! and reports any difference.
 //!
-//!     compare [--seed S] [--calls N] checks|matching|rewriting
+//!     compare [--seed S] [--calls N] checks|matching|rewriting|cleanups
 //!
 //! The same seed gives the same calls. Exit status 0: no difference, enough
 //! calls were done, and everything that must be tried was; 1: otherwise; 2:
@@ -10,6 +10,7 @@
 mod arguments;
 mod checks;
 mod classes;
+mod cleanups;
 mod constants;
 mod graph_fault_classes;
 mod look_classes;
@@ -20,6 +21,8 @@ mod rewriting;
 mod rewriting_classes;
 mod rule_fault_classes;
 mod sequences;
+mod squeeze_classes;
+mod sweep_classes;
 mod tally;
 
 use std::env;
@@ -30,7 +33,7 @@ use leafgraph_reference::random::Random;
 use tally::Tally;
 
 const DEFAULT_SEED: u64 = 1;
-const USAGE: &str = "usage: compare [--seed S] [--calls N] checks|matching|rewriting";
+const USAGE: &str = "usage: compare [--seed S] [--calls N] checks|matching|rewriting|cleanups";
 
 /// What is compared.
 #[derive(Clone, Copy)]
@@ -40,10 +43,11 @@ struct Mode {
     default_calls: u64,
 }
 
-const MODES: [Mode; 3] = [
+const MODES: [Mode; 4] = [
     Mode { name: "checks", run: checks::run, default_calls: 1_000_000 },
     Mode { name: "matching", run: matching::run, default_calls: 300_000 },
     Mode { name: "rewriting", run: rewriting::run, default_calls: 300_000 },
+    Mode { name: "cleanups", run: cleanups::run, default_calls: 300_000 },
 ];
 
 struct Options {

@@ -22,7 +22,7 @@ const NUMBERS: [u8; 15] = [0, 1, 20, 21, 22, 23, 30, 31, 32, 33, 34, 4, 5, 6, 7]
 /// The least share of calls with good arguments that must be accepted.
 const LEAST_ACCEPTED: u64 = 40;
 
-const UNSOUND: &str = "the new table is not sound";
+pub const UNSOUND: &str = "the new table is not sound";
 const FIRST_HALF: &str =
     "a vertex that stays, with no path from a replaced output, has another result";
 const SECOND_HALF: &str = "the rule's sides mean the same, and a result is another one";
