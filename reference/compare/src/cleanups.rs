@@ -94,6 +94,12 @@ impl Lent {
         let length = list_length(random, &graph);
         Lent { origin, graph, list: random.bytes(length) }
     }
+
+    /// With a list of the right length.
+    pub fn sound(random: &mut Random, origin: &'static str, graph: Vec<u8>) -> Lent {
+        let list = random.bytes(right_length(&graph));
+        Lent { origin, graph, list }
+    }
 }
 
 /// Every vertex but a Variable is needed, and there are Empty slots anywhere.

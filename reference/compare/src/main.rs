@@ -1,7 +1,7 @@
 //! Runs the proved library and the second program on the same random blocks
 //! and reports any difference.
 //!
-//!     compare [--seed S] [--calls N] checks|matching|rewriting|cleanups
+//!     compare [--seed S] [--calls N] checks|matching|rewriting|cleanups|mixed
 //!
 //! The same seed gives the same calls. Exit status 0: no difference, enough
 //! calls were done, and everything that must be tried was; 1: otherwise; 2:
@@ -15,6 +15,8 @@ mod constants;
 mod graph_fault_classes;
 mod look_classes;
 mod matching;
+mod mixed;
+mod mixed_classes;
 mod nearly;
 mod refusal_classes;
 mod rewriting;
@@ -33,7 +35,8 @@ use leafgraph_reference::random::Random;
 use tally::Tally;
 
 const DEFAULT_SEED: u64 = 1;
-const USAGE: &str = "usage: compare [--seed S] [--calls N] checks|matching|rewriting|cleanups";
+const USAGE: &str =
+    "usage: compare [--seed S] [--calls N] checks|matching|rewriting|cleanups|mixed";
 
 /// What is compared.
 #[derive(Clone, Copy)]
@@ -43,11 +46,12 @@ struct Mode {
     default_calls: u64,
 }
 
-const MODES: [Mode; 4] = [
+const MODES: [Mode; 5] = [
     Mode { name: "checks", run: checks::run, default_calls: 1_000_000 },
     Mode { name: "matching", run: matching::run, default_calls: 300_000 },
     Mode { name: "rewriting", run: rewriting::run, default_calls: 300_000 },
     Mode { name: "cleanups", run: cleanups::run, default_calls: 300_000 },
+    Mode { name: "mixed", run: mixed::run, default_calls: 200_000 },
 ];
 
 struct Options {
