@@ -5,15 +5,15 @@ use std::fmt;
 use leafgraph_proved::guarded::Guarded;
 
 use crate::input::Input;
-use crate::judgement::Rewriting;
-use crate::library::{Library, Operation, OPERATIONS, SECOND};
+use crate::judgement::{Cleaned, Rewriting};
+use crate::library::{Lent, Library, Operation, OPERATIONS, SECOND};
 use crate::tally::Tally;
 
 /// A call that did not go as it should.
 #[derive(Debug)]
 pub struct Difference {
     pub operation: Operation,
-    /// How many rewritings of the same graph went before.
+    /// Which call of those on one graph it is, counted from 0.
     pub step: usize,
     pub faults: Vec<String>,
     /// The arguments, in words.
@@ -30,26 +30,33 @@ impl fmt::Display for Difference {
     }
 }
 
-/// Cuts the bytes and makes all four calls, and further rewritings of the graph
-/// if the input asks for them.
+/// What is done at the end with the graph that the rewritings leave.
+const CLEANED: [Operation; 3] = [Operation::Sweep, Operation::Squeeze, Operation::Rewrite];
+
+/// Cuts the bytes and makes all six calls, and further rewritings of the graph if
+/// the input asks for them. Then the graph that is left is swept, squeezed and
+/// rewritten once more.
 pub fn compare(library: &Library, bytes: &[u8], tally: &mut Tally) -> Result<(), Difference> {
     let mut input = Input::cut(bytes);
-    let mut after = None;
-    for operation in OPERATIONS {
-        after = input.compare(library, operation, 0, tally)?;
+    for operation in OPERATIONS.into_iter().filter(|&one| one != Operation::Rewrite) {
+        input.compare(library, operation, 0, tally)?;
     }
-    for step in 1..=input.further {
-        let Some(graph) = after else {
-            break;
-        };
-        input.graph = graph;
-        after = input.compare(library, Operation::Rewrite, step, tally)?;
+    for step in 0..=input.further {
+        match input.compare(library, Operation::Rewrite, step, tally)? {
+            Some(graph) => input.graph = graph,
+            None => break,
+        }
+    }
+    for (step, operation) in (input.further + 1..).zip(CLEANED) {
+        if let Some(graph) = input.compare(library, operation, step, tally)? {
+            input.graph = graph;
+        }
     }
     Ok(())
 }
 
 impl Input {
-    /// The new graph, where a rewriting was accepted.
+    /// The new graph, where the call writes it and is done.
     fn compare(
         &self,
         library: &Library,
@@ -61,35 +68,67 @@ impl Input {
         let expected = self.expected(operation);
         tally.record(operation, expected.reply);
         let mut faults = call.faults(self, &expected);
-        let accepted = operation == Operation::Rewrite && expected.reply == 0;
-        if accepted {
-            let (old, rule) = (&self.graph, &self.rule);
-            let rewriting = Rewriting { old, new: &expected.graph, rule, map: &expected.map };
-            faults.extend(rewriting.faults(library, self.seed));
+        if expected.reply == 0 {
+            faults.extend(self.judge(library, operation, &expected));
         }
-        match faults.is_empty() {
-            true => Ok(accepted.then_some(expected.graph)),
-            false => Err(Difference { operation, step, faults, arguments: self.describe() }),
+        if !faults.is_empty() {
+            return Err(Difference { operation, step, faults, arguments: self.describe() });
+        }
+        let writes = operation.writes_graph() && expected.reply == 0;
+        Ok(writes.then_some(expected.graph))
+    }
+
+    /// What is wrong with a call that is done, whatever the library says.
+    fn judge(&self, library: &Library, operation: Operation, done: &Expected) -> Vec<String> {
+        let (old, rule, new) = (&self.graph, &self.rule, &done.graph);
+        match operation {
+            Operation::Rewrite => {
+                let rewriting = Rewriting { old, new, rule, map: &done.map };
+                rewriting.faults(library, self.seed)
+            }
+            Operation::Sweep => Cleaned { old, new, list: None }.faults(library, self.seed),
+            Operation::Squeeze => {
+                let list = Some(done.list.as_slice());
+                Cleaned { old, new, list }.faults(library, self.seed)
+            }
+            Operation::CheckGraph | Operation::CheckRule | Operation::FindMatch => vec![],
         }
     }
 
     fn call(&self, library: &Library, operation: Operation) -> Call {
-        let [graph_shift, rule_shift, map_shift] = self.shifts;
-        let mut graph = Guarded::new(&self.graph, graph_shift);
-        let mut rule = Guarded::new(&self.rule, rule_shift);
-        let mut map = Guarded::new(&self.map, map_shift);
-        let reply = library.call(operation, graph.lend(), rule.lend(), self.start, map.lend());
-        Call { reply, graph, rule, map }
+        let [graph, rule, map, list] = self.shifts;
+        let mut call = Call {
+            reply: 0,
+            graph: Guarded::new(&self.graph, graph),
+            rule: Guarded::new(&self.rule, rule),
+            map: Guarded::new(&self.map, map),
+            list: Guarded::new(&self.list, list),
+        };
+        let lent = Lent {
+            graph: call.graph.lend(),
+            rule: call.rule.lend(),
+            map: call.map.lend(),
+            list: call.list.lend(),
+        };
+        call.reply = library.call(operation, lent, self.start);
+        call
     }
 
     fn expected(&self, operation: Operation) -> Expected {
-        let (mut graph, mut map) = (self.graph.clone(), self.map.clone());
-        let reply = SECOND.call(operation, &mut graph, &self.rule, self.start, &mut map);
-        Expected { reply, graph, map }
+        let (mut graph, mut rule) = (self.graph.clone(), self.rule.clone());
+        let (mut map, mut list) = (self.map.clone(), self.list.clone());
+        let lent = Lent { graph: &mut graph, rule: &mut rule, map: &mut map, list: &mut list };
+        let reply = SECOND.call(operation, lent, self.start);
+        Expected { reply, graph, map, list }
     }
 
     fn describe(&self) -> String {
-        let blocks = [("graph", &self.graph), ("rule", &self.rule), ("map", &self.map)];
+        let blocks = [
+            ("graph", &self.graph),
+            ("rule", &self.rule),
+            ("map", &self.map),
+            ("list", &self.list),
+        ];
         let blocks = blocks.map(|(name, block)| {
             let hex: String = block.iter().map(|byte| format!("{byte:02x}")).collect();
             format!("  {name} before, {} bytes: {hex}\n", block.len())
@@ -104,6 +143,7 @@ struct Call {
     graph: Guarded,
     rule: Guarded,
     map: Guarded,
+    list: Guarded,
 }
 
 /// What the second program made of it.
@@ -111,6 +151,7 @@ struct Expected {
     reply: u64,
     graph: Vec<u8>,
     map: Vec<u8>,
+    list: Vec<u8>,
 }
 
 impl Call {
@@ -125,6 +166,7 @@ impl Call {
             ("graph", &self.graph, &expected.graph, &input.graph),
             ("rule", &self.rule, &input.rule, &input.rule),
             ("map", &self.map, &expected.map, &input.map),
+            ("list", &self.list, &expected.list, &input.list),
         ];
         for (name, lent, expected, before) in blocks {
             faults.extend(lent.overwritten().map(|at| {

@@ -3,15 +3,16 @@
 //! | Bytes | What |
 //! |---|---|
 //! | 0 | repairs, a bit each |
-//! | 1 | map length |
-//! | 2 | the map's first byte before the call; each further one is one more |
+//! | 1 | map length; the list is by as many bytes longer or shorter than 2N as the map is than 32 |
+//! | 2 | the first byte of the map and of the list before the call; each further one is one more |
 //! | 3 | bits 0-1 further rewritings after an accepted one; bits 2-4 and 5-7 by how many bytes graph and rule are shifted in memory |
 //! | 4-11 | start, little-endian |
 //! | 12-13 | graph length, little-endian; at most all that follow |
 //! | 14- | the graph block, then the rule block up to the end |
 //!
 //! Bytes 0 to 13 that are missing count as 0. No field names an operation: all
-//! four are called with each input.
+//! six are called with each input. N is what the graph block's bytes 6-7 say, 0
+//! where there are none, and 512 where they say more.
 //!
 //! With all bits of byte 0 off any bytes whatever reach the library. A block
 //! that has been mutated would mostly fail at its lengths, though, and never
@@ -20,7 +21,7 @@
 //! | Bit | Repair |
 //! |---|---|
 //! | 0 | the rule begins at the first mark `LGR`, whatever the graph length says: bytes may be put in or taken out of either block |
-//! | 1 | the map is 32 bytes long |
+//! | 1 | the map is 32 bytes long, and the list 2N |
 //! | 2 | the start is taken modulo 600, a little more than the most slots |
 //! | 3 | the graph's length: N by the bytes there are, no part of a record |
 //! | 4 | the graph's outputs and records: counts by kind and operator, unused places, inputs and outputs below N; a named Empty slot becomes a Variable |
@@ -31,6 +32,7 @@
 //! What is right already stays as it is, so a sound block passes unchanged. The
 //! headers' marks, versions and zero bytes are never repaired.
 
+use leafgraph_reference::graph::{slots_told, MAX_SLOTS};
 use leafgraph_reference::random::mixed;
 use leafgraph_reference::MAP_LENGTH;
 
@@ -67,10 +69,11 @@ pub struct Input {
     pub rule: Vec<u8>,
     pub start: usize,
     pub map: Vec<u8>,
+    pub list: Vec<u8>,
     /// How many rewritings may follow an accepted one.
     pub further: usize,
-    /// By how many bytes graph, rule and map are shifted in memory.
-    pub shifts: [usize; 3],
+    /// By how many bytes graph, rule, map and list are shifted in memory.
+    pub shifts: [usize; 4],
     /// Draws the meanings under which demand 3 is judged: the same input must
     /// always be judged alike.
     pub seed: u64,
@@ -116,11 +119,20 @@ impl Control {
         }
     }
 
-    fn map(&self) -> Vec<u8> {
-        let length = match self.repairs(MAP) {
+    fn map_length(&self) -> usize {
+        match self.repairs(MAP) {
             true => MAP_LENGTH,
             false => self.map_length.into(),
-        };
+        }
+    }
+
+    fn list_length(&self, graph: &[u8]) -> usize {
+        let right = 2 * slots_told(graph).min(MAX_SLOTS);
+        (right + self.map_length()).saturating_sub(MAP_LENGTH)
+    }
+
+    /// So many bytes as they are before a call.
+    fn counting(&self, length: usize) -> Vec<u8> {
         (0..length).map(|at| self.map_byte.wrapping_add(at as u8)).collect()
     }
 
@@ -145,14 +157,15 @@ impl Input {
         let (graph, rule) = blocks.split_at(control.cut(blocks, graph_length));
         let (mut graph, mut rule) = (graph.to_vec(), rule.to_vec());
         control.repair_blocks(&mut graph, &mut rule);
-        let bits = usize::from(steps_and_shifts);
+        let (bits, shift) = (usize::from(steps_and_shifts), usize::from(map_byte));
         Input {
+            map: control.counting(control.map_length()),
+            list: control.counting(control.list_length(&graph)),
             graph,
             rule,
             start: control.start(),
-            map: control.map(),
             further: bits & 3,
-            shifts: [bits >> 2 & 7, bits >> 5 & 7, map_byte.into()],
+            shifts: [bits >> 2 & 7, bits >> 5 & 7, shift, shift],
             seed: mixed(u64::from_le_bytes(head[..8].try_into().expect("eight bytes"))),
         }
     }

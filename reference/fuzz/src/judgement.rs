@@ -1,6 +1,8 @@
-//! What must hold of an accepted rewriting, whatever the other program says:
-//! the new table is sound for both programs, and demand 3.
+//! What must hold of a call that is done, whatever the other program says: the new
+//! table is sound for both programs; of a rewriting, demand 3; of a sweep and a
+//! squeeze, what request 4/13 says of them.
 
+use leafgraph_reference::cleanup::{squeeze_faults, sweep_faults};
 use leafgraph_reference::graph::Graph;
 use leafgraph_reference::matching::read_map;
 use leafgraph_reference::meaning::Meaning;
@@ -21,10 +23,7 @@ pub struct Rewriting<'a> {
 impl Rewriting<'_> {
     /// What is wrong with it.
     pub fn faults(&self, library: &Library, seed: u64) -> Vec<String> {
-        let programs = [("the library", library), ("the second program", &SECOND)];
-        let refusing = programs.into_iter().filter(|(_, one)| (one.check_graph)(self.new) != 0);
-        let mut faults: Vec<String> =
-            refusing.map(|(name, _)| format!("the new graph is not sound for {name}")).collect();
+        let mut faults = unsound_for(library, self.new);
         let (Ok(old), Ok(new), Ok(rule)) =
             (Graph::parse(self.old), Graph::parse(self.new), Rule::parse(self.rule))
         else {
@@ -46,5 +45,51 @@ impl Rewriting<'_> {
             }
         }
         faults
+    }
+}
+
+/// The programs that refuse a new table.
+fn unsound_for(library: &Library, new: &[u8]) -> Vec<String> {
+    let programs = [("the library", library), ("the second program", &SECOND)];
+    let refusing = programs.into_iter().filter(|(_, one)| (one.check_graph)(new) != 0);
+    refusing.map(|(name, _)| format!("the new graph is not sound for {name}")).collect()
+}
+
+/// A sweep or a squeeze that is done, in bytes.
+pub struct Cleaned<'a> {
+    pub old: &'a [u8],
+    pub new: &'a [u8],
+    /// The list of a squeeze.
+    pub list: Option<&'a [u8]>,
+}
+
+impl Cleaned<'_> {
+    /// What is wrong with it.
+    pub fn faults(&self, library: &Library, seed: u64) -> Vec<String> {
+        let mut faults = unsound_for(library, self.new);
+        let (Ok(old), Ok(new)) = (Graph::parse(self.old), Graph::parse(self.new)) else {
+            faults.push("a graph that is not sound was not refused".into());
+            return faults;
+        };
+        let mut meaning = Meaning::lawless(seed);
+        let told = match self.list {
+            Some(list) => squeeze_faults(old, new, list, &mut meaning),
+            None => sweep_faults(old, new, &mut meaning),
+        };
+        faults.extend(told.into_iter().map(String::from));
+        if !self.is_settled(library) {
+            faults.push("the same call once more changes something".into());
+        }
+        faults
+    }
+
+    /// Whether the library leaves the new table as it is.
+    fn is_settled(&self, library: &Library) -> bool {
+        let mut again = self.new.to_vec();
+        let reply = match self.list {
+            Some(list) => (library.squeeze)(&mut again, &mut list.to_vec()),
+            None => (library.sweep)(&mut again),
+        };
+        reply == 0 && again == self.new
     }
 }

@@ -1,4 +1,4 @@
-//! The fuzz target. Any bytes are cut into the arguments of the four
+//! The fuzz target. Any bytes are cut into the arguments of the six
 //! operations (`input` has the layout); the proved library is called with them
 //! through its C entry points and the second program beside it, and all that
 //! comes back must be the same.
@@ -6,6 +6,7 @@
 //! `entry` is what libFuzzer calls. The binaries need no fuzzer: `fuzz_replay`
 //! runs kept inputs, `fuzz_seeds` writes the inputs that fuzzing starts from.
 
+pub mod cleanup_examples;
 pub mod comparison;
 mod entry;
 pub mod fault_examples;

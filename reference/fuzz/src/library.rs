@@ -1,16 +1,24 @@
-//! The four operations, of either program.
+//! The six operations, of either program.
 
-/// One of document 01's four operations.
+/// One of document 01's four operations, or of request 4/13's two.
 #[derive(Clone, Copy, Debug, PartialEq, Eq)]
 pub enum Operation {
     CheckGraph,
     CheckRule,
     FindMatch,
     Rewrite,
+    Sweep,
+    Squeeze,
 }
 
-pub const OPERATIONS: [Operation; 4] =
-    [Operation::CheckGraph, Operation::CheckRule, Operation::FindMatch, Operation::Rewrite];
+pub const OPERATIONS: [Operation; 6] = [
+    Operation::CheckGraph,
+    Operation::CheckRule,
+    Operation::FindMatch,
+    Operation::Rewrite,
+    Operation::Sweep,
+    Operation::Squeeze,
+];
 
 impl Operation {
     pub fn name(self) -> &'static str {
@@ -19,22 +27,31 @@ impl Operation {
             Operation::CheckRule => "lg_check_rule",
             Operation::FindMatch => "lg_find_match",
             Operation::Rewrite => "lg_rewrite",
+            Operation::Sweep => "lg_sweep",
+            Operation::Squeeze => "lg_squeeze",
         }
     }
 
+    /// Whether the operation writes the graph where it is done.
+    pub fn writes_graph(self) -> bool {
+        matches!(self, Operation::Rewrite | Operation::Sweep | Operation::Squeeze)
+    }
+
     /// "Checking a graph gives 0 or 2, a rule 0 or 3, matching 0 to 4,
-    /// rewriting 0 to 7", where "20 to 23 replace 2 and 30 to 34 replace 3".
+    /// rewriting 0 to 7", where "20 to 23 replace 2 and 30 to 34 replace 3"; sweep
+    /// and squeeze "bad graph as before, then 40", which is the squeeze's alone.
     pub fn numbers(self) -> &'static [u8] {
         match self {
-            Operation::CheckGraph => &[0, 20, 21, 22, 23],
+            Operation::CheckGraph | Operation::Sweep => &[0, 20, 21, 22, 23],
             Operation::CheckRule => &[0, 30, 31, 32, 33, 34],
             Operation::FindMatch => &[0, 1, 20, 21, 22, 23, 30, 31, 32, 33, 34, 4],
             Operation::Rewrite => &[0, 1, 20, 21, 22, 23, 30, 31, 32, 33, 34, 4, 5, 6, 7],
+            Operation::Squeeze => &[0, 20, 21, 22, 23, 40],
         }
     }
 }
 
-/// What one program has for the four operations. A test puts a wrong program
+/// What one program has for the six operations. A test puts a wrong program
 /// here to see that the comparison notices.
 #[derive(Clone, Copy)]
 pub struct Library {
@@ -42,6 +59,8 @@ pub struct Library {
     pub check_rule: fn(&[u8]) -> u64,
     pub find_match: fn(&[u8], &[u8], usize, &mut [u8]) -> u64,
     pub rewrite: fn(&mut [u8], &[u8], usize, &mut [u8]) -> u64,
+    pub sweep: fn(&mut [u8]) -> u64,
+    pub squeeze: fn(&mut [u8], &mut [u8]) -> u64,
 }
 
 /// The proved library, through its C entry points.
@@ -50,6 +69,8 @@ pub const PROVED: Library = Library {
     check_rule: leafgraph_proved::check_rule,
     find_match: leafgraph_proved::find_match,
     rewrite: leafgraph_proved::rewrite,
+    sweep: leafgraph_proved::sweep,
+    squeeze: leafgraph_proved::squeeze,
 };
 
 /// The second program.
@@ -58,23 +79,29 @@ pub const SECOND: Library = Library {
     check_rule: leafgraph_reference::check_rule,
     find_match: leafgraph_reference::find_match,
     rewrite: leafgraph_reference::rewrite,
+    sweep: leafgraph_reference::sweep,
+    squeeze: leafgraph_reference::squeeze,
 };
 
+/// What a call is lent, each part of it in bytes that may be written.
+pub struct Lent<'a> {
+    pub graph: &'a mut [u8],
+    pub rule: &'a mut [u8],
+    pub map: &'a mut [u8],
+    pub list: &'a mut [u8],
+}
+
 impl Library {
-    /// Calls one operation. A check is lent one block only.
-    pub fn call(
-        &self,
-        operation: Operation,
-        graph: &mut [u8],
-        rule: &[u8],
-        start: usize,
-        map: &mut [u8],
-    ) -> u64 {
+    /// Calls one operation with those of these that it takes.
+    pub fn call(&self, operation: Operation, lent: Lent, start: usize) -> u64 {
+        let Lent { graph, rule, map, list } = lent;
         match operation {
             Operation::CheckGraph => (self.check_graph)(graph),
             Operation::CheckRule => (self.check_rule)(rule),
             Operation::FindMatch => (self.find_match)(graph, rule, start, map),
             Operation::Rewrite => (self.rewrite)(graph, rule, start, map),
+            Operation::Sweep => (self.sweep)(graph),
+            Operation::Squeeze => (self.squeeze)(graph, list),
         }
     }
 }

@@ -46,7 +46,7 @@ fn right_programs_pass() {
         for start in 0..7 {
             compare(&library, &p1(start), &mut tally).expect("no difference");
         }
-        assert_eq!(tally.calls(), 28);
+        assert_eq!(tally.calls(), 7 * 9);
     }
 }
 

@@ -1,7 +1,7 @@
 //! Writes the inputs that fuzzing starts from into a folder, as files whose
 //! names begin with `seed-`: document 01's examples, matched Consts that stay
-//! or go, every kind of fault, and small random cases of every reply. The same
-//! files each time.
+//! or go, every kind of fault, small random cases of every reply, and graphs to
+//! sweep and to squeeze. The same files each time.
 //!
 //!     fuzz_seeds FOLDER [CASES]
 //!
@@ -15,6 +15,7 @@ use std::io;
 use std::path::Path;
 use std::process::ExitCode;
 
+use leafgraph_fuzz::cleanup_examples::{cleanup_examples, CleanupExample};
 use leafgraph_fuzz::fault_examples::fault_examples;
 use leafgraph_fuzz::input::{
     Control, CUT_AT_MARK, GRAPH_LENGTH, GRAPH_RECORDS, LOWER_INPUTS, MAP, RULE_LENGTH,
@@ -36,7 +37,7 @@ use leafgraph_reference::random::Random;
 use leafgraph_reference::removal::removed_slots;
 use leafgraph_reference::reply::number_of;
 use leafgraph_reference::rule::{Rule, DIVIDE, REMAINDER};
-use leafgraph_reference::{find_match, rewrite, MAP_LENGTH};
+use leafgraph_reference::{find_match, rewrite, squeeze, sweep, MAP_LENGTH};
 
 /// What the corpus is drawn from.
 const SEED: u64 = 20;
@@ -71,6 +72,7 @@ fn main() -> ExitCode {
     seeds.add_accepted("constant-stays", cases, keeps_constant);
     seeds.add_refused(cases / 2);
     seeds.add_others(cases);
+    seeds.add_cleanups(cases);
     match seeds.write(Path::new(folder)) {
         Ok(()) => ExitCode::SUCCESS,
         Err(error) => {
@@ -230,6 +232,30 @@ impl Seeds {
         }
     }
 
+    /// The examples, lists of other lengths, and random graphs of which both a
+    /// sweep and a squeeze make something else.
+    fn add_cleanups(&mut self, cases: usize) {
+        let rule = rr().block();
+        for CleanupExample { name, graph, rule } in cleanup_examples() {
+            let control = self.control(LENGTHS | RECORDS, 0);
+            self.add(name, control, &graph.block(), &rule.block());
+        }
+        for map_length in [0, 30, 31, 33, 34] {
+            let control = Control { map_length, ..self.control(0, 0) };
+            self.add("list-length", control, &e1().block(), &rule);
+        }
+        let mut left = cases;
+        while left > 0 {
+            let sequence = sequence(&mut self.random);
+            let (graph, rule) = (sequence.graph.block(), sequence.rules[0].block());
+            if graph.len() + rule.len() <= LONGEST && changes_in_both(&graph) {
+                left -= 1;
+                let control = self.control(LENGTHS | RECORDS, 0);
+                self.add("cleanup", control, &graph, &rule);
+            }
+        }
+    }
+
     /// Takes away the seeds of an earlier run; other inputs stay.
     fn write(&self, folder: &Path) -> io::Result<()> {
         fs::create_dir_all(folder)?;
@@ -271,6 +297,15 @@ fn redirects_input(accepted: &Accepted) -> bool {
         let record = at..at + graph::RECORD;
         pattern.is_input_kind() && accepted.before[record.clone()] != accepted.after[record]
     })
+}
+
+/// Whether a sweep removes something, and a squeeze moves something then.
+fn changes_in_both(graph: &[u8]) -> bool {
+    let mut swept = graph.to_vec();
+    sweep(&mut swept);
+    let (mut squeezed, mut list) = (swept.clone(), vec![0; graph.len() / graph::RECORD * 2]);
+    squeeze(&mut squeezed, &mut list);
+    graph != swept && swept != squeezed
 }
 
 /// Whether a matched Const stays.
