@@ -1,26 +1,29 @@
 //! What is timed: searches that have to look at everything or, to compare with,
-//! at nothing, rewritings at the end of such a search, and the checks.
+//! at nothing, rewritings at the end of such a search, sweeps and squeezes that
+//! change everything or nothing, and the checks.
 
 use std::hint::black_box;
 
-use leafgraph_reference::blocks::{chain, dropped_constant, p7_rule, rr, GraphParts, RuleParts};
+use leafgraph_reference::blocks::{
+    chain, dropped_constant, p7_rule, reversed_chain, rr, GraphParts, RuleParts,
+};
 use leafgraph_reference::reply::{refuse_at, reply_of, DONE, GRAPH_CYCLE};
 use leafgraph_reference::MAP_LENGTH;
 
 use crate::graphs::{
-    double_relus, gain_and_mean, gains_and_means, hanging_from_cycle, in_a_chain, leading_to_cycle,
-    pairs, shared_const, side_by_side, two_relus,
+    chain_with_gaps, dead_chain, double_relus, gain_and_mean, gains_and_means, hanging_from_cycle,
+    in_a_chain, leading_to_cycle, pairs, shared_const, side_by_side, two_relus,
 };
 
-/// What a call leaves; the checks leave the map as it was.
+/// What a call leaves; only searches and rewritings write the map.
 #[derive(Debug, PartialEq, Eq)]
 pub struct Answer {
     pub reply: u64,
     pub map: [u8; MAP_LENGTH],
 }
 
-/// A call. The bytes lent to it are what a rewriting rewrites, anew from the
-/// same graph each time; the other calls do not look at them.
+/// A call. The bytes lent to it are what a rewriting, a sweep or a squeeze writes,
+/// anew from the same graph each time; the other calls do not look at them.
 pub type Program = Box<dyn Fn(&mut Vec<u8>) -> Answer>;
 
 pub struct Case {
@@ -96,6 +99,24 @@ const REWRITINGS: [(&str, u64, Graph, Rule, Course); 4] = [
     ("rewrite: to the end", NONE, chain, rr, to_the_end),
 ];
 
+/// One of request 4/13's operations, on a graph and a list. A sweep takes no list.
+type Cleanup = fn(&mut [u8], &mut [u8]) -> u64;
+
+/// Either of them in the library and in the second program.
+const SWEEP: [Cleanup; 2] =
+    [|graph, _| leafgraph_proved::sweep(graph), |graph, _| leafgraph_reference::sweep(graph)];
+const SQUEEZE: [Cleanup; 2] = [leafgraph_proved::squeeze, leafgraph_reference::squeeze];
+
+const CLEANUPS: [(&str, Graph, [Cleanup; 2]); 7] = [
+    ("sweep: a dead chain", dead_chain, SWEEP),
+    ("sweep: all live", chain, SWEEP),
+    ("sweep: all live, reversed", reversed_chain, SWEEP),
+    ("sweep: every second slot Empty", chain_with_gaps, SWEEP),
+    ("squeeze: a dead chain", dead_chain, SQUEEZE),
+    ("squeeze: all live", chain, SQUEEZE),
+    ("squeeze: every second slot Empty", chain_with_gaps, SQUEEZE),
+];
+
 /// add(x, a Const) becomes relu(x).
 fn const_dropped() -> RuleParts {
     dropped_constant(1)
@@ -120,6 +141,14 @@ pub fn rewritings() -> Vec<Case> {
         SIZES.map(|slots| rewriting(name, reply, graph(slots), rule(), course))
     };
     REWRITINGS.into_iter().flat_map(of_all_sizes).collect()
+}
+
+/// Each timed call copies the graph first, as in the rewritings.
+pub fn cleanups() -> Vec<Case> {
+    let of_all_sizes = |(name, graph, programs): (_, Graph, _)| {
+        SIZES.map(|slots| cleanup(name, graph(slots), programs))
+    };
+    CLEANUPS.into_iter().flat_map(of_all_sizes).collect()
 }
 
 pub fn checks() -> Vec<Case> {
@@ -207,6 +236,22 @@ fn rewriting(
         proved: program(leafgraph_proved::rewrite),
         second: program(leafgraph_reference::rewrite),
     }
+}
+
+/// The list stands behind the graph, so that both are compared.
+fn cleanup(name: &'static str, graph: GraphParts, programs: [Cleanup; 2]) -> Case {
+    let slots = graph.slots.len();
+    let [proved, second] = programs.map(|cleanup| -> Program {
+        let graph = graph.block();
+        Box::new(move |lent| {
+            lent.clear();
+            lent.extend_from_slice(black_box(&graph));
+            lent.resize(graph.len() + 2 * slots, 0);
+            let (table, list) = lent.split_at_mut(graph.len());
+            Answer { reply: cleanup(table, list), map: [0; MAP_LENGTH] }
+        })
+    });
+    Case { name, slots: Some(slots), reply: DONE, proved, second }
 }
 
 fn check_graph(name: &'static str, slots: u16, graph: GraphParts, reply: u64) -> Case {

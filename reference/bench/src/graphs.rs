@@ -2,8 +2,8 @@
 //! second program's own examples.
 
 use leafgraph_reference::blocks::{
-    access_node, add, any_node, call, call_pattern, constant, operation_node, relu, target_place,
-    tuple, variable, wildcard, GraphParts, RuleParts, Vertex,
+    access_node, add, any_node, call, call_pattern, chain, constant, empty, operation_node, relu,
+    target_place, tuple, variable, wildcard, GraphParts, RuleParts, Vertex,
 };
 use leafgraph_reference::operators::{CAST, GAIN, MEAN, PLACES, RELU};
 use leafgraph_reference::rule::{PLUS, TIMES};
@@ -143,4 +143,21 @@ fn relus_and_casts(slots: u16, every: u16, read_by: fn(u16) -> u16) -> GraphPart
         _ => call(CAST, &[read_by(slot)], &[0]),
     };
     GraphParts::new((0..slots).map(vertex).collect(), &[slots - 1])
+}
+
+/// For the sweep: a chain of which only the Variable that it begins with is an
+/// output.
+pub fn dead_chain(slots: u16) -> GraphParts {
+    GraphParts { outputs: vec![0], ..chain(slots) }
+}
+
+/// For the squeeze: a chain in the slots of even numbers, the others Empty. The
+/// number of slots is even.
+pub fn chain_with_gaps(slots: u16) -> GraphParts {
+    let vertex = |slot: u16| match slot {
+        0 => variable(),
+        _ if slot.is_multiple_of(2) => relu(slot - 2),
+        _ => empty(),
+    };
+    GraphParts::new((0..slots).map(vertex).collect(), &[slots - 2])
 }
