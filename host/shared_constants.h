@@ -10,8 +10,8 @@
 enum { SLOTS = 5, HEADER_LENGTH = 24, RECORD_LENGTH = 48, NO_OUTPUT = 255 };
 enum { TABLE_LENGTH = HEADER_LENGTH + RECORD_LENGTH * SLOTS };
 
-/* What a slot may hold here. SUM is add(1, 0), TWICE is add(0, 0). */
-enum { EMPTY, SEVEN, VARIABLE, SUM, TWICE, RELU_0, RELU_1, RELU_2 };
+/* What a slot may hold here. SUM is add(1, 0), TWICE is add(0, 0), SUM_3_1 is add(3, 1). */
+enum { EMPTY, SEVEN, VARIABLE, SUM, TWICE, RELU_0, RELU_1, RELU_2, SUM_3_1 };
 
 /* In that order. What a row leaves out is zero. */
 static const uint8_t records[][RECORD_LENGTH] = {
@@ -22,7 +22,8 @@ static const uint8_t records[][RECORD_LENGTH] = {
     {3, 1, 2, 0, 0, 0, 0, 0, 255, 255, 255, 255, 255, 255, 255, 255},
     {3, 7, 1, 0, 0, 0, 255, 255, 255, 255, 255, 255, 255, 255, 255, 255},
     {3, 7, 1, 0, 1, 0, 255, 255, 255, 255, 255, 255, 255, 255, 255, 255},
-    {3, 7, 1, 0, 2, 0, 255, 255, 255, 255, 255, 255, 255, 255, 255, 255}
+    {3, 7, 1, 0, 2, 0, 255, 255, 255, 255, 255, 255, 255, 255, 255, 255},
+    {3, 1, 2, 0, 3, 0, 1, 0, 255, 255, 255, 255, 255, 255, 255, 255}
 };
 
 /* add(x, Const) becomes relu(relu(x)). */

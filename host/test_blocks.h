@@ -8,6 +8,7 @@
 #include "faults.h"
 #include "leafgraph.h"
 #include "shared_constants.h"
+#include "sweep_squeeze.h"
 
 /* Names of version 1, whose numbers 2 and 3 are gone. Were one of them still in the
  * header, this would not compile. */
@@ -261,13 +262,98 @@ static int calls_differ(const char *what, const uint8_t *graph, size_t graph_len
     return count;
 }
 
+/* A sweep of a graph of SLOTS slots, which is refused or leaves `after`. What is past
+ * the graph must stay. */
+static int sweep_differs(const char *what, const uint8_t *graph, size_t graph_len,
+                         const uint8_t *after, unsigned number, uint32_t place) {
+    uint8_t lent[TABLE_LENGTH + 1];
+    int count;
+    memset(lent, UNTOUCHED, sizeof lent);
+    memcpy(lent, graph, TABLE_LENGTH);
+    count = differs_at(what, lg_sweep(lent, graph_len), number, place);
+    if (memcmp(lent, after, TABLE_LENGTH) != 0 || lent[TABLE_LENGTH] != UNTOUCHED) {
+        printf("%s: the swept graph is not what it should be\n", what);
+        count++;
+    }
+    return count;
+}
+
+/* The same of a squeeze, whose list must be `moves` on done, and untouched on a refusal
+ * and past its end. */
+static int squeeze_differs(const char *what, const uint8_t *graph, size_t graph_len,
+                           size_t moves_len, const uint8_t *after, const uint8_t *moves,
+                           unsigned number, uint32_t place) {
+    uint8_t lent[TABLE_LENGTH + 1], list[LONGEST_LIST], list_after[LONGEST_LIST];
+    int count;
+    memset(lent, UNTOUCHED, sizeof lent);
+    memcpy(lent, graph, TABLE_LENGTH);
+    memset(list, UNTOUCHED, sizeof list);
+    memcpy(list_after, list, sizeof list);
+    if (number == LG_DONE) {
+        memcpy(list_after, moves, MOVES_LENGTH);
+    }
+    count = differs_at(what, lg_squeeze(lent, graph_len, list, moves_len), number, place);
+    if (memcmp(lent, after, TABLE_LENGTH) != 0 || lent[TABLE_LENGTH] != UNTOUCHED
+        || memcmp(list, list_after, sizeof list) != 0) {
+        printf("%s: the squeezed graph or the list is not what it should be\n", what);
+        count++;
+    }
+    return count;
+}
+
+/* A refused graph keeps every byte, and the graph's fault comes before the list's length. */
+static int refusals_differ(const char *what, const uint8_t *graph, size_t graph_len,
+                           unsigned number, uint32_t place) {
+    return sweep_differs(what, graph, graph_len, graph, number, place)
+           + squeeze_differs(what, graph, graph_len, MOVES_LENGTH, graph, NULL, number, place)
+           + squeeze_differs(what, graph, graph_len, MOVES_LENGTH - 1, graph, NULL, number,
+                             place);
+}
+
+static int count_sweep_differences(void) {
+    uint8_t before[TABLE_LENGTH], after[TABLE_LENGTH];
+    size_t call;
+    int count = 0;
+    for (call = 0; call < sizeof sweep_calls / sizeof sweep_calls[0]; call++) {
+        const char *what = sweep_calls[call].what;
+        put_table(before, &sweep_calls[call].before);
+        put_table(after, &sweep_calls[call].after);
+        count += sweep_differs(what, before, sizeof before, after, LG_DONE, 0);
+        count += sweep_differs(what, after, sizeof after, after, LG_DONE, 0);
+    }
+    return count;
+}
+
+static int count_squeeze_differences(void) {
+    uint8_t before[TABLE_LENGTH], after[TABLE_LENGTH], moves[MOVES_LENGTH];
+    size_t call, length;
+    int count = 0;
+    for (call = 0; call < sizeof squeeze_calls / sizeof squeeze_calls[0]; call++) {
+        put_table(before, &squeeze_calls[call].before);
+        put_table(after, &squeeze_calls[call].after);
+        put_moves(moves, &squeeze_calls[call]);
+        count += squeeze_differs(squeeze_calls[call].what, before, sizeof before,
+                                 sizeof moves, after, moves, LG_DONE, 0);
+    }
+    for (length = 0; length < sizeof bad_moves_lengths / sizeof bad_moves_lengths[0]; length++) {
+        count += squeeze_differs("a list of another length", before, sizeof before,
+                                 bad_moves_lengths[length], before, NULL,
+                                 LG_BAD_MOVES_LENGTH, 0);
+    }
+    count += refusals_differ("no graph to tidy", before, 0, LG_BAD_GRAPH_HEADER, 0);
+    count += refusals_differ("a short graph to tidy", before, sizeof before - 1,
+                             LG_BAD_GRAPH_HEADER, 0);
+    return count;
+}
+
 static int graph_fault_differs(const struct graph_fault *fault) {
     uint8_t graph[TABLE_LENGTH];
     put_graph_fault(graph, fault);
     return differs_at(fault->what, lg_check_graph(graph, sizeof graph), fault->number,
                       fault->place)
            + calls_differ(fault->what, graph, sizeof graph, two_relus, sizeof two_relus,
-                          fault->number, fault->place);
+                          fault->number, fault->place)
+           + refusals_differ(fault->what, graph, sizeof graph, fault->number, fault->place);
 }
 
 static int rule_fault_differs(const struct rule_fault *fault) {

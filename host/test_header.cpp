@@ -14,6 +14,7 @@ static_assert(LG_BAD_GRAPH_HEADER == 20 && LG_BAD_GRAPH_RECORD == 21 && LG_BAD_G
 static_assert(LG_BAD_RULE_HEADER == 30 && LG_BAD_RULE_RECORD == 31 && LG_BAD_RULE_ORDER == 32
                   && LG_BAD_RULE_OUTPUTS == 33 && LG_BAD_RULE_EXPRESSION == 34,
               "numbers for a bad rule");
+static_assert(LG_BAD_MOVES_LENGTH == 40 && LG_NO_SLOT == 65535, "numbers for a list of moves");
 
 // A block in memory of another kind and at an odd address.
 static std::vector<uint8_t> shifted(const uint8_t *block, size_t length) {
@@ -53,12 +54,30 @@ static int count_shifted_rewrite_differences() {
            + (map == shifted(p1_map, sizeof p1_map) ? 0 : 1);
 }
 
+static int count_shifted_squeeze_differences() {
+    const squeeze_call &call = squeeze_calls[2];
+    uint8_t before[TABLE_LENGTH], after[TABLE_LENGTH], moves[MOVES_LENGTH];
+    put_table(before, &call.before);
+    put_table(after, &call.after);
+    put_moves(moves, &call);
+    std::vector<uint8_t> graph = shifted(before, sizeof before);
+    std::vector<uint8_t> list(1 + MOVES_LENGTH);
+    const uint64_t swept = lg_sweep(graph.data() + 1, graph.size() - 1);
+    const uint64_t squeezed = lg_squeeze(graph.data() + 1, graph.size() - 1,
+                                         list.data() + 1, list.size() - 1);
+    return differs("shifted sweep", swept, LG_DONE) + differs("shifted squeeze", squeezed, LG_DONE)
+           + (graph == shifted(after, sizeof after) ? 0 : 1)
+           + (list == shifted(moves, sizeof moves) ? 0 : 1);
+}
+
 int main() {
     const int count = count_differences() + count_find_differences()
                       + count_rewrite_differences() + count_constants_differences()
+                      + count_sweep_differences() + count_squeeze_differences()
                       + count_fault_differences() + count_helper_differences()
                       + count_shifted_differences() + count_shifted_find_differences()
-                      + count_shifted_rewrite_differences();
+                      + count_shifted_rewrite_differences()
+                      + count_shifted_squeeze_differences();
     if (count == 0) {
         puts("header test in C++: no difference");
     }

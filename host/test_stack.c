@@ -27,6 +27,7 @@ enum {
 
 static uint8_t graph[24 + 48 * SLOTS];
 static uint8_t rewritten[sizeof graph];
+static uint8_t moves[2 * SLOTS];
 static uint8_t rule[16 + 16 * (SIDE + SIDE) + 8 * NODES];
 static uint8_t pair_rule[sizeof rule];
 
@@ -125,7 +126,8 @@ static void *find_pair(void *reply) {
     return NULL;
 }
 
-/* The graph is copied outside the call that is measured (show, show_cycles). */
+/* The graph is copied outside the call that is measured (show, show_cycles), here and
+ * where it is swept or squeezed. */
 static void *rewrite(void *reply) {
     uint8_t map[32];
     *(uint64_t *)reply = lg_rewrite(rewritten, sizeof rewritten, rule, sizeof rule, 0,
@@ -137,6 +139,16 @@ static void *rewrite_pair(void *reply) {
     uint8_t map[32];
     *(uint64_t *)reply = lg_rewrite(rewritten, sizeof rewritten, pair_rule, sizeof pair_rule, 0,
                                     map, sizeof map);
+    return NULL;
+}
+
+static void *sweep(void *reply) {
+    *(uint64_t *)reply = lg_sweep(rewritten, sizeof rewritten);
+    return NULL;
+}
+
+static void *squeeze(void *reply) {
+    *(uint64_t *)reply = lg_squeeze(rewritten, sizeof rewritten, moves, sizeof moves);
     return NULL;
 }
 
@@ -205,6 +217,17 @@ static int show(const char *what, void *(*call)(void *), size_t promised) {
     return judged(what, used_by(call, LG_DONE), promised);
 }
 
+/* The same of a sweep in which the chain of all Tuples stays, and of one in which it goes:
+ * then the output is the Variable at its end. */
+static int show_sweeps(void) {
+    int wrong = show("sweeping a graph where the chain stays", sweep, PROMISED);
+    graph[10] = (SLOTS - 1) % 256;
+    graph[11] = (SLOTS - 1) / 256;
+    wrong += show("sweeping one where it goes", sweep, PROMISED);
+    build_graph();
+    return wrong;
+}
+
 /* Prints the most that a call used on the graphs with a cycle; 0 if each time it gave
  * the cycle's lowest slot and kept the promise. */
 static int show_cycles(const char *what, void *(*call)(void *), size_t promised) {
@@ -232,9 +255,13 @@ int main(void) {
     wrong += show("finding a match with two outputs", find_pair, PROMISED);
     wrong += show("rewriting", rewrite, PROMISED_REWRITING);
     wrong += show("rewriting with two outputs", rewrite_pair, PROMISED_REWRITING);
+    wrong += show_sweeps();
+    wrong += show("squeezing", squeeze, PROMISED);
     wrong += show_cycles("checking a graph with a cycle", check_graph, PROMISED);
     wrong += show_cycles("finding a match in one", find_match, PROMISED);
     wrong += show_cycles("rewriting one", rewrite, PROMISED_REWRITING);
+    wrong += show_cycles("sweeping one", sweep, PROMISED);
+    wrong += show_cycles("squeezing one", squeeze, PROMISED);
     if (wrong != 0) {
         puts("stack test: more than promised, or not the reply that was expected");
     }

@@ -1,5 +1,6 @@
 /* leafgraph: checks the operator graphs of an image pipeline and the rules by
- * which they are rewritten, finds where a rule matches, and rewrites there.
+ * which they are rewritten, finds where a rule matches, and rewrites there; sweeps
+ * out what no output needs, and squeezes what is left together.
  *
  * What holds for every function here:
  *
@@ -72,6 +73,9 @@ enum {
                                     only where there is none, the lowest vertex
                                     that uses one badly */
 
+    LG_BAD_MOVES_LENGTH = 40, /* the list of moves is not two bytes for each of
+                                 the graph's slots */
+
     LG_NO_MATCH = 4,  /* no match from the start number on */
     LG_NO_RESULT = 5, /* a target attribute has no result, or a projection's
                          index is below 1 */
@@ -82,7 +86,8 @@ enum {
 
 enum {
     LG_MAP_LENGTH = 32,  /* the bytes of a map */
-    LG_NO_SLOT = 65535   /* in a map, past the last source vertex */
+    LG_NO_SLOT = 65535   /* in a map, past the last source vertex; in a list of
+                            moves, for a slot that was Empty */
 };
 
 /* The number of a reply: bits 0 to 7. Compare this, and not the whole reply,
@@ -190,6 +195,47 @@ uint64_t lg_rewrite(uint8_t *graph, size_t graph_len,
                     const uint8_t *rule, size_t rule_len,
                     size_t start,
                     uint8_t *map, size_t map_len);
+
+/* Sweeps a graph: every vertex from which no graph output is reached becomes
+ * Empty, except Variables, which all stay, read or not. A vertex that an output
+ * names reaches itself, and stays. What stays keeps every byte of its slot, and
+ * the header is as it was: the number of slots and the outputs are the same.
+ *
+ * Reads:   graph_len bytes at graph.
+ * Writes:  on LG_DONE, the graph_len bytes at graph: the swept graph block, of
+ *          the same length and sound again. On a refusal, nothing.
+ * Replies: LG_DONE if the graph is swept, also where nothing had to go; else
+ *          what lg_check_graph would refuse.
+ * Threads: any number at once, each with a graph of its own.
+ * Stack:   64 KiB.
+ */
+uint64_t lg_sweep(uint8_t *graph, size_t graph_len);
+
+/* Squeezes a graph: its vertices move to the lowest slots, in their old order,
+ * and every input and every graph output that named a vertex names it in its new
+ * slot. Behind the last vertex every slot is Empty then; there are as many slots
+ * as before. It does not sweep: a vertex that nobody reads moves like any other.
+ * The two buffers must not overlap.
+ *
+ * Variables move, too, and the list of moves says to which number. Whatever the
+ * operators, constants, tuples and projections mean: if each Variable is given
+ * in its new slot the result that it had in its old one, every vertex has in its
+ * new slot the result that it had in its old one.
+ *
+ * Reads:   graph_len bytes at graph.
+ * Writes:  on LG_DONE, also where nothing had to move, the graph_len bytes at
+ *          graph: the squeezed graph block, of the same length and sound again;
+ *          and the moves_len bytes at moves: a 16-bit number, little-endian, for
+ *          each slot. Number k is the slot to which the vertex in slot k went,
+ *          and 65535 if slot k was Empty. On a refusal, nothing.
+ * Replies: LG_DONE if the graph is squeezed; else the first that applies of what
+ *          lg_check_graph would refuse and LG_BAD_MOVES_LENGTH (moves_len is not
+ *          twice the number of slots).
+ * Threads: any number at once, each with a graph and a list of its own.
+ * Stack:   64 KiB.
+ */
+uint64_t lg_squeeze(uint8_t *graph, size_t graph_len,
+                    uint8_t *moves, size_t moves_len);
 
 #ifdef __cplusplus
 }

@@ -1,8 +1,8 @@
 # The C header and the C++ wrapper, tried from C and C++.
 
-HEADER_TEST := host/test_blocks.h host/faults.h host/shared_constants.h include/leafgraph.h
-WRAPPER_TEST := host/test_wrapper.cpp host/blocks.hpp host/faults.h host/shared_constants.h \
-	$(HEADERS)
+TEST_CALLS := host/faults.h host/shared_constants.h host/sweep_squeeze.h
+HEADER_TEST := host/test_blocks.h $(TEST_CALLS) include/leafgraph.h
+WRAPPER_TEST := host/test_wrapper.cpp host/blocks.hpp $(TEST_CALLS) $(HEADERS)
 BUILD_WRAPPER_TEST = $(CXX) $(CXX_WARNINGS) $(CXXFLAGS) -Iinclude -o $@ $< $(ARCHIVE) -lpthread
 SANITIZERS := -g -fsanitize=address,undefined -fno-sanitize-recover=all
 
