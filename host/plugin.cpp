@@ -18,6 +18,17 @@ bool rewritten(std::vector<unsigned char> &graph, const std::array<unsigned char
     return reply.done();
 }
 
+// The new number of a Variable after what no output needs has gone; itself if it is refused.
+std::size_t tidied(std::vector<unsigned char> &graph, std::vector<unsigned char> &list,
+                   std::size_t variable) {
+    list.resize(leafgraph::moves_length(graph));
+    if (!leafgraph::sweep(graph)) {
+        return variable;
+    }
+    const leafgraph::Squeezed squeezed = leafgraph::squeeze(graph, list);
+    return squeezed && !squeezed.moves.was_empty(variable) ? squeezed.moves[variable] : variable;
+}
+
 // Whether both are sound, where neither may be there.
 bool sound(const void *graph, std::size_t graph_size, const void *rule, std::size_t rule_size) {
     return leafgraph::check_graph({graph, graph_size}).done()

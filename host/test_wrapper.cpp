@@ -7,6 +7,7 @@
 #include "blocks.hpp"
 #include "faults.h"
 #include "shared_constants.h"
+#include "sweep_squeeze.h"
 
 #include <cstdio>
 #include <cstring>
@@ -26,9 +27,11 @@ using blocks::Vertex;
 using leafgraph::Bytes;
 using leafgraph::Code;
 using leafgraph::Map;
+using leafgraph::Moves;
 using leafgraph::Place;
 using leafgraph::PlaceKind;
 using leafgraph::Reply;
+using leafgraph::Squeezed;
 using leafgraph::WritableBytes;
 
 namespace {
@@ -189,6 +192,76 @@ void test_constants() {
     }
 }
 
+Block block_of(const table &table) {
+    Block block(TABLE_LENGTH);
+    put_table(block.data(), &table);
+    return block;
+}
+
+void test_sweep() {
+    for (const sweep_call &call : sweep_calls) {
+        Block graph = block_of(call.before);
+        expect(leafgraph::sweep(graph).done(), call.what);
+        expect(graph == block_of(call.after), call.what);
+    }
+}
+
+// The moves, by every way in which they can be asked for.
+void expect_moves(Moves moves, const squeeze_call &call) {
+    expect(moves.size() == SLOTS, call.what);
+    for (std::size_t slot = 0; slot < SLOTS; ++slot) {
+        const bool was_empty = call.before.slots[slot] == EMPTY;
+        const std::uint16_t to = was_empty ? Moves::no_slot : std::uint16_t{call.moves[slot]};
+        expect(moves[slot] == to && moves.was_empty(slot) == was_empty, call.what);
+    }
+    expect(moves[SLOTS] == Moves::no_slot && moves.was_empty(SIZE_MAX), "past the last slot");
+}
+
+void test_squeeze() {
+    for (const squeeze_call &call : squeeze_calls) {
+        Block graph = block_of(call.before), list(leafgraph::moves_length(graph), 0xaa);
+        Block expected(MOVES_LENGTH);
+        put_moves(expected.data(), &call);
+        const Squeezed squeezed = leafgraph::squeeze(graph, list);
+        expect(bool(squeezed) && squeezed.done() && squeezed.reply.done(), call.what);
+        expect(graph == block_of(call.after) && list == expected, call.what);
+        expect_moves(squeezed.moves, call);
+        list[0] = 77;
+        list[1] = 1;
+        expect(squeezed.moves[0] == 77 + 256, "the moves are a view of the list");
+    }
+    static_assert(Moves::no_slot == 65535 && Map::no_slot == Moves::no_slot);
+    expect(Moves().size() == 0 && Moves().was_empty(0), "the moves of no slot");
+}
+
+// A refused squeeze with a list of this length, which keeps every byte and has no moves.
+void expect_refused_squeeze(const Block &graph, std::size_t length, Reply expected,
+                            const char *what) {
+    Block lent = graph, list(length, 0xaa);
+    const auto [reply, moves] = leafgraph::squeeze(lent, list);
+    expect(reply == expected && !reply.done(), what);
+    expect(lent == graph && list == Block(length, 0xaa), what);
+    expect(moves.size() == 0 && moves[0] == Moves::no_slot, what);
+}
+
+void test_sweep_and_squeeze_refusals() {
+    for (const graph_fault &fault : graph_faults) {
+        Block graph(TABLE_LENGTH);
+        put_graph_fault(graph.data(), &fault);
+        const Block before = graph;
+        const Reply expected = leafgraph::check_graph(graph);
+        expect(expected.bad_graph() && leafgraph::sweep(graph) == expected, fault.what);
+        expect(graph == before, "a refused sweep keeps every byte");
+        expect_refused_squeeze(graph, MOVES_LENGTH, expected, fault.what);
+        expect_refused_squeeze(graph, 0, expected, "a bad graph comes before a bad list");
+    }
+    const Block graph = block_of(squeeze_calls[2].before);
+    for (const std::size_t length : bad_moves_lengths) {
+        expect_refused_squeeze(graph, length, Reply(Code::bad_moves_length), "a bad list");
+    }
+    expect(!leafgraph::squeeze(WritableBytes(), WritableBytes()), "a refusal is no done");
+}
+
 // The same calls through every kind of buffer.
 void test_kinds_of_buffer() {
     const Block graph = two_relus_graph(), rule = two_relus_rule();
@@ -207,11 +280,17 @@ void test_kinds_of_buffer() {
     expect(leafgraph::rewrite({table.data(), table.size()}, rule_bytes, 0,
                               {map.data(), map.size()}).done(), "pointers and lengths");
     expect(Block(table.begin(), table.end()) == one_relu_graph(), "the array was rewritten");
+    std::byte list[6];
+    expect(leafgraph::moves_length(table) == sizeof list, "two bytes for each of three slots");
+    expect(leafgraph::sweep(table).done(), "a swept array");
+    expect(leafgraph::squeeze({table.data(), table.size()}, list).moves[1] == 1, "pointer, array");
 #if __cplusplus > 201703L
     Block copy = graph;
     expect(leafgraph::rewrite(std::span(copy), std::span<const std::uint8_t>(rule), 0,
                               std::span(map)).done(), "std::span");
     expect(copy == one_relu_graph(), "the span was rewritten");
+    expect(leafgraph::sweep(std::span(copy)).done(), "a swept span");
+    expect(leafgraph::squeeze(std::span(copy), std::span(list)).done(), "squeezed spans");
 #endif
 }
 
@@ -229,6 +308,11 @@ void test_empty_buffers() {
     expect(leafgraph::detail::lent(Bytes()).data() != nullptr, "the library never gets null");
     expect(leafgraph::detail::lent(WritableBytes()).data() != nullptr, "nor to write to");
     expect(leafgraph::rewrite(WritableBytes(), rule, 0, map).bad_graph(), "a null graph");
+    expect(leafgraph::sweep({nullptr, 0}).bad_graph(), "a null graph to sweep");
+    expect(leafgraph::squeeze({nullptr, 0}, {nullptr, 0}).reply.bad_graph(), "nothing to squeeze");
+    expect(leafgraph::squeeze(graph, {nullptr, 0}).reply.code() == Code::bad_moves_length,
+           "a null list");
+    expect(leafgraph::moves_length({nullptr, 0}) == 0, "no graph has no slots");
 }
 
 void test_null_with_a_length() {
@@ -245,6 +329,10 @@ void test_null_with_a_length() {
     expect(leafgraph::rewrite(writable_null, rule, 0, map).code() == Code::null_buffer, "graph");
     expect(leafgraph::rewrite(graph, null, 0, map).code() == Code::null_buffer, "rule");
     expect(leafgraph::rewrite(graph, rule, 0, writable_null).code() == Code::null_buffer, "map");
+    expect(leafgraph::sweep(writable_null).code() == Code::null_buffer, "graph to sweep");
+    expect(leafgraph::squeeze(writable_null, map).reply.code() == Code::null_buffer, "graph");
+    expect(leafgraph::squeeze(graph, writable_null).reply.code() == Code::null_buffer, "list");
+    expect(leafgraph::moves_length(writable_null) == 0, "a null graph has no slots");
     expect(graph == before, "the graph is as it came");
 }
 
@@ -284,18 +372,41 @@ void test_overlap() {
                == Code::bad_map_length, "an empty buffer overlaps nothing");
 }
 
+// A graph and its list at these offsets of one block.
+void expect_squeeze_overlap(std::size_t graph_at, std::size_t list_at, bool overlap) {
+    const Block graph = two_relus_graph();
+    const std::size_t length = leafgraph::moves_length(graph);
+    Block all(200, 0xaa);
+    std::memcpy(all.data() + graph_at, graph.data(), graph.size());
+    const Block before = all;
+    const Squeezed squeezed = leafgraph::squeeze({all.data() + graph_at, graph.size()},
+                                                 {all.data() + list_at, length});
+    expect((squeezed.reply.code() == Code::overlap) == overlap, "overlap in a squeeze");
+    expect(overlap ? all == before && squeezed.moves.size() == 0 : squeezed.done(),
+           "nothing was touched, or it is done");
+}
+
+void test_squeeze_overlap() {
+    const std::size_t graph = two_relus_graph().size();
+    expect_squeeze_overlap(0, graph, false);
+    expect_squeeze_overlap(6, 0, false);
+    expect_squeeze_overlap(0, graph - 1, true);
+    expect_squeeze_overlap(5, 0, true);
+    expect_squeeze_overlap(0, 0, true);
+}
+
 void test_words() {
     std::set<std::string_view> texts;
     for (const Code code :
          {Code::done, Code::bad_map_length, Code::bad_graph_header, Code::bad_graph_record,
           Code::bad_graph_name, Code::graph_has_cycle, Code::bad_rule_header,
           Code::bad_rule_record, Code::bad_rule_order, Code::bad_rule_outputs,
-          Code::bad_rule_expression, Code::no_match, Code::no_result, Code::no_room, Code::cycle,
-          Code::overlap, Code::null_buffer}) {
+          Code::bad_rule_expression, Code::bad_moves_length, Code::no_match, Code::no_result,
+          Code::no_room, Code::cycle, Code::overlap, Code::null_buffer}) {
         texts.insert(leafgraph::what(code));
         expect(Reply(code).what() == std::string_view(leafgraph::what(code)), "the reply's words");
     }
-    expect(texts.size() == 17, "each code has words of its own");
+    expect(texts.size() == 18, "each code has words of its own");
     expect(texts.count(leafgraph::what(static_cast<Code>(200))) == 0, "an unknown number too");
     texts.clear();
     for (const PlaceKind kind : {PlaceKind::none, PlaceKind::slot, PlaceKind::output,
@@ -322,6 +433,8 @@ void test_numbers_of_faults() {
     static_assert(Reply(Code::graph_has_cycle).number() == 23);
     static_assert(Reply(Code::bad_rule_header).number() == 30);
     static_assert(Reply(Code::bad_rule_expression).number() == 34);
+    static_assert(Reply(Code::bad_moves_length).number() == 40);
+    static_assert(!Reply(Code::bad_moves_length).bad_graph());
     static_assert(Reply(std::uint64_t{29}).bad_graph() && !Reply(std::uint64_t{19}).bad_graph(),
                   "a later kind of fault is a bad graph, too");
     static_assert(Reply(std::uint64_t{39}).bad_rule() && !Reply(std::uint64_t{40}).bad_rule());
@@ -398,6 +511,9 @@ void test_packed_replies() {
     static_assert(!std::is_convertible_v<std::vector<int>, Bytes>);
     static_assert(!std::is_convertible_v<Reply, bool>, "only where a condition is asked");
     static_assert(noexcept(leafgraph::rewrite(WritableBytes(), Bytes(), 0, WritableBytes())));
+    static_assert(noexcept(leafgraph::sweep(WritableBytes())));
+    static_assert(noexcept(leafgraph::squeeze(WritableBytes(), WritableBytes()).moves[0]));
+    static_assert(!std::is_convertible_v<Squeezed, bool> && !std::is_convertible_v<Bytes, Moves>);
 }
 
 // One rule lent to all, and a graph and a map for each thread.
@@ -428,10 +544,14 @@ int main() {
     test_search_and_checks();
     test_result_of_rewriting();
     test_constants();
+    test_sweep();
+    test_squeeze();
+    test_sweep_and_squeeze_refusals();
     test_kinds_of_buffer();
     test_empty_buffers();
     test_null_with_a_length();
     test_overlap();
+    test_squeeze_overlap();
     test_words();
     test_numbers_of_faults();
     test_places();

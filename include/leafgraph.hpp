@@ -10,6 +10,7 @@
 //   before the library is called: no byte is read or written then.
 // - A reply is a type of its own, with its number, its place and a text; and
 //   place_in says what the place of a refused block counts.
+// - The numbers of a map and of a list of moves are read by index (Map, Moves).
 //
 // Nothing here throws, allocates or keeps state. What leafgraph.h says about
 // threads and stack holds here too.
@@ -44,6 +45,7 @@ enum class Code : std::uint16_t {
     bad_rule_order = LG_BAD_RULE_ORDER,
     bad_rule_outputs = LG_BAD_RULE_OUTPUTS,
     bad_rule_expression = LG_BAD_RULE_EXPRESSION,
+    bad_moves_length = LG_BAD_MOVES_LENGTH,
     no_match = LG_NO_MATCH,
     no_result = LG_NO_RESULT,
     no_room = LG_NO_ROOM,
@@ -77,6 +79,8 @@ constexpr const char *what(Code code) noexcept {
         return "bad rule block: its outputs, its connection, or a vertex that nothing names";
     case Code::bad_rule_expression:
         return "bad rule block: an expression, or the use of one";
+    case Code::bad_moves_length:
+        return "the list of moves is not two bytes for each slot";
     case Code::no_match:
         return "no match from the start number on";
     case Code::no_result:
@@ -207,6 +211,26 @@ private:
     std::size_t size_ = 0;
 };
 
+namespace detail {
+
+// Any block can be looked at: where it has no byte, there is a 0.
+inline unsigned byte_at(Bytes block, std::size_t at) noexcept {
+    return at < block.size() ? block.data()[at] : 0U;
+}
+
+inline unsigned number16_at(Bytes block, std::size_t at) noexcept {
+    return byte_at(block, at) + 256U * byte_at(block, at + 1);
+}
+
+// The slot in this place of a list of slot numbers; past its end, none.
+inline std::uint16_t slot_in(Bytes list, std::size_t place) noexcept {
+    const bool there = place < list.size() / 2;
+    return static_cast<std::uint16_t>(there ? number16_at(list, 2 * place)
+                                            : unsigned{LG_NO_SLOT});
+}
+
+} // namespace detail
+
 // A match as the library writes it: the slot of each source vertex.
 class Map {
 public:
@@ -222,10 +246,7 @@ public:
     // The slot that this source vertex matches, after a call that is done; no_slot past
     // the last one, and everywhere before such a call.
     std::uint16_t operator[](std::size_t vertex) const noexcept {
-        if (vertex >= places()) {
-            return no_slot;
-        }
-        return static_cast<std::uint16_t>(bytes_[2 * vertex] + 256 * bytes_[2 * vertex + 1]);
+        return detail::slot_in(bytes_, vertex);
     }
 
     std::uint8_t *data() noexcept { return bytes_.data(); }
@@ -234,6 +255,43 @@ public:
 
 private:
     std::array<std::uint8_t, LG_MAP_LENGTH> bytes_;
+};
+
+// Where a squeeze has put each slot's vertex. It refers to the list that was lent, and
+// does not own it: it is good as long as those bytes are.
+class Moves {
+public:
+    // Stands for a slot that was Empty.
+    static constexpr std::uint16_t no_slot = LG_NO_SLOT;
+
+    // Of no slot at all.
+    constexpr Moves() noexcept = default;
+    // Over a list as lg_squeeze writes it.
+    explicit Moves(Bytes list) noexcept : list_(list) {}
+
+    // How many slots it tells of: all that the graph has.
+    std::size_t size() const noexcept { return list_.size() / 2; }
+
+    // The slot to which the vertex went that was in this one; no_slot if this one was
+    // Empty, and past the last one.
+    std::uint16_t operator[](std::size_t slot) const noexcept {
+        return detail::slot_in(list_, slot);
+    }
+
+    // Whether there was no vertex in this slot to go anywhere.
+    bool was_empty(std::size_t slot) const noexcept { return (*this)[slot] == no_slot; }
+
+private:
+    Bytes list_;
+};
+
+// What squeeze returns.
+struct [[nodiscard]] Squeezed {
+    Reply reply;
+    Moves moves; // of the lent list where the reply is done, else of no slot
+
+    bool done() const noexcept { return reply.done(); }
+    explicit operator bool() const noexcept { return done(); }
 };
 
 namespace detail {
@@ -263,12 +321,13 @@ inline WritableBytes lent(WritableBytes bytes) noexcept {
     return bytes.data() == nullptr ? WritableBytes(const_cast<char *>(""), 0) : bytes;
 }
 
-// Why the library must not be called with these buffers; done if it may.
-inline Code judged(Bytes graph, Bytes rule, Bytes map) noexcept {
-    if (is_null(graph) || is_null(rule) || is_null(map)) {
+// Why the library must not be called with these buffers; done if it may. A buffer that
+// a call does not have is an empty one here.
+inline Code judged(Bytes one, Bytes other = {}, Bytes third = {}) noexcept {
+    if (is_null(one) || is_null(other) || is_null(third)) {
         return Code::null_buffer;
     }
-    const bool apart = !overlap(graph, rule) && !overlap(graph, map) && !overlap(rule, map);
+    const bool apart = !overlap(one, other) && !overlap(one, third) && !overlap(other, third);
     return apart ? Code::done : Code::overlap;
 }
 
@@ -321,6 +380,35 @@ inline Reply rewrite(WritableBytes graph, Bytes rule, std::size_t start,
                             map.data(), map.size()));
 }
 
+// As lg_sweep: where done, every vertex that no output needs is gone, but for Variables.
+inline Reply sweep(WritableBytes graph) noexcept {
+    if (detail::is_null(graph)) {
+        return Reply(Code::null_buffer);
+    }
+    graph = detail::lent(graph);
+    return Reply(lg_sweep(graph.data(), graph.size()));
+}
+
+// How many bytes squeeze wants for its list with this graph: two for each slot of which
+// the header speaks. Of a graph that is not sound it says nothing of use.
+inline std::size_t moves_length(Bytes graph) noexcept {
+    return detail::is_null(graph) ? 0 : std::size_t{2} * detail::number16_at(graph, 6);
+}
+
+// As lg_squeeze: where done, the vertices of graph stand in its lowest slots, and the
+// moves are a view of the bytes that were written to the list. On a refusal no byte
+// has changed.
+inline Squeezed squeeze(WritableBytes graph, WritableBytes list) noexcept {
+    const Code code = detail::judged(graph, list);
+    if (code != Code::done) {
+        return {Reply(code), Moves()};
+    }
+    graph = detail::lent(graph);
+    list = detail::lent(list);
+    const Reply reply(lg_squeeze(graph.data(), graph.size(), list.data(), list.size()));
+    return {reply, reply.done() ? Moves(list) : Moves()};
+}
+
 // What a place is a number of.
 enum class PlaceKind {
     none, // the reply names no place
@@ -365,15 +453,6 @@ struct Place {
 };
 
 namespace detail {
-
-// Any block can be looked at: where it has no byte, there is a 0.
-inline unsigned byte_at(Bytes block, std::size_t at) noexcept {
-    return at < block.size() ? block.data()[at] : 0U;
-}
-
-inline unsigned number16_at(Bytes block, std::size_t at) noexcept {
-    return byte_at(block, at) + 256U * byte_at(block, at + 1);
-}
 
 // Whether some used input of this slot names no slot or an Empty one.
 inline bool reads_no_vertex(Bytes graph, std::size_t slot) noexcept {
