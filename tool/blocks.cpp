@@ -1,5 +1,7 @@
 #include "blocks.hpp"
 
+#include <algorithm>
+
 #include "fields.hpp"
 
 namespace leafgraph::tool {
@@ -47,6 +49,12 @@ Node read_node(Fields block, std::size_t at) {
 }
 
 } // namespace
+
+std::size_t count_vertices(const Graph &graph) {
+    const auto is_vertex = [](const Slot &slot) { return slot.kind != Kind::empty; };
+    return static_cast<std::size_t>(
+        std::count_if(graph.slots.begin(), graph.slots.end(), is_vertex));
+}
 
 Graph read_graph(Bytes sound_block) {
     const Fields block(sound_block);

@@ -37,6 +37,9 @@ struct Graph {
     std::vector<unsigned> outputs;
 };
 
+// How many slots are not Empty.
+std::size_t count_vertices(const Graph &graph);
+
 // Whether source vertices of this kind are rule inputs.
 constexpr bool makes_rule_input(Kind kind) {
     return kind == Kind::wildcard || kind == Kind::variable;

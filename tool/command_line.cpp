@@ -24,7 +24,9 @@ const std::vector<CommandForm> command_forms = {
     {"check-rule", Command::check_rule, {"RULE"}, 1, {}},
     {"match", Command::match, {"GRAPH", "RULE"}, 2, {"--start"}},
     {"rewrite", Command::rewrite, {"GRAPH", "RULE"}, 2,
-     {"--start", "-o", "--all", "--max", "--numbers"}},
+     {"--start", "-o", "--all", "--max", "--sweep", "--squeeze", "--moves", "--numbers"}},
+    {"sweep", Command::sweep, {"GRAPH"}, 1, {"-o", "--numbers"}},
+    {"squeeze", Command::squeeze, {"GRAPH"}, 1, {"-o", "--moves", "--numbers"}},
     {"show", Command::show, {"FILE"}, 1, {"--numbers"}},
     {"dot", Command::dot, {"GRAPH", "RULE"}, 1, {"--start", "--svg", "-o"}},
 };
@@ -34,6 +36,7 @@ const std::map<std::string, std::string> option_values = {
     {"--start", "a number"},
     {"--max", "a number"},
     {"-o", "a file"},
+    {"--moves", "a file"},
 };
 
 // A command, and the words after it told apart.
@@ -43,6 +46,17 @@ struct SortedWords {
     std::map<std::string, std::string> options; // with their values
 
     bool has(const std::string &option) const { return options.count(option) != 0; }
+
+    // The value of an option, if it is given.
+    std::optional<std::string> value(const std::string &option) const {
+        const auto given = options.find(option);
+        return given == options.end() ? std::nullopt : std::optional(given->second);
+    }
+
+    // Whether the graph is squeezed, or swept, by the command or by an option.
+    bool asks(Command command, const std::string &option) const {
+        return form.command == command || has(option);
+    }
 
     // What is wrong with the words, and that the command's own help says more.
     Failure slip(const std::string &why) const { return bad_usage(why, form.name); }
@@ -134,6 +148,9 @@ void check_options(const SortedWords &sorted) {
     if (sorted.has("--max") && !sorted.has("--all")) {
         throw sorted.slip("--max is only for --all");
     }
+    if (sorted.has("--moves") && !sorted.asks(Command::squeeze, "--squeeze")) {
+        throw sorted.slip("--moves is only for --squeeze");
+    }
     if (sorted.has("--numbers") && sorted.has("-o")) {
         throw sorted.slip("--numbers is for the listing, and with -o there is none");
     }
@@ -142,28 +159,36 @@ void check_options(const SortedWords &sorted) {
     }
 }
 
-// To put a new graph in the place of the old one is often wanted; to put it in the
-// place of the rule, or a drawing in the place of either, never is.
-void check_output(const SortedWords &sorted) {
-    const auto out = sorted.options.find("-o");
-    if (out == sorted.options.end()) {
-        return;
-    }
-    const std::size_t first_kept = sorted.form.command == Command::rewrite ? 1 : 0;
-    for (std::size_t at = first_kept; at < sorted.files.size(); ++at) {
-        if (would_replace(out->second, sorted.files[at])) {
-            throw sorted.slip("-o " + out->second + " would replace the " + sorted.form.files[at]
+// That the file of an option replaces none of the files that are read, from this one on.
+void check_kept(const SortedWords &sorted, const std::string &option, std::size_t first_kept) {
+    const std::optional<std::string> file = sorted.value(option);
+    for (std::size_t at = first_kept; file && at < sorted.files.size(); ++at) {
+        if (would_replace(*file, sorted.files[at])) {
+            throw sorted.slip(option + " " + *file + " would replace the " + sorted.form.files[at]
                               + ": name another file");
         }
     }
 }
 
+// To put a new graph in the place of the old one is often wanted; to put it in the
+// place of the rule, or a drawing or a list in the place of either, never is. Nor are
+// a graph and a list in one place.
+void check_outputs(const SortedWords &sorted) {
+    check_kept(sorted, "-o", sorted.form.command == Command::dot ? 0 : 1);
+    check_kept(sorted, "--moves", 0);
+    const std::optional<std::string> moves = sorted.value("--moves");
+    // Without -o the graph is printed.
+    if (moves && same_output(*moves, sorted.value("-o").value_or("-"))) {
+        throw sorted.slip("--moves " + *moves + " is where the new graph goes: name another file");
+    }
+}
+
 std::size_t number(const SortedWords &sorted, const std::string &option, std::size_t otherwise) {
-    const auto given = sorted.options.find(option);
-    if (given == sorted.options.end()) {
+    const std::optional<std::string> given = sorted.value(option);
+    if (!given) {
         return otherwise;
     }
-    const std::string &text = given->second;
+    const std::string &text = *given;
     std::size_t result = 0;
     const auto [end, error] = std::from_chars(text.data(), text.data() + text.size(), result);
     if (error != std::errc() || end != text.data() + text.size()) {
@@ -180,11 +205,11 @@ CommandLine make_line(const SortedWords &sorted) {
     line.files = sorted.files;
     line.start = number(sorted, "--start", line.start);
     line.max = number(sorted, "--max", line.max);
-    const auto out = sorted.options.find("-o");
-    if (out != sorted.options.end()) {
-        line.out = out->second;
-    }
+    line.out = sorted.value("-o");
+    line.moves = sorted.value("--moves");
     line.all = sorted.has("--all");
+    line.sweep = sorted.asks(Command::sweep, "--sweep");
+    line.squeeze = sorted.asks(Command::squeeze, "--squeeze");
     line.numbers = sorted.has("--numbers");
     line.svg = sorted.has("--svg");
     return line;
@@ -215,7 +240,7 @@ Request read_command(const std::vector<std::string> &words) {
     }
     check_files(sorted);
     check_options(sorted);
-    check_output(sorted);
+    check_outputs(sorted);
     return {Request::Wish::run, make_line(sorted), {}};
 }
 

@@ -9,7 +9,7 @@
 
 namespace leafgraph::tool {
 
-enum class Command { check, check_rule, match, rewrite, show, dot };
+enum class Command { check, check_rule, match, rewrite, sweep, squeeze, show, dot };
 
 // A command with its files and options. An option that a command doesn't take
 // has its default here.
@@ -19,7 +19,10 @@ struct CommandLine {
     std::size_t start = 0;
     std::size_t max = 4096;
     std::optional<std::string> out;
+    std::optional<std::string> moves;
     bool all = false;
+    bool sweep = false;   // by an option, or since that is the command
+    bool squeeze = false; // likewise
     bool numbers = false;
     bool svg = false;
 };

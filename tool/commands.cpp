@@ -1,7 +1,8 @@
 #include "commands.hpp"
 
-#include <algorithm>
+#include <cstdint>
 #include <string>
+#include <vector>
 
 #include "blocks.hpp"
 #include "dot.hpp"
@@ -16,6 +17,7 @@
 #include "rewriting.hpp"
 #include "rule_text.hpp"
 #include "text.hpp"
+#include "tidying.hpp"
 
 namespace leafgraph::tool {
 namespace {
@@ -28,13 +30,9 @@ void check(const CommandLine &line) {
     const Input input = read_graph_file(line.files[0]);
     want_sound_graph(input);
     const Graph graph = read_graph(input.bytes);
-    const auto empty = std::count_if(graph.slots.begin(), graph.slots.end(), [](const Slot &slot) {
-        return slot.kind == Kind::empty;
-    });
-    const std::size_t vertices = graph.slots.size() - static_cast<std::size_t>(empty);
     print(printable(input.name) + ": sound graph, "
           + counted(graph.slots.size(), "slot", "slots") + ", "
-          + counted(vertices, "vertex", "vertices") + ", "
+          + counted(count_vertices(graph), "vertex", "vertices") + ", "
           + counted(graph.outputs.size(), "output", "outputs") + "\n");
 }
 
@@ -73,18 +71,44 @@ void match(const CommandLine &line) {
     print(text);
 }
 
-void rewrite(const CommandLine &line) {
-    Input graph = read_graph_file(line.files[0]);
-    const Input rule = read_rule_file(line.files[1]);
-    const std::string report = line.all ? rewrite_all(graph, rule, line.start, line.max)
-                                        : rewrite_once(graph, rule, line.start);
+// Sweeps and squeezes as the line says, writes what has become of the graph, and says it
+// after the reports of what was done before.
+void finish(const CommandLine &line, Input &graph, std::vector<std::string> reports) {
+    std::vector<std::uint8_t> list;
+    if (line.sweep) {
+        reports.push_back(sweep_graph(graph));
+    }
+    if (line.squeeze) {
+        reports.push_back(squeeze_graph(graph, list));
+    }
+    // Before the graph: were that replaced and the list not written, nobody could tell
+    // any more where its Variables went.
+    if (line.moves) {
+        write_output(*line.moves, list);
+    }
     if (line.out) {
         write_output(*line.out, graph.bytes);
     } else {
         print(graph_listing(read_graph(graph.bytes), operators(line)));
     }
     // Last, so that nothing is called done whose result could not be written.
-    say(report);
+    for (const std::string &report : reports) {
+        say(report);
+    }
+}
+
+void rewrite(const CommandLine &line) {
+    Input graph = read_graph_file(line.files[0]);
+    const Input rule = read_rule_file(line.files[1]);
+    const std::string report = line.all ? rewrite_all(graph, rule, line.start, line.max)
+                                        : rewrite_once(graph, rule, line.start);
+    finish(line, graph, {report});
+}
+
+// Without a rewriting before.
+void tidy(const CommandLine &line) {
+    Input graph = read_graph_file(line.files[0]);
+    finish(line, graph, {});
 }
 
 void show(const CommandLine &line) {
@@ -134,6 +158,9 @@ void run_command(const CommandLine &line) {
         return match(line);
     case Command::rewrite:
         return rewrite(line);
+    case Command::sweep:
+    case Command::squeeze:
+        return tidy(line);
     case Command::show:
         return show(line);
     case Command::dot:

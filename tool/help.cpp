@@ -4,7 +4,7 @@ namespace leafgraph::tool {
 namespace {
 
 const char *const general =
-    R"(Checks graphs and rewriting rules, finds matches, and rewrites graphs.
+    R"(Checks graphs and rewriting rules, finds matches, rewrites and tidies graphs.
 
 usage: leafgraph COMMAND FILE... [OPTION...]
 
@@ -12,6 +12,8 @@ usage: leafgraph COMMAND FILE... [OPTION...]
   check-rule RULE     say whether a file is a sound rule block
   match GRAPH RULE    find the least match of a rule in a graph
   rewrite GRAPH RULE  rewrite a graph where the rule matches
+  sweep GRAPH         empty the slots of what no output needs
+  squeeze GRAPH       move what is in a graph to its lowest slots
   show FILE           print a graph or a rule as text
   dot GRAPH [RULE]    draw a graph, and where a rule matches it
   help [COMMAND]      print this, or more about a command
@@ -24,7 +26,7 @@ them.
 
 Standard output has only what is asked for: that a block is sound, a match, a
 text, a drawing or a block. Whatever else there is to say goes to standard error:
-why something is refused, and what a rewriting did.
+why something is refused, and what a rewriting, a sweep or a squeeze did.
 
 The exit status is
   0  if all is done; for 'rewrite --all' that is: no match is left
@@ -57,7 +59,7 @@ of the rule matches. If there is no match, the exit status is 3.
 
 const char *const rewrite =
     R"(usage: leafgraph rewrite GRAPH RULE [--start S] [--all [--max N]]
-                         [-o OUT | --numbers]
+                         [--sweep] [--squeeze [--moves FILE]] [-o OUT | --numbers]
 
 Rewrites GRAPH where RULE has its least match, and prints the new graph as text.
 What was done is said on standard error. The file GRAPH is not changed, unless
@@ -66,12 +68,49 @@ OUT is the same file; the file RULE can't be OUT.
   --start S  only matches whose first output is slot S or a later one (0)
   --all      rewrite again and again until no match is left
   --max N    with --all: refuse if there is still a match after N times (4096)
+  --sweep    sweep the graph after the last rewriting: see 'help sweep'
+  --squeeze  squeeze it after that: see 'help squeeze', for --moves too
   -o OUT     write the new block to OUT, '-' for standard output, and no text
   --numbers  print operators by number and not by name
 
 OUT is replaced whole or not at all. If anything is refused, it is not written;
-nor if there is no match, for which the exit status is 3. With --all, no match is
-what is wanted: OUT is written, and the exit status is 0.
+nor if there is no match, for which the exit status is 3: then nothing is swept
+or squeezed, either. With --all, no match is what is wanted: the graph is swept
+and squeezed as asked, OUT is written, and the exit status is 0. The old slots of
+--moves are those that the last rewriting has left.
+)";
+
+const char *const sweep = R"(usage: leafgraph sweep GRAPH [-o OUT | --numbers]
+
+Empties the slot of every vertex of GRAPH from which no output is reached, and
+prints the new graph as text. Variables stay, read or not, and so does the number
+of slots. How many slots became Empty is said on standard error. The file GRAPH is
+not changed, unless OUT is the same file.
+
+  -o OUT     write the new block to OUT, '-' for standard output, and no text
+  --numbers  print operators by number and not by name
+
+OUT is replaced whole or not at all, also where nothing had to go. If GRAPH is
+refused, it is not written, and the exit status is 1.
+)";
+
+const char *const squeeze =
+    R"(usage: leafgraph squeeze GRAPH [--moves FILE] [-o OUT | --numbers]
+
+Moves the vertices of GRAPH to its lowest slots, in their old order, and prints
+the new graph as text. Inputs and outputs follow, and the number of slots stays.
+How many slots moved, and how many Variables are among them, is said on standard
+error. The file GRAPH is not changed, unless OUT is the same file.
+
+  --moves FILE  write the list of moves to FILE, '-' for standard output: for
+                each old slot its new number, or 65535 if it was Empty, in two
+                bytes, the lower one first; not GRAPH or where the graph goes
+  -o OUT        write the new block to OUT, '-' for standard output, and no text
+  --numbers     print operators by number and not by name
+
+Nothing is swept: what nobody reads moves, too. FILE and then OUT are replaced,
+each whole or not at all, also where nothing had to move. If GRAPH is refused,
+neither is written, and the exit status is 1.
 )";
 
 const char *const show = R"(usage: leafgraph show FILE [--numbers]
@@ -108,6 +147,10 @@ std::string command_help(Command command) {
         return match;
     case Command::rewrite:
         return rewrite;
+    case Command::sweep:
+        return sweep;
+    case Command::squeeze:
+        return squeeze;
     case Command::show:
         return show;
     case Command::dot:

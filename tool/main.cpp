@@ -6,9 +6,10 @@
 //   commands      what each command does        failure    what ends one early
 //   input         files that are read           output     files that are written
 //   blocks        what a sound block says       refusal    the library's refusals
-//   rewriting     once, or until none is left   names      of kinds and operators
+//   rewriting     once, or until none is left   tidying    sweeping and squeezing
 //   listing       a graph as text               rule_text  a rule as text
 //   dot           a graph as a drawing          graphviz   the program that draws
+//   names         of kinds and operators
 //
 // What is wrong with a refused block, in words: graph_fault; rule_fault, with
 // rule_outputs_fault and rule_expression_fault; fault has what those share, fields and

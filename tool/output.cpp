@@ -65,6 +65,15 @@ fs::path followed(fs::path path) {
     return path;
 }
 
+// The one path of a file, which need not be there yet; empty where none can be told.
+fs::path whole_path(const std::string &path) {
+    try {
+        return fs::weakly_canonical(fs::absolute(followed(path)));
+    } catch (const std::system_error &) {
+        return {};
+    }
+}
+
 // The mode that a new file gets anywhere else. The umask can't be asked for
 // without being set.
 mode_t mode_of_new_file() {
@@ -142,6 +151,16 @@ bool would_replace(const std::string &path, const std::string &input_path) {
     // are never called equivalent; nor is a path that leads nowhere.
     std::error_code no_answer;
     return fs::equivalent(path, input, no_answer);
+}
+
+bool same_output(const std::string &path, const std::string &other) {
+    if (path == "-" || other == "-") {
+        return path == other;
+    }
+    // Links to one file have one inode; a file that is not there yet has only its path.
+    std::error_code no_answer;
+    const fs::path one = whole_path(path);
+    return fs::equivalent(path, other, no_answer) || (!one.empty() && one == whole_path(other));
 }
 
 } // namespace leafgraph::tool

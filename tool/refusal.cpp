@@ -57,14 +57,18 @@ void want_done(Reply reply, const Input &graph, const Input &rule) {
     }
 }
 
-// Checking one file gives no reply about another: what stands for the other
-// one here is never named.
+// Such a call gives no reply about another block: what stands for that one here is
+// never named.
+void want_done(Reply reply, const Input &block) {
+    want_done(reply, block, block);
+}
+
 void want_sound_graph(const Input &graph) {
-    want_done(check_graph(graph.bytes), graph, graph);
+    want_done(check_graph(graph.bytes), graph);
 }
 
 void want_sound_rule(const Input &rule) {
-    want_done(check_rule(rule.bytes), rule, rule);
+    want_done(check_rule(rule.bytes), rule);
 }
 
 } // namespace leafgraph::tool

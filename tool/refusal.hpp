@@ -13,8 +13,10 @@ namespace leafgraph::tool {
 // blocks, it names that file, the place in it, and what is wrong there.
 std::string refusal_line(Reply reply, const Input &graph, const Input &rule);
 
-// Each throws the refusal, or that there is no match, unless the reply is done.
+// Each throws the refusal, or that there is no match, unless the reply is done. With one
+// input it is the reply of a call that takes one block alone.
 void want_done(Reply reply, const Input &graph, const Input &rule);
+void want_done(Reply reply, const Input &block);
 void want_sound_graph(const Input &graph);
 void want_sound_rule(const Input &rule);
 

@@ -167,6 +167,14 @@ BLOCKS = {
     "both-sub.lgr": p7_rule(),
     "p7.lgt": graph([IMAGE, call(RELU, [0]), call(MEAN, [1], [1]), call(ADD, [0, 2])], [3]),
     "p8.lgt": graph([IMAGE, IMAGE, call(RELU, [0]), call(RELU, [1]), call(ADD, [1, 0])], [4]),
+    # What no output needs: a chain of two, a Const, and a Variable, which stays.
+    "dead.lgt": graph([IMAGE, EMPTY, call(RELU, [0]), call(RELU, [2]), IMAGE,
+                       call(GAIN, [3], [2, 2, 2]), call(MEAN, [2], [1]), const(7)], [6]),
+    # Two gains that become one, a relu that no output needs, and an unread Variable.
+    "dead-relu.lgt": graph([IMAGE, call(GAIN, [0], [2] * 3), call(GAIN, [1], [3] * 3),
+                            call(RELU, [0]), IMAGE], [2]),
+    # Every vertex stands in a higher slot than it could; the outputs are all four.
+    "high.lgt": graph([EMPTY, call(ADD, [4, 2]), IMAGE, EMPTY, const(9)], [1, 4, 2, 1]),
     # No block at all.
     "note.txt": b"LG\n",
 }
