@@ -27,8 +27,9 @@
 /* The version of this header and of the library that it is installed with.
  * Version 2 tells the kinds of fault apart: what was reply 2 (bad graph) is one of
  * 20 to 23, and what was reply 3 (bad rule) one of 30 to 34, each with a place. A
- * caller that needs no more than before asks lg_is_bad_graph and lg_is_bad_rule. */
-#define LEAFGRAPH_VERSION "2.0.1"
+ * caller that needs no more than before asks lg_is_bad_graph and lg_is_bad_rule.
+ * Version 2.1 adds lg_sweep and lg_squeeze, with reply 40. */
+#define LEAFGRAPH_VERSION "2.1.0"
 
 #ifdef __cplusplus
 extern "C" {
