@@ -1,5 +1,5 @@
-// Rewrites the leaf pipeline by six rules and shows that the number, which is
-// measured in one of its branches, stays what it was.
+// Rewrites the leaf pipeline by six rules, sweeps and squeezes it, and shows that the
+// number, which is measured in one of its branches, stays what it was.
 //
 // Usage: leaf_demo FOLDER, with the folder of the blocks. The exit status is 1 if
 // anything is not as expected.
@@ -73,7 +73,7 @@ struct Pipeline {
     bool rounded; // whether some operation had to round
 };
 
-Pipeline run(Block block) {
+Pipeline run(Block block, const Variables &variables = leaf_variables()) {
     const leafgraph::Reply reply = leafgraph::check_graph(block);
     if (!reply) {
         throw std::runtime_error("the pipeline is refused: " + in_words(reply, block));
@@ -82,7 +82,6 @@ Pipeline run(Block block) {
     if (graph.outputs.size() != 2) {
         throw std::runtime_error("the pipeline has not two outputs");
     }
-    const Variables variables = leaf_variables();
     std::feclearexcept(FE_INEXACT);
     Tensor picture = result_of(graph, graph.outputs[screen], variables);
     Tensor measured = result_of(graph, graph.outputs[number], variables);
@@ -299,10 +298,94 @@ void show_fault(const Pipeline &after, Expectations &expectations) {
     expectations.expect(wrong > right, "the fault makes no leaf greener");
 }
 
+// ---- the end
+
+void want_done(leafgraph::Reply reply, const Block &block) {
+    if (!reply) {
+        throw std::runtime_error("the pipeline can't be tidied: " + in_words(reply, block));
+    }
+}
+
+// Sweeps the block, and says what went and which Variables stayed that nobody reads.
+Block swept(const Pipeline &before, Expectations &expectations) {
+    Block block = before.block;
+    want_done(leafgraph::sweep(block), block);
+    const Graph after = leafgraph::tool::read_graph(block);
+    std::vector<std::size_t> gone, unread;
+    for (std::size_t slot = 0; slot < after.slots.size(); slot++) {
+        const Kind kind = before.graph.slots[slot].kind;
+        const bool stays = after.slots[slot].kind != Kind::empty;
+        const bool needed = leading_to(before.graph, before.graph.outputs[screen])[slot]
+                            || leading_to(before.graph, before.graph.outputs[number])[slot];
+        if (kind != Kind::empty && !needed) {
+            (stays ? unread : gone).push_back(slot);
+            expectations.expect(stays == (kind == Kind::variable), "a sweep is wrong in a slot");
+        }
+        expectations.expect(!needed || stays, "a sweep takes what is needed");
+    }
+    std::printf("Last, a sweep empties the slots of what no output needs:%s. The Variable in "
+                "slot%s stays,\nthough nobody needs it any more: the phone feeds Variables by "
+                "number.\n",
+                listed(gone).c_str(), listed(unread).c_str());
+    expectations.expect(!gone.empty(), "there is no stage to sweep");
+    expectations.expect(unread.size() == 1, "not one Variable is there that nobody reads");
+    return block;
+}
+
+// What belongs to the Variables, each by its new number.
+template <class OfSlots>
+OfSlots moved(const OfSlots &of_old_slots, leafgraph::Moves moves) {
+    OfSlots result;
+    for (const auto &[slot, belongs] : of_old_slots) {
+        result.emplace(moves[slot], belongs);
+    }
+    return result;
+}
+
+// Squeezes a swept block, and shows what moved and what is there then. The results of
+// the Variables go with them.
+Pipeline squeezed(Block block, Expectations &expectations) {
+    const Graph before = leafgraph::tool::read_graph(block);
+    Block list(leafgraph::moves_length(block));
+    const auto [reply, moves] = leafgraph::squeeze(block, list);
+    want_done(reply, block);
+    Pipeline after = run(std::move(block), moved(leaf_variables(), moves));
+    std::string said;
+    std::size_t next = 0; // the slot to which the next vertex must go
+    for (std::size_t slot = 0; slot < moves.size(); slot++) {
+        if (before.slots[slot].kind == Kind::empty) {
+            expectations.expect(moves.was_empty(slot), "an Empty slot moves");
+            continue;
+        }
+        expectations.expect(moves[slot] == next && after.graph.slots[next].kind
+                                == before.slots[slot].kind, "a vertex is not in its place");
+        if (slot != next) {
+            said += (said.empty() ? "" : ", ") + std::to_string(slot) + " to "
+                    + std::to_string(next);
+        }
+        next++;
+    }
+    std::printf("A squeeze moves the others to the lowest slots, in their old order, and says "
+                "where each\nwent: %s.\n\n",
+                said.c_str());
+    show_graph("at the end", after.graph, moved(variable_names(), moves));
+    expectations.expect(moves[brightness_slot] != brightness_slot, "no needed Variable moves");
+    return after;
+}
+
+void show_end(const Pipeline &before, Expectations &expectations) {
+    const Pipeline end = squeezed(swept(before, expectations), expectations);
+    const bool kept = same_results(before, end);
+    std::printf("With each Variable's result in its new slot, number and picture %s.\n\n",
+                kept ? "are the same" : "CHANGED");
+    expectations.expect(kept, "sweep or squeeze changes a result");
+    expectations.expect(boosts_above_number(end.graph) == 0, "the number is taken after a boost");
+}
+
 void show_proof() {
-    std::printf("What is shown here on one photograph is proved for every graph, rule and start, "
-                "whatever the\noperators mean, where the rule itself keeps its outputs' results: "
-                "Demand3 in\ncrates/answers/specs/Statements.antt.\n");
+    std::printf("What is shown here of the rules on one photograph is proved for every graph, rule "
+                "and start,\nwhatever the operators mean, where the rule itself keeps its outputs' "
+                "results: Demand3 in\ncrates/answers/specs/Statements.antt.\n");
 }
 
 bool demonstrated(const std::string &folder) {
@@ -312,12 +395,13 @@ bool demonstrated(const std::string &folder) {
                 "nitrogen is ordered. It must\nnever be taken after the stage vivid, which boosts "
                 "greens for the screen.\n\n");
     const Pipeline before = run(read_file(folder + "/leaf_pipeline.lgt"));
-    show_graph("before", before.graph);
+    show_graph("before", before.graph, variable_names());
     const Pipeline after = rewritten_by_all(folder, before, expectations);
-    show_graph("after", after.graph);
+    show_graph("after", after.graph, variable_names());
     show_results(before, after, expectations);
     show_boosts(before, after, expectations);
     show_fault(after, expectations);
+    show_end(after, expectations);
     show_proof();
     return expectations.summed_up();
 }

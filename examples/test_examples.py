@@ -199,7 +199,7 @@ class Blocks(unittest.TestCase):
 
 # Changes of a source, and what the demo must say then: a rule that does not keep
 # its results, a rule that applies nowhere, a number taken after the boost, a constant
-# that has a reader more or is not shared.
+# that has a reader more or is not shared, nothing to sweep.
 CHANGES = (
     ("gain_over_gain.lgr", {"3 n1 * n2": "3 n1 + n2"}, "gain_over_gain changes a result"),
     ("conv2d_batch_norm.lgr", {"[t0 s3 s4 s5 s6]": "[t0 s3 s5 s4 s6]"},
@@ -229,11 +229,16 @@ CHANGES = (
      "the fault makes no leaf greener"),
     ("leaf_pipeline.lgt", {"{64 1}": "{65 1}"}, "an operation had to round"),
     # A product with its inputs the other way round stays, and with it the constant.
-    ("leaf_pipeline.lgt", {"graph 24": "graph 23", "7 call conv2d": "6 const [] {5}\n7 call conv2d",
+    ("leaf_pipeline.lgt", {"24 variable": "23 const [] {5}\n24 variable",
+                           "7 call conv2d": "6 const [] {5}\n7 call conv2d",
                            "11 call mul [10 22]": "11 call mul [22 10]"},
      "conv2d_batch_norm ends with: more target vertices than"),
     ("leaf_pipeline.lgt", {"7 call conv2d [0 1] {1 1": "7 call conv2d [0 1] {2 1"},
      "the demo gives no meaning to a conv2d whose stride"),
+    ("leaf_pipeline.lgt", {"25 call mean [10] {1}\n26 call mul [25 24] {}\n": ""},
+     "there is no stage to sweep"),
+    ("leaf_pipeline.lgt", {"24 variable [] {1 1 1 1 1}": "24 const [] {3}"},
+     "not one Variable is there that nobody reads"),
     ("leaf_pipeline.lgt", {"9 call relu [8]": "9 call relu [10]"},
      "the pipeline is refused: reply 23, bad graph block: it has a cycle, slot 9"),
 )

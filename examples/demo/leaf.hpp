@@ -10,13 +10,21 @@
 
 #include <array>
 #include <cstddef>
+#include <map>
+#include <string>
 
 namespace demo {
 
-// What the Variables in slots 0 to 5 are.
-constexpr std::array<const char *, 6> variable_names = {"photograph", "kernel", "gamma",
-                                                        "beta",       "mean",   "variance"};
-constexpr std::size_t photograph_slot = 0;
+constexpr std::size_t photograph_slot = 0, old_unit_slot = 24, brightness_slot = 27;
+
+// What the Variables are, by their slots.
+using Names = std::map<std::size_t, std::string>;
+
+inline Names variable_names() {
+    return {{photograph_slot, "photograph"}, {1, "kernel"},   {2, "gamma"},
+            {3, "beta"},                     {4, "mean"},     {5, "variance"},
+            {old_unit_slot, "old unit"},     {brightness_slot, "brightness"}};
+}
 
 // The outputs.
 constexpr std::size_t screen = 0, number = 1;
@@ -51,6 +59,10 @@ inline Tensor for_each_channel(double red, double green, double blue) {
     return {{3, 1, 1, 1}, {red, green, blue}};
 }
 
+inline Tensor one_value(double value) {
+    return {{1, 1, 1, 1}, {value}};
+}
+
 inline Variables leaf_variables() {
     const double epsilon = 64.0 / 65536;
     return {{photograph_slot, photograph()},
@@ -58,7 +70,9 @@ inline Variables leaf_variables() {
             {2, for_each_channel(1, 4, 0.5)},
             {3, for_each_channel(4, -2, 2)},
             {4, for_each_channel(64, 72, 24)},
-            {5, for_each_channel(4 - epsilon, 16 - epsilon, 1 - epsilon)}};
+            {5, for_each_channel(4 - epsilon, 16 - epsilon, 1 - epsilon)},
+            {old_unit_slot, one_value(2)},
+            {brightness_slot, one_value(0.5)}};
 }
 
 } // namespace demo

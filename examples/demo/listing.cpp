@@ -1,7 +1,5 @@
 #include "listing.hpp"
 
-#include "leaf.hpp"
-
 #include <algorithm>
 #include <cstdio>
 
@@ -9,17 +7,10 @@ namespace demo {
 
 namespace {
 
-std::size_t count_vertices(const Graph &graph) {
-    const auto is_vertex = [](const Slot &slot) { return slot.kind != Kind::empty; };
-    return static_cast<std::size_t>(
-        std::count_if(graph.slots.begin(), graph.slots.end(), is_vertex));
-}
-
-std::string line_of(const Graph &graph, std::size_t slot) {
-    const Slot &vertex = graph.slots[slot];
-    std::string line = in_words(vertex);
-    if (vertex.kind == Kind::variable && slot < variable_names.size()) {
-        line += std::string(", the ") + variable_names[slot];
+std::string line_of(const Graph &graph, std::size_t slot, const Names &variable_names) {
+    std::string line = in_words(graph.slots[slot]);
+    if (graph.slots[slot].kind == Kind::variable) {
+        line += ", the " + variable_names.at(slot);
     }
     line.resize(std::max<std::size_t>(line.size(), 40), ' ');
     const bool for_screen = leading_to(graph, graph.outputs[screen])[slot];
@@ -52,14 +43,14 @@ std::string listed(const std::vector<std::size_t> &slots) {
     return text;
 }
 
-void show_graph(const char *when, const Graph &graph) {
+void show_graph(const char *when, const Graph &graph, const Names &variable_names) {
     std::printf("The pipeline %s: %zu vertices in %zu slots, %zu stages to run for each "
                 "photograph.\n\n",
-                when, count_vertices(graph), graph.slots.size(), stages(graph, true).size());
+                when, leafgraph::tool::count_vertices(graph), graph.slots.size(), stages(graph, true).size());
     std::printf("  slot  vertex                                  needed for\n");
     for (std::size_t slot = 0; slot < graph.slots.size(); slot++) {
         if (graph.slots[slot].kind != Kind::empty) {
-            std::printf("  %4zu  %s\n", slot, line_of(graph, slot).c_str());
+            std::printf("  %4zu  %s\n", slot, line_of(graph, slot, variable_names).c_str());
         }
     }
     std::printf("  The screen shows slot %u, the number is slot %u.\n", graph.outputs[screen],

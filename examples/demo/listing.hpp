@@ -3,6 +3,7 @@
 #define LEAFGRAPH_DEMO_LISTING_HPP
 
 #include "graph.hpp"
+#include "leaf.hpp"
 
 #include <cstddef>
 #include <string>
@@ -17,7 +18,7 @@ std::vector<std::size_t> stages(const Graph &graph, bool for_each_photograph);
 std::string listed(const std::vector<std::size_t> &slots);
 
 // Prints the vertices and the outputs, and for which outputs a vertex is needed.
-void show_graph(const char *when, const Graph &graph);
+void show_graph(const char *when, const Graph &graph, const Names &variable_names);
 
 } // namespace demo
 
