@@ -72,6 +72,7 @@ plugin-symbols: | build
 		$(GXX) -std=c++17 $(CXX_WARNINGS) -O0 -Iinclude -c -o build/plugin.o host/plugin.cpp; \
 		nm -C build/plugin.o > build/plugin.symbols; \
 		grep -q 'leafgraph::rewrite' build/plugin.symbols; \
+		grep -q 'leafgraph::squeeze' build/plugin.symbols; \
 		if grep ' u ' build/plugin.symbols; then \
 			echo "plugin: these symbols of the wrapper keep a plugin from being unloaded"; \
 			exit 1; \
