@@ -232,6 +232,7 @@ void test_squeeze() {
     }
     static_assert(Moves::no_slot == 65535 && Map::no_slot == Moves::no_slot);
     expect(Moves().size() == 0 && Moves().was_empty(0), "the moves of no slot");
+    expect(Moves({nullptr, 4}).size() == 0 && Moves({nullptr, 4}).was_empty(0), "a null list");
 }
 
 // A refused squeeze with a list of this length, which keeps every byte and has no moves.

@@ -213,6 +213,10 @@ private:
 
 namespace detail {
 
+inline bool is_null(Bytes bytes) noexcept {
+    return bytes.data() == nullptr && bytes.size() != 0;
+}
+
 // Any block can be looked at: where it has no byte, there is a 0.
 inline unsigned byte_at(Bytes block, std::size_t at) noexcept {
     return at < block.size() ? block.data()[at] : 0U;
@@ -266,8 +270,8 @@ public:
 
     // Of no slot at all.
     constexpr Moves() noexcept = default;
-    // Over a list as lg_squeeze writes it.
-    explicit Moves(Bytes list) noexcept : list_(list) {}
+    // Over a list as lg_squeeze writes it. Null is a list of no slot.
+    explicit Moves(Bytes list) noexcept : list_(detail::is_null(list) ? Bytes() : list) {}
 
     // How many slots it tells of: all that the graph has.
     std::size_t size() const noexcept { return list_.size() / 2; }
@@ -295,10 +299,6 @@ struct [[nodiscard]] Squeezed {
 };
 
 namespace detail {
-
-inline bool is_null(Bytes bytes) noexcept {
-    return bytes.data() == nullptr && bytes.size() != 0;
-}
 
 // Whether some byte lies in both. Empty buffers have none.
 inline bool overlap(Bytes one, Bytes other) noexcept {
