@@ -17,12 +17,13 @@ use graph_slots::clear_slot;
 use graph_slots::write_slot;
 use new_header::write_header;
 use reply::BAD_MOVES_LENGTH;
+use reply::first_refusal;
 use reply::refuse;
 use writing::put_u16s;
 ghost use mathlib.Core.Path.{_≡_};
 ghost use Prim.Native.Nat.{_+_, _≤_};
 ghost use lib.ListN.{length, replicate};
-ghost use Rattle.definitions.specs.Graph.{slotLimit, tailBytes, slotCount, recordAt, Slot, renamed, graphOf, slotBlock, graphBlock, SoundGraph};
+ghost use Rattle.definitions.specs.Graph.{headerBytes, slotLimit, tailBytes, slotCount, recordAt, Slot, renamed, graphOf, slotBlock, graphBlock, SoundGraph};
 ghost use Rattle.definitions.specs.Squeeze as squeezed;
 ghost use Rattle.graph_slots.specs.Written.{SlotWritten};
 ghost use Rattle.graph_moves.specs.Moving.{nameIn, Moving};
@@ -68,20 +69,39 @@ fn move_vertices(graph: &mut [u8], count: usize, from: &[u16; SLOT_LIMIT], to: &
     );
 }
 
+// Reply 40 is about the list's length alone: its bytes are not read.
+fn check_moves(graph: &[u8], moves: &[u8]) -> Reply
+    ensures { λ r. ⌜ (headerBytes ≤ length (now (graph .entry)) → r ≡ squeezed.movesReply (now (graph .entry)) (now (moves .entry))) ⌝ }
+{
+    if graph.len() < HEADER_BYTES {
+        return Reply::Done(0);
+    }
+    if moves.len() != 2 * slot_count(graph) {
+        return refuse(BAD_MOVES_LENGTH);
+    }
+    Reply::Done(0)
+}
+
+// The graph's faults come first. What is said of the list next to a block that is shorter than a header does not matter.
+fn check_both(graph: &[u8], moves: &[u8]) -> Reply
+    ensures { λ r. ⌜ r ≡ squeezed.squeezeReply (now (graph .entry)) (now (moves .entry)) ⌝ }
+{
+    let found = check(graph);
+    let listed = check_moves(graph, moves);
+    first_refusal(found, listed)
+}
+
 // Squeezes the lent graph and writes the list of moves, or says what is wrong and leaves both as they are.
 pub fn squeeze(graph: &mut [u8], moves: &mut [u8]) -> Reply
     ensures { λ r. ⌜ r ≡ squeezed.squeezeReply (now (graph .entry)) (now (moves .entry)) ⌝ }
     ensures { λ r. ⌜ now (graph .exit) ≡ squeezed.squeezeGraph (now (graph .entry)) (now (moves .entry)) ⌝ }
     ensures { λ r. ⌜ now (moves .exit) ≡ squeezed.squeezeMoves (now (graph .entry)) (now (moves .entry)) ⌝ }
 {
-    match check(graph) {
+    match check_both(graph, moves) {
         Reply::Refused(refusal) => return Reply::Refused(refusal),
         Reply::Done(_) => {}
     }
     let slots = slot_count(graph);
-    if moves.len() != 2 * slots {
-        return refuse(BAD_MOVES_LENGTH);
-    }
     let plan = moves_of(graph);
     let from = plan.from;
     let to = plan.to;

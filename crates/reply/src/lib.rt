@@ -3,6 +3,7 @@ use definitions::Place;
 use definitions::Refusal;
 use definitions::Reply;
 ghost use mathlib.Core.Path.{_≡_};
+ghost use mathlib.Core.List.{[], _∷_};
 ghost use Prim.Native.Nat.{_<_};
 ghost use Rattle.definitions.specs.Reply as answer;
 
@@ -55,6 +56,21 @@ pub fn refuse(number: u8) -> Reply
     ensures { λ r. ⌜ r ≡ answer.refused number ⌝ }
 {
     refuse_at(number, 0)
+}
+
+// The first of two replies that refuses, or done.
+pub fn first_refusal(one: Reply, other: Reply) -> Reply
+    ensures { λ r. ⌜ r ≡ answer.firstRefusal (one ∷ other ∷ []) ⌝ }
+{
+    match one {
+        Reply::Refused(refusal) => return Reply::Refused(refusal),
+        Reply::Done(_) => {}
+    }
+    match other {
+        Reply::Refused(refusal) => return Reply::Refused(refusal),
+        Reply::Done(_) => {}
+    }
+    Reply::Done(0)
 }
 
 // In the number that the C side gets, where the place begins, at bit 8, and where the value does, at bit 40.

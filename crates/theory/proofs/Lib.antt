@@ -1,4 +1,5 @@
 pub mod Examples
+pub mod Tidying
 pub mod Paths
 pub mod Results
 pub mod Division

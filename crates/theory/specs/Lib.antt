@@ -1,3 +1,4 @@
 pub mod Examples
 pub mod SharedConstants
 pub mod Faults
+pub mod Tidying

@@ -51,7 +51,7 @@ mul-widened : tie.Need-mul-widened Inv-loop μ-loop
 mul-widened c = omega (arith, few c)
 
 element-copy-out-widened : tie.Need-element-copy-out-widened Inv-loop μ-loop
-element-copy-out-widened c = few c
+element-copy-out-widened c = omega (arith, few c)
 
 widened-requires : tie.Need-widened-requires Inv-loop μ-loop
 widened-requires c κs = tt

@@ -16,7 +16,7 @@ use Rattle.graph_reach.proofs.reaching_outputs.Tie as tie
 
 abbrev Inv-loop : tie.InvT-loop
 Inv-loop graph outputs marks₀ i₀ marks i =
-    (i ≤ outputs) × (length marks ≡ slotLimit) × Marks (inputsOf (graphOf graph)) (take i (graphOf graph .outputs)) (isMarked marks)
+    (length marks ≡ slotLimit) × Marks (inputsOf (graphOf graph)) (take i (graphOf graph .outputs)) (isMarked marks)
 
 abbrev μ-loop : tie.MeasureT-loop
 μ-loop graph outputs marks₀ i₀ marks i = outputs - i
@@ -28,14 +28,14 @@ output-count-requires : tie.Need-output-count-requires Inv-loop μ-loop
 output-count-requires c κs = omega (arith, c .before .pre .0 .whole .size)
 
 loop-holds : tie.Need-loop-holds Inv-loop μ-loop
-loop-holds c = (omega arith, length-replicate {A = Bool} 512 false, marks-none 512)
+loop-holds c = (length-replicate {A = Bool} 512 false, marks-none 512)
 
 -- there is a next output
 one-left : (c : tie.In-loop Inv-loop μ-loop) → c .before .loop .i < outputCount (start (c .before) .args .graph .now)
 one-left c = omega (arith, c .loop-test .taken, c .before .before .output-count .ensures .0)
 
 output-at-requires : tie.Need-output-at-requires Inv-loop μ-loop
-output-at-requires c κs = (start (c .before) .pre .0 .whole, one-left c)
+output-at-requires c κs = (start (c .before) .pre .0 .whole, omega (arith, one-left c))
 
 mark-from-requires : tie.Need-mark-from-requires Inv-loop μ-loop
 mark-from-requires c κs =
@@ -44,8 +44,8 @@ mark-from-requires c κs =
     let a = l .before in
     let s = start a in
     let inside : o .output-at .result < slotCount (s .args .graph .now) =
-    rw (o .output-at .ensures .0) (s .pre .1 .1 .named (a .loop .i) (one-left l)) in
-    (s .pre .0, (s .pre .1 .0, (inside, (a .loop .inv .1, a .loop .inv .2 .closed))))
+    rw (o .output-at .ensures .0) (s .pre .1 .1 .named _ (omega (arith, one-left l))) in
+    (s .pre .0, (s .pre .1 .0, (inside, (a .loop .inv .0, a .loop .inv .1 .closed))))
 
 add-i : tie.Need-add-i Inv-loop μ-loop
 add-i c =
@@ -61,9 +61,8 @@ loop-again c =
     let l = o .before in
     let a = l .before in
     let graph = start a .args .graph .now in (
-      omega (arith, l .loop-test .taken),
       c .mark-from .ensures .0,
-      marks-more (graphOf graph .outputs) (a .loop .i) unusedPlace (a .loop .inv .2) (rw (length-outputs graph) (one-left l))
+      marks-more (graphOf graph .outputs) (a .loop .i) unusedPlace (a .loop .inv .1) (rw (length-outputs graph) (one-left l))
           (o .output-at .ensures .0) (c .mark-from .ensures .1),
     )
 
@@ -73,7 +72,7 @@ returns c =
     let graph = start a .args .graph .now in
     let last : length (graphOf graph .outputs) ≤ a .loop .i =
     omega (arith, c .loop-test .left, a .before .output-count .ensures .0, length-outputs graph) in
-    (a .loop .inv .1, rw (take-all (a .loop .i) (graphOf graph .outputs) last) at (a .loop .inv .2))
+    (a .loop .inv .0, rw (take-all (a .loop .i) (graphOf graph .outputs) last) at (a .loop .inv .1))
 
 pub reaching-outputs-spec : {M : Type 1} → statement M
 reaching-outputs-spec =

@@ -7,6 +7,7 @@ use Prim.Native.Nat.{ℕ, _+_, _-_, _<_, _≤_}
 use native.Mathlib.Omega.{arith}
 use lib.ListN.{length, take, drop, length-map}
 use lib.Seq.{length-take-le}
+use Rattle.definitions.specs.Lists.{padded}
 use Rattle.definitions.specs.Fields.{Bytes}
 use Rattle.definitions.specs.Graph.{headerBytes, slotLimit, outputLimit, unusedPlace, slotCount, recordAt, graphOf, graphBlock}
 use Rattle.definitions.specs.Squeeze.{squeeze}
@@ -77,7 +78,7 @@ renamed-outputs-requires : tie.Need-renamed-outputs-requires Inv-loop μ-loop
 renamed-outputs-requires c κs =
     let s = c .before .before .before .before .before .before in
     let graph = s .args .graph .now in
-    (graph-readable graph (s .pre .0) .whole, (graph-outputs graph (s .pre .0), s .pre .1 .toSize))
+    (graph-readable graph (s .pre .0) .whole, (graph-outputs graph (s .pre .0), omega (arith, s .pre .1 .toSize, s .pre .1 .fromSize)))
 
 loop-holds : tie.Need-loop-holds Inv-loop μ-loop
 loop-holds c =
@@ -109,7 +110,7 @@ move-slot-requires c κs =
     let ready = move-ready (old a) (s .pre .0) (bytes a) (count a) (from a) (to a) (s .pre .1) (a .loop .k) (inside l) (a .loop .inv .1)
     (c .before .before .before .if1 .taken) in
     rw (looked-up c)
-    (ready .0, (ready .1, (omega (arith, ready .2, graph-length a), s .pre .1 .toSize)))
+    (ready .0, (ready .1, (omega (arith, ready .2, graph-length a), omega (arith, s .pre .1 .toSize, s .pre .1 .fromSize))))
 
 clear-slot-requires : tie.Need-clear-slot-requires Inv-loop μ-loop
 clear-slot-requires c κs = fits (c .before .before)
@@ -153,14 +154,16 @@ cast-write-header c = omega (arith, c .before .before .before .before .before .b
 cast-write-header-2 : tie.Need-cast-write-header-2 Inv-loop μ-loop
 cast-write-header-2 c = omega (arith, c .before .before .before .before .before .output-count .ensures .1)
 
+padded-names : (f : ℕ → ℕ) (xs : List ℕ) → length xs ≤ outputLimit → length (padded outputLimit unusedPlace (map f xs)) ≡ outputLimit
+padded-names f xs few = length-padded unusedPlace outputLimit (map f xs) (omega (arith, few, length-map xs f))
+
 write-header-requires : tie.Need-write-header-requires Inv-loop μ-loop
 write-header-requires c κs =
     let a = c .before .before .before in
     let few : length (graphOf (old a) .outputs) ≤ outputLimit = omega (arith, length-outputs (old a), whole a .outputs) in (
       length-take-le headerBytes (a .loop .graph) (omega (arith, graph-length a)),
       ap length (a .before .renamed-outputs .ensures)
-          ∙ length-padded unusedPlace outputLimit (map (nameIn (to a)) (graphOf (old a) .outputs))
-          (omega (arith, few, length-map (graphOf (old a) .outputs) (nameIn (to a)))),
+          ∙ padded-names _ (graphOf (old a) .outputs) few,
     )
 
 header-size : (c : tie.After-slice-known4 Inv-loop μ-loop) → length (c .before .before .write-header .last .0) ≡ headerBytes

@@ -2,35 +2,38 @@
 -- Assumes nothing.
 use mathlib.Core.Path.{_≡_, sym, ap, _∙_}
 use mathlib.Core.List.{List}
-use Prim.Native.Nat.{ℕ, _*_}
+use Prim.Native.Nat.{ℕ, _-_, _*_, _≤_}
 use native.Mathlib.Nat.{sub-zero}
 use native.Mathlib.Omega.{arith}
 use lib.ListN.{length, take}
+use lib.Seq.{length-take-le}
 use Rattle.definitions.specs.declared.Refusal.{Refusal}
 use Rattle.definitions.specs.declared.Reply.the-variants.{Refused}
 use Rattle.definitions.specs.Lists.{concatMap}
 use Rattle.definitions.specs.Fields.{u16Bytes}
 use Rattle.definitions.specs.Reply.{done}
-use Rattle.definitions.specs.Graph.{slotCount, graphOf, graphBlock, graphReply, SoundGraph}
+use Rattle.definitions.specs.Graph.{slotLimit, slotCount, graphOf, graphBlock, SoundGraph}
 use Rattle.definitions.specs.Squeeze.{squeeze, movesBlock, squeezeReply, squeezeGraph, squeezeMoves}
 use Rattle.laws.proofs.Reply.{done-plain, where-done, where-refused}
-use Rattle.laws.proofs.Operations.{graph-valueless}
+use Rattle.laws.proofs.Operations.{squeeze-valueless}
 use Rattle.graph_fields.specs.Layout.{WholeGraph}
-use Rattle.graph_check.proofs.Sound.{only-sound}
 use Rattle.graph_check.proofs.Readable.{graph-readable}
-use Rattle.graph_squeeze.proofs.Outcome.{graph-refused, moves-refused, squeezed-done, moves-bytes}
+use Rattle.graph_squeeze.proofs.Outcome.{squeeze-good, moves-bytes}
 use borrow.Author.Needs.{needs}
 use Rattle.graph_squeeze.proofs.squeeze.Statement.{statement}
 use Rattle.graph_squeeze.proofs.squeeze.Tie as tie
 
-check-requires : tie.Need-check-requires
-check-requires c κs = search needs
+check-both-requires : tie.Need-check-both-requires
+check-both-requires c κs = search needs
 
 enum-known-refusal : tie.Need-enum-known-refusal
 enum-known-refusal c = search needs
 
 same-length : tie.Need-same-length
 same-length c = search needs
+
+same-length-2 : tie.Need-same-length-2
+same-length-2 c = search needs
 
 -- what stands in both blocks after a refusal, and where all is done
 module _ (graph moves : List ℕ) where
@@ -54,10 +57,10 @@ returns : tie.Need-returns
 returns c =
     let r = c .before in
     let k = r .before .before in
-    let s = k .before .before .before .before in
+    let s = k .before .before .before .before .before in
     let graph = s .args .graph .now in
     let moves = s .args .moves .now in
-    let told = graph-refused graph moves (r .refusal .given .0 .0) (sym (k .check .ensures) ∙ r .refusal .given .1) in
+    let told = sym (k .check-both .ensures) ∙ r .refusal .given .1 in
     let left = after-refusal graph moves told in
     (sym told, (left .0, left .1))
 
@@ -65,11 +68,11 @@ enum-told : tie.Need-enum-told
 enum-told c = search needs
 
 module _ (c : tie.After-enum-told) where
-  abbrev checked : tie.After-check
+  abbrev checked : tie.After-check-both
   checked = c .before .before
 
   abbrev start : tie.Start
-  start = checked .before .before .before .before
+  start = checked .before .before .before .before .before
 
   abbrev graph : List ℕ
   graph = start .args .graph .now
@@ -77,11 +80,11 @@ module _ (c : tie.After-enum-told) where
   abbrev moves : List ℕ
   moves = start .args .moves .now
 
-  good : graphReply graph ≡ done
-  good = done-plain (graph-valueless graph) (sym (checked .check .ensures) ∙ c .enum-told .given .1)
+  good : squeezeReply graph moves ≡ done
+  good = done-plain (squeeze-valueless graph moves) (sym (checked .check-both .ensures) ∙ c .enum-told .given .1)
 
   sound : SoundGraph graph
-  sound = only-sound graph good
+  sound = squeeze-good graph moves good .0
 
   whole : WholeGraph graph
   whole = graph-readable graph sound .whole
@@ -89,29 +92,11 @@ module _ (c : tie.After-enum-told) where
 slot-count-requires : tie.Need-slot-count-requires
 slot-count-requires c κs = omega (arith, whole (c .before) .size)
 
-mul-if1 : tie.Need-mul-if1
-mul-if1 c = search needs
-
-refuse-requires : tie.Need-refuse-requires
-refuse-requires c κs = search needs
-
-same-length-2 : tie.Need-same-length-2
-same-length-2 c = search needs
-
-returns-2 : tie.Need-returns-2
-returns-2 c =
-    let t = c .before in
-    let n = t .before in
-    let b = n .before .before in
-    let told = moves-refused (graph b) (moves b) (good b) (λ e. t .if1 .taken (e ∙ ap (λ k. 2 * k) (sym (n .slot-count .ensures .0)))) in
-    let left = after-refusal (graph b) (moves b) told in
-    (c .refuse .ensures ∙ sym told, (left .0, left .1))
-
 moves-of-requires : tie.Need-moves-of-requires
-moves-of-requires c κs = whole (c .before .before .before .before)
+moves-of-requires c κs = whole (c .before .before .before)
 
 move-vertices-requires : tie.Need-move-vertices-requires
-move-vertices-requires c κs = (sound (c .before .before .before .before .before .before .before .before .before .before), c .before .before .before .before .before .moves-of .ensures)
+move-vertices-requires c κs = (sound (c .before .before .before .before .before .before .before .before .before), c .before .before .before .before .before .moves-of .ensures)
 
 sub-put-u16s : tie.Need-sub-put-u16s
 sub-put-u16s c = search needs
@@ -122,10 +107,19 @@ part-put-u16s-start c = search needs
 part-put-u16s-end : tie.Need-part-put-u16s-end
 part-put-u16s-end c =
     let m = c .before .before .before .before .before .before .before .before .before .before in
-    omega (arith, m .moves-of .ensures .toSize, m .before .before .before .slot-count .ensures .0, whole (m .before .before .before .before .before) .slots)
+    let b = m .before .before .before .before in
+    omega (arith, m .moves-of .ensures .toSize, m .moves-of .ensures .fromSize, m .before .before .slot-count .ensures .0, whole b .slots)
 
 put-u16s-requires : tie.Need-put-u16s-requires
-put-u16s-requires c κs = search needs
+put-u16s-requires c κs =
+    let m = c .before .before .before .before .before .before .before .before .before .before .before in
+    let n = m .before .before in
+    let b = n .before .before in
+    let sizes = m .moves-of .ensures in
+    let slots = n .slot-count .ensures .0 in
+    let few : n .slot-count .result - 0 ≤ slotLimit = omega (arith, slots, whole b .slots) in
+    squeeze-good (graph b) (moves b) (good b) .1
+    ∙ ap (λ k. 2 * k) (sym slots ∙ sym (sub-zero (n .slot-count .result)) ∙ sym (length-take-le _ _ (omega (arith, few, sizes .toSize, sizes .fromSize))))
 
 same-length-3 : tie.Need-same-length-3
 same-length-3 c = search needs
@@ -133,21 +127,19 @@ same-length-3 c = search needs
 same-length-4 : tie.Need-same-length-4
 same-length-4 c = search needs
 
-returns-3 : tie.Need-returns-3
-returns-3 c =
+returns-2 : tie.Need-returns-2
+returns-2 c =
     let p = c .before .before in
     let v = p .before .before .before .before .before .before in
     let m = v .before .before .before .before .before .before in
-    let e = m .before .before in
-    let n = e .before in
+    let n = m .before .before in
     let b = n .before .before in
-    let size : length (moves b) ≡ 2 * slotCount (graph b) = e .if1 .left ∙ ap (λ k. 2 * k) (n .slot-count .ensures .0) in
-    let told = squeezed-done (graph b) (moves b) (good b) size in
-    let left = after-done (graph b) (moves b) told in (
-      sym told,
+    let left = after-done (graph b) (moves b) (good b) in (
+      sym (good b),
       (
         v .move-vertices .ensures ∙ left .0,
-        p .put-u16s .ensures ∙ ap (λ k. concatMap u16Bytes (take k (m .moves-of .result .to))) (sub-zero (n .slot-count .result) ∙ n .slot-count .ensures .0)
+        p .put-u16s .ensures
+            ∙ ap (λ k. concatMap u16Bytes (take k (m .moves-of .result .to))) (sub-zero (n .slot-count .result) ∙ n .slot-count .ensures .0)
             ∙ moves-bytes (graph b) (m .moves-of .result .count) (m .moves-of .result .from) (m .moves-of .result .to) (whole b .slots) (m .moves-of .ensures)
             ∙ left .1,
       ),
@@ -157,16 +149,13 @@ pub squeeze-spec : {M : Type 1} → statement M
 squeeze-spec =
     tie.close
     (tie.spec
-    check-requires
+    check-both-requires
     enum-known-refusal
     same-length
+    same-length-2
     returns
     enum-told
     slot-count-requires
-    mul-if1
-    refuse-requires
-    same-length-2
-    returns-2
     moves-of-requires
     move-vertices-requires
     sub-put-u16s
@@ -175,4 +164,4 @@ squeeze-spec =
     put-u16s-requires
     same-length-3
     same-length-4
-    returns-3)
+    returns-2)

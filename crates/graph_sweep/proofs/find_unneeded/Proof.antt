@@ -14,7 +14,7 @@ use Rattle.graph_sweep.proofs.find_unneeded.Tie as tie
 
 abbrev Inv-loop : tie.InvT-loop
 Inv-loop graph needed slots unneeded₀ v₀ unneeded v =
-    (v ≤ slots) × Marked (isUnneeded (graphOf graph) (reachingOutputs (graphOf graph))) v unneeded
+    Marked (isUnneeded (graphOf graph) (reachingOutputs (graphOf graph))) v unneeded
 
 abbrev μ-loop : tie.MeasureT-loop
 μ-loop graph needed slots unneeded₀ v₀ unneeded v = slots - v
@@ -38,7 +38,7 @@ slot-count-requires : tie.Need-slot-count-requires Inv-loop μ-loop
 slot-count-requires c κs = omega (arith, graph-readable (c .before .before .args .graph .now) (c .before .before .pre) .whole .size)
 
 loop-holds : tie.Need-loop-holds Inv-loop μ-loop
-loop-holds c = (omega arith, marked-none)
+loop-holds c = marked-none
 
 goes-requires : tie.Need-goes-requires Inv-loop μ-loop
 goes-requires c κs =
@@ -58,19 +58,17 @@ loop-again : tie.Need-loop-again Inv-loop μ-loop
 loop-again c =
     let l = c .before .before in
     let a = l .before in
-    let s = start a in (
-      omega (arith, l .loop-test .taken),
-      marked-more (a .loop .v) (omega (arith, inside l, whole a .slots)) (a .loop .inv .1)
-          (c .goes .ensures
-          ∙ same-unneeded (s .args .graph .now) (s .pre) (a .before .before .reaching-outputs .result)
-          (a .before .before .reaching-outputs .ensures .1) (a .loop .v)),
-    )
+    let s = start a in
+    marked-more (a .loop .v) (omega (arith, inside l, whole a .slots)) (a .loop .inv)
+    (c .goes .ensures
+    ∙ same-unneeded (s .args .graph .now) (s .pre) (a .before .before .reaching-outputs .result)
+    (a .before .before .reaching-outputs .ensures .1) (a .loop .v))
 
 returns : tie.Need-returns Inv-loop μ-loop
 returns c =
     let a = c .before in
     let all : slotCount (start a .args .graph .now) ≤ a .loop .v = omega (arith, c .loop-test .left, a .before .slot-count .ensures .0) in
-    record { size = a .loop .inv .1 .size; each = λ k l. a .loop .inv .1 .each k (omega arith) }
+    record { size = a .loop .inv .size; each = λ k l. a .loop .inv .each k (omega arith) }
 
 pub find-unneeded-spec : {M : Type 1} → statement M
 find-unneeded-spec =
