@@ -4,7 +4,8 @@
     formats.py TOOL
 
 Each block of the page that has a text must be sound and be shown as that text, its
-rewritings must have the page's maps and leave the page's bytes, and what the page
+rewritings must have the page's maps and leave the page's bytes, its sweep and its squeeze
+must leave the page's bytes and moves, and what the page
 says of refused blocks must be what the tool says. Exit status 1 if one does not.
 """
 
@@ -38,6 +39,14 @@ REWRITINGS = (
     ("e1-graph", "rr-rule", "p1-map", "p1-graph"),
     ("shared-graph", "one-rule", "shared-map", "read-once-graph"),
     ("read-once-graph", "one-rule", None, "unread-graph"),
+)
+
+
+# The graphs that are swept or squeezed: the command, the graph, the list of moves (of a
+# squeeze), the new graph.
+TIDYINGS = (
+    ("sweep", "dead-graph", None, "swept-graph"),
+    ("squeeze", "swept-graph", "squeezed-moves", "squeezed-graph"),
 )
 
 
@@ -105,6 +114,19 @@ def rewritings_hold(tool, folder, files):
     return count
 
 
+def tidyings_hold(tool, folder, files):
+    """Each list of moves, and the block that a sweep or a squeeze leaves."""
+    count = 0
+    for command, graph, moves, left in TIDYINGS:
+        written = folder / "moves"
+        options = [] if moves is None else ["--moves", written]
+        made = run(tool, command, folder / f"{graph}.bin", *options, "-o", "-")
+        count += same(left, made, files[left + ".bin"])
+        if moves is not None:
+            count += same(moves, written.read_bytes(), files[moves + ".bin"])
+    return count
+
+
 def main(arguments):
     if len(arguments) != 1:
         print("usage: formats.py TOOL", file=sys.stderr)
@@ -118,7 +140,8 @@ def main(arguments):
                 (folder / file).write_bytes(content)
             tool = str(Path(arguments[0]).resolve())
             count = (blocks_hold(tool, folder, files) + rewritings_hold(tool, folder, files)
-                     + refusals_hold(tool, folder, page) + quotes_hold(page))
+                     + tidyings_hold(tool, folder, files) + refusals_hold(tool, folder, page)
+                     + quotes_hold(page))
     except (Fault, KeyError, ValueError, IndexError) as fault:
         print(f"{PAGE.name}: {fault}", file=sys.stderr)
         return 1

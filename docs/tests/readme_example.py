@@ -4,7 +4,7 @@
     readme_example.py OUT.cpp
 
 The program takes a graph and a rule file; it fails if the example does not
-rewrite the one by the other until no match is left, or is content with a bad graph,
+rewrite the one by the other until no match is left, does not tidy a graph with a gap, or is content with a bad graph,
 with a cycle in it or with a rule that always matches again. What the example says of those is
 compared with readme_example.stdout (make/docs.mk).
 """
@@ -25,6 +25,14 @@ static blocks::Block endless_rule() {
     return blocks::rule({{any, relu}, {relu}, {1}, {blocks::made(0)}, {}});
 }
 
+// A Variable and a relu of it, behind an Empty slot and before a relu that no output needs.
+static blocks::Block with_a_gap() {
+    return blocks::graph({{blocks::empty, blocks::none, {}, {}},
+                          {blocks::variable, blocks::none, {}, {1, 3, 8, 8, 1}},
+                          {blocks::call, blocks::relu, {1}, {}},
+                          {blocks::call, blocks::relu, {1}, {}}}, {2});
+}
+
 static std::vector<unsigned char> bytes_of(const char *name) {
     std::ifstream file(name, std::ios::binary);
     return std::vector<unsigned char>(std::istreambuf_iterator<char>(file), {});
@@ -35,6 +43,8 @@ int main(int count, char **names) {
     std::vector<unsigned char> graph = bytes_of(names[1]);
     const std::vector<unsigned char> before = graph, rule = bytes_of(names[2]);
     if (!shorten(graph, rule) || graph == before || !leafgraph::check_graph(graph)) return 1;
+    std::vector<unsigned char> gap = with_a_gap();
+    if (!shorten(gap, rule) || gap[24] != blocks::variable || gap[10] != 1) return 1;
     std::vector<unsigned char> bad = {1, 2, 3}, cyclic = before;
     cyclic[24 + 48 * 3 + 4] = 4; // slot 3 now reads slot 4, which reads slot 3
     if (shorten(bad, rule) || shorten(cyclic, rule)) return 1;
