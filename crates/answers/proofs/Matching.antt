@@ -170,7 +170,7 @@ module _ (graph rule : List ℕ) (start : ℕ) (before : List ℕ) where
 
     -- ---- what is written
 
-    -- Only rewriting writes the graph: matching leaves every byte of it as it came.
+    -- Matching leaves every byte of the graph as it came.
     pub graph-unchanged : graphAfter ≡ graph
     graph-unchanged = ended .0
 

@@ -2,12 +2,12 @@
 -- lg_squeeze alone.
 -- Assumes nothing.
 use mathlib.Core.Path.{_≡_, refl, sym, ap, _∙_, subst}
-use mathlib.Core.Bool.{true, false, not}
-use mathlib.Core.List.{List, [], _∷_, _++_, map, List·Memᴰ}
-use mathlib.Core.Logic.{_⊎_, inl, inr, ⊎-elim}
-use Prim.Native.Nat.{ℕ, _*_, _+_, _<_}
+use mathlib.Core.Bool.{true, false}
+use mathlib.Core.List.{List, [], _∷_, map, List·Memᴰ}
+use mathlib.Core.Logic.{_⊎_, ⊎-elim}
+use Prim.Native.Nat.{ℕ, _*_, _<_}
 use native.Mathlib.Omega.{arith}
-use borrow.Author.Tests.{eq-eqb, ne-eqb, eqb-true, eqb-false}
+use borrow.Author.Tests.{eqb-true, eqb-false}
 use lib.Dec.{eqb}
 use lib.ListN.{length}
 use Rattle.definitions.specs.declared.Refusal.{Refusal}
@@ -16,10 +16,10 @@ use Rattle.definitions.specs.Lists.{member}
 use Rattle.definitions.specs.Fields.{u16Bytes}
 use Rattle.definitions.specs.Operators.{kindVariable}
 use Rattle.definitions.specs.Reply.{done, badMovesLength, refused, packed, numberIn, placeIn, valueIn}
-use Rattle.definitions.specs.Graph.{unusedPlace, slotCount, Slot, Graph, renamed, graphOf, slotOf, inputsOf, isVertex, isVariable, recordAt, graphBlock, graphReply, SoundGraph}
+use Rattle.definitions.specs.Graph.{slotCount, Graph, renamed, graphOf, slotOf, isVertex, isVariable, recordAt, graphBlock, graphReply, SoundGraph}
 use Rattle.definitions.specs.Faults.{GraphFault}
 use Rattle.definitions.specs.Squeeze.{movedTo, squeeze, movesBlock, movesReply, squeezeReply, squeezeGraph, squeezeMoves}
-use Rattle.definitions.specs.Results.{Meaning, Follows}
+use Rattle.definitions.specs.Results.{Meaning}
 use Rattle.laws.proofs.Lists.{decided, true-not-false, map-same}
 use Rattle.laws.proofs.Members.{member-left}
 use Rattle.laws.proofs.Graph.{length-slots, vertex-inside}
@@ -29,10 +29,10 @@ use Rattle.graph_check.proofs.Sound.{every-sound}
 use Rattle.encoding.specs.Tables.{Table, Words}
 use Rattle.encoding.proofs.Numbers.{length-u16, u16-back}
 use Rattle.encoding.proofs.Pieces.{length-numbered, numbered-at}
-use Rattle.encoding.proofs.Blocks.{few-slots, block-length, block-back, block-sound, block-slots}
+use Rattle.encoding.proofs.Blocks.{few-slots, block-length, block-back, block-sound}
 use Rattle.encoding.proofs.Graphs.{table-of, words-of, canonical}
 use Rattle.tidying.proofs.Carried.{Carries}
-use Rattle.tidying.proofs.Squeezed.{vertexCount, comesFrom, count-most, moved-empty, moved-below, moved-from, moved-order, from-vertex, from-moved, squeezed-size, moved-slot, vertex-low, squeezed-table, squeezed-words, squeezed-acyclic, squeezed-carries, moved-self, squeezed-twice}
+use Rattle.tidying.proofs.Squeezed.{vertexCount, comesFrom, count-most, moved-empty, moved-below, moved-from, moved-order, from-vertex, from-moved, squeezed-size, moved-slot, vertex-low, squeezed-table, squeezed-words, squeezed-acyclic, moved-self, squeezed-twice}
 use Rattle.answers.specs.Tidied.{wentTo, Renumbers}
 use Rattle.answers.specs.Statements.{Says, graphNumbers, squeezeNumbers, Squeezed, GraphVerdict, Squeezes, SqueezeReplies, SqueezeKeeps, SqueezedTwice}
 use Rattle.answers.proofs.Blocks.{graph-verdict, read-done, read-refused}
@@ -315,7 +315,7 @@ module _ (graph moves : List ℕ) (reply : ℕ) (graphAfter movesAfter : List �
         },
       );
       every = λ meant follows.
-          keeps (layout graph sound) (layout graphAfter after-sound) carries follows outputs-after (sound .outputs);
+          keeps (layout graph sound) (layout graphAfter after-sound) carries follows outputs-after (sound .outputs) (after-sound .outputs);
     }
 
   pub squeeze-replies : SqueezeReplies graph moves reply graphAfter movesAfter

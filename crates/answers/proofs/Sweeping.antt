@@ -3,14 +3,13 @@
 use mathlib.Core.Path.{_≡_, refl, sym, ap, _∙_, subst}
 use mathlib.Core.Bool.{true, false}
 use mathlib.Core.List.{List, map-id}
-use mathlib.Core.Logic.{_⊎_}
 use Prim.Native.Nat.{ℕ, _+_, _<_}
 use native.Mathlib.Omega.{arith}
 use lib.ListN.{length, getD}
-use Rattle.definitions.specs.Fields.{byteAt, Bytes}
+use Rattle.definitions.specs.Fields.{byteAt}
 use Rattle.definitions.specs.Reply.{numberIn}
-use Rattle.definitions.specs.Graph.{headerBytes, slotBytes, slotCount, recordAt, Graph, graphOf, inputsOf, isVertex, headerBlock, graphBlock, SoundGraph}
-use Rattle.definitions.specs.Sweep.{Unneeded, reachingOutputs, sweep, sweepGraph}
+use Rattle.definitions.specs.Graph.{headerBytes, slotBytes, slotCount, recordAt, Graph, graphOf, isVertex, headerBlock, graphBlock, SoundGraph}
+use Rattle.definitions.specs.Sweep.{Unneeded, sweep, sweepGraph}
 use Rattle.definitions.specs.Results.{Meaning}
 use Rattle.laws.proofs.Lists.{fails}
 use Rattle.laws.proofs.Graph.{length-slots}
@@ -110,6 +109,7 @@ module _ (graph : List ℕ) (reply : ℕ) (graphAfter : List ℕ) (contract : Sw
         (record { function = refl; variable = λ v t. refl })
         (same-outputs ∙ sym (map-id (g .outputs)))
         (λ v k. after-sound .outputs v (rw same-outputs k))
+        (after-sound .outputs)
       where
         same-outputs : graphOf graphAfter .outputs ≡ g .outputs
         same-outputs = ap (λ (t : Graph). t .outputs) same-table

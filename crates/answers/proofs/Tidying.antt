@@ -9,8 +9,7 @@ use Rattle.definitions.specs.Fields.{byteAt}
 use Rattle.definitions.specs.declared.Refusal.{Refusal}
 use Rattle.definitions.specs.declared.Reply.{Reply}
 use Rattle.definitions.specs.declared.Reply.the-variants.{Done, Refused}
-use Rattle.definitions.specs.Reply.{done}
-use Rattle.definitions.specs.Graph.{slotBytes, unusedPlace, recordAt, Slot, Graph, graphOf, slotOf, slotBlock, graphBlock, graphReply, SoundGraph}
+use Rattle.definitions.specs.Graph.{slotBytes, unusedPlace, recordAt, Slot, Graph, graphOf, slotOf, isVertex, slotBlock, graphBlock, graphReply, SoundGraph}
 use Rattle.definitions.specs.Results.{Meaning, Follows}
 use Rattle.laws.proofs.Lists.{map-at}
 use Rattle.laws.proofs.Members.{mem-at}
@@ -48,17 +47,19 @@ layout graph sound = record { vertices = sound .inputs; acyclic = sound .acyclic
 -- results that are carried along, and those of the outputs
 module _ {ℓ} {R : Type ℓ} {m meant : Meaning R} {g new : Graph} {stays : ℕ → Bool} {to : ℕ → ℕ} where
   pub keeps : Layout g → Layout new → Carries g new (λ v. stays v ≡ true) to → Follows g to m meant
-      → new .outputs ≡ map to (g .outputs) → ((v : ℕ) → List·Memᴰ v (g .outputs) → stays v ≡ true) → KeepsResults m meant g new stays to
-  keeps old later carries follows outputs named = record {
+      → new .outputs ≡ map to (g .outputs) → ((v : ℕ) → List·Memᴰ v (g .outputs) → stays v ≡ true)
+      → ((v : ℕ) → List·Memᴰ v (new .outputs) → isVertex new v ≡ true) → KeepsResults m meant g new stays to
+  keeps old later carries follows outputs kept named = record {
     someBefore = results-exist m g old;
     someAfter = results-exist meant new later;
     oneBefore = results-unique m g old;
     oneAfter = results-unique meant new later;
     remains = λ v t. (carries .vertex v t, carried-vertex carries v t);
     sameCount = ap length outputs ∙ length-map (g .outputs) to;
+    named = named;
     results = λ before after first second. carried-results carries follows old before after first second;
     outputs = λ before after first second i l.
         let v = getD (g .outputs) i unusedPlace in
         ap after (ap (λ (xs : List ℕ). getD xs i unusedPlace) outputs ∙ map-at to (g .outputs) i unusedPlace unusedPlace l)
-        ∙ carried-results carries follows old before after first second v (named v (mem-at (g .outputs) i unusedPlace l));
+        ∙ carried-results carries follows old before after first second v (kept v (mem-at (g .outputs) i unusedPlace l));
   }

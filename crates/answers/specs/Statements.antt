@@ -244,7 +244,7 @@ SweptTwice graphAfter =
 abbrev pub squeezeNumbers : List ℕ
 squeezeNumbers = 0 ∷ graphNumbers ++ badMovesLength ∷ []
 
--- What an accepted squeeze leaves. Together this is every byte of both blocks, as above.
+-- What an accepted squeeze leaves. Of blocks of bytes this is together every byte of both.
 pub record Squeezes (graph graphAfter movesAfter : List ℕ) : Type 0 where
   -- "a lent list of N 16-bit numbers says where each old slot went"
   pub moves : Renumbers (graphOf graph) (wentTo movesAfter)

@@ -2,7 +2,7 @@
 -- Assumes nothing.
 use mathlib.Core.Path.{_≡_}
 use mathlib.Core.Bool.{Bool, true, false}
-use mathlib.Core.List.{List}
+use mathlib.Core.List.{List, List·Memᴰ}
 use Prim.Native.Nat.{ℕ, _*_, _<_}
 use lib.Dec.{T}
 use lib.ListN.{length}
@@ -34,6 +34,7 @@ pub record KeepsResults {ℓ} {R : Type ℓ} (m meant : Meaning R) (g new : Grap
   -- what stays is a vertex of both tables; both tables have as many outputs, and each names a vertex
   pub remains : (v : ℕ) → stays v ≡ true → (isVertex g v ≡ true) × (isVertex new (to v) ≡ true)
   pub sameCount : length (new .outputs) ≡ length (g .outputs)
+  pub named : (v : ℕ) → List·Memᴰ v (new .outputs) → isVertex new v ≡ true
   -- every vertex that stays has the same result after as before
   pub results : (before after : ℕ → R) → AreResults m g before → AreResults meant new after
       → (v : ℕ) → stays v ≡ true → after (to v) ≡ before v

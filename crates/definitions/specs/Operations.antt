@@ -1,4 +1,5 @@
--- The four operations: for any bytes, what is replied and what stands in the lent blocks at the return.
+-- Checking, matching and rewriting: for any bytes, what is replied and what stands in the lent blocks at the return. Sweep and Squeeze have
+-- files of their own.
 -- Assumes nothing.
 use mathlib.Core.Bool.{cond}
 use mathlib.Core.List.{List, [], _∷_}

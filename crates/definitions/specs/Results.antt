@@ -4,11 +4,10 @@ use mathlib.Core.Path.{_≡_}
 use mathlib.Core.Bool.{true, cond, not}
 use mathlib.Core.List.{List, [], map, List·Memᴰ}
 use Prim.Native.Nat.{ℕ, _<_}
-use lib.Dec.{T, eqb}
+use lib.Dec.{T}
 use lib.IntN.{ℤ}
 use lib.ListN.{length, getD}
 use Rattle.definitions.specs.Fields.{wordOf}
-use Rattle.definitions.specs.Operators.{kindVariable}
 use Rattle.definitions.specs.Paths.{Reaches}
 use Rattle.definitions.specs.Graph.{Graph, slotOf, inputsOf, isVertex, isVariable, unusedPlace}
 use Rattle.definitions.specs.Rule.{Origin, given, made, Rule, sourceOf, targetOf, isRuleInput}
@@ -30,7 +29,7 @@ module _ {ℓ} {R : Type ℓ} (m : Meaning R) where
   -- what the result of vertex v is, given those of its inputs
   unfoldable pub resultAt : Graph → (ℕ → R) → ℕ → R
   resultAt g results v =
-      cond (eqb (slotOf g v .kind) kindVariable) (m .variable v)
+      cond (isVariable g v) (m .variable v)
       (m .function (slotOf g v .kind) (slotOf g v .operator) (slotOf g v .attributes) (map results (inputsOf g v)))
 
   -- `results` are the results of the table's vertices. On an acyclic table whose inputs name vertices there are some, and no two

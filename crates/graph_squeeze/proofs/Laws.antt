@@ -11,7 +11,7 @@ use lib.Dec.{ltb}
 use lib.ListN.{length, getD, take, drop, replicate, length-append, length-drop, take-append-drop, List·getD-eq-default}
 use lib.Seq.{getD-drop, length-take-le, take-at, drop-at}
 use Rattle.definitions.specs.Fields.{byteAt, Bytes}
-use Rattle.definitions.specs.Graph.{headerBytes, slotBytes, slotLimit, tailBytes, unusedPlace, slotCount, recordAt, Slot, Graph, emptySlot, renamed, graphOf, slotOf, inputsOf, isVertex, slotTail, slotBlock, headerBlock, graphBlock, SoundGraph}
+use Rattle.definitions.specs.Graph.{headerBytes, slotBytes, tailBytes, unusedPlace, slotCount, recordAt, Slot, Graph, emptySlot, renamed, graphOf, slotOf, inputsOf, isVertex, slotTail, slotBlock, headerBlock, graphBlock, SoundGraph}
 use Rattle.definitions.specs.Squeeze.{movedTo, squeeze}
 use Rattle.laws.proofs.Lists.{decided, map-same}
 use Rattle.laws.proofs.Parts.{putPart}
@@ -47,7 +47,7 @@ module _ (block : List ℕ) (sound : SoundGraph block) (bytes : Bytes block) whe
   pub new-length : length new ≡ recordAt (slotCount block)
   new-length = block-length (squeeze g) after-table ∙ ap recordAt (squeezed-size g ∙ length-slots block)
 
-  pub old-length : length block ≡ recordAt (slotCount block)
+  old-length : length block ≡ recordAt (slotCount block)
   old-length = ap length (sym (canonical block sound bytes)) ∙ block-length g table ∙ ap recordAt (length-slots block)
 
   header-length : length (take headerBytes block) ≡ headerBytes

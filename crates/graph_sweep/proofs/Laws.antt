@@ -1,6 +1,6 @@
 -- The marks of the slots that go, and the block that is emptied slot by slot.
 -- Assumes nothing.
-use mathlib.Core.Path.{_≡_, refl, sym, ap, ap₂, _∙_}
+use mathlib.Core.Path.{_≡_, refl, sym, ap, _∙_}
 use mathlib.Core.Bool.{Bool, true, false, not, _&&_}
 use mathlib.Core.List.{List}
 use mathlib.Core.Logic.{⊎-elim}
@@ -13,7 +13,7 @@ use lib.ListN.{length, take, set, replicate, length-set, length-replicate}
 use lib.Seq.{getD-set-same, getD-set-other}
 use Rattle.definitions.specs.Fields.{Bytes}
 use Rattle.definitions.specs.Paths.{isMarked}
-use Rattle.definitions.specs.Graph.{headerBytes, slotLimit, tailBytes, slotCount, recordAt, Slot, emptySlot, graphOf, slotOf, inputsOf, isVertex, isVariable, slotTail, slotBlock, headerBlock, graphBlock, SoundGraph}
+use Rattle.definitions.specs.Graph.{headerBytes, slotLimit, tailBytes, slotCount, recordAt, graphOf, slotOf, inputsOf, isVertex, isVariable, slotTail, slotBlock, headerBlock, graphBlock, SoundGraph}
 use Rattle.definitions.specs.Sweep.{reachingOutputs, isUnneeded, sweep}
 use Rattle.laws.specs.Marked.{Marked}
 use Rattle.laws.proofs.Lists.{decided}

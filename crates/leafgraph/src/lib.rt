@@ -38,7 +38,8 @@ pub extern "C" fn lg_rewrite(graph: &mut [u8], rule: &[u8], start: usize, map: &
     pack(rewriting::rewrite(graph, rule, start, map))
 }
 
-// Empties every vertex from which no graph output is reached, except Variables: what the check refuses, or 0. A refusal leaves every byte as it came.
+// Empties every vertex from which no graph output is reached, except Variables: what the check refuses, or 0. A refusal leaves every byte
+// as it came.
 #[no_mangle]
 pub extern "C" fn lg_sweep(graph: &mut [u8]) -> u64
     ensures { λ r. ⌜ Swept (now (graph .entry)) r (now (graph .exit)) ⌝ }
@@ -46,7 +47,8 @@ pub extern "C" fn lg_sweep(graph: &mut [u8]) -> u64
     pack(graph_sweep::sweep(graph))
 }
 
-// Moves the vertices to the lowest slots, in their order, and lists where each slot went: what the check refuses, 40, or 0. A refusal leaves every byte as it came.
+// Moves the vertices to the lowest slots, in their order, and lists where each slot went: what the check refuses, 40, or 0. A refusal
+// leaves every byte as it came.
 #[no_mangle]
 pub extern "C" fn lg_squeeze(graph: &mut [u8], moves: &mut [u8]) -> u64
     ensures { λ r. ⌜ Squeezed (now (graph .entry)) (now (moves .entry)) r (now (graph .exit)) (now (moves .exit)) ⌝ }

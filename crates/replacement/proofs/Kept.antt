@@ -17,7 +17,7 @@ use Rattle.definitions.specs.Lists.{member}
 use Rattle.definitions.specs.Fields.{wordOf}
 use Rattle.definitions.specs.Operators.{kindEmpty, kindVariable}
 use Rattle.definitions.specs.Paths.{Reads, here, onward, Acyclic}
-use Rattle.definitions.specs.Graph.{unusedPlace, Slot, Graph, renamed, slotOf, inputsOf, isVertex}
+use Rattle.definitions.specs.Graph.{unusedPlace, Slot, Graph, renamed, slotOf, inputsOf, isVertex, isVariable}
 use Rattle.definitions.specs.Rule.{Origin, given, made, Rule, sourceOf, targetOf, isRuleInput, originFits}
 use Rattle.definitions.specs.Match.{imageOf, outputImages}
 use Rattle.definitions.specs.Rewriting.{stays, placeOf, resolve, redirect, targetSlot, stayingSlot, newGraph}
@@ -84,7 +84,7 @@ module _ {ℓ} {R : Type ℓ} (g : Graph) (r : Rule) (images : List ℕ) (values
   -- a staying vertex has its old result where the places that it names after have the results of those it named before
   staying-result : (v : ℕ) → stays g r images v ≡ true
       → ((u : ℕ) → Reads (inputsOf g) v u → after (redirect g r images u) ≡ before u) → after v ≡ before v
-  unfolding resultAt renamed stayingSlot
+  unfolding resultAt isVariable renamed stayingSlot
   staying-result v s same =
       let inputs : map after (map (redirect g r images) (inputsOf g v)) ≡ map before (inputsOf g v) =
       map-map after (redirect g r images) (inputsOf g v)
@@ -114,7 +114,7 @@ module _ {ℓ} {R : Type ℓ} (g : Graph) (r : Rule) (images : List ℕ) (values
 
   -- these are results of the source side: a match takes each pattern's kind, operator and inputs from its image
   source-results : AreSourceResults m g r images source
-  unfolding resultAt source
+  unfolding resultAt isVariable source
   source-results j inside other =
       let v : ℕ = imageOf images j in
       let kind = inner-kind r j inside (not-true (isRuleInput r j) (holds (not (isRuleInput r j)) other)) in
@@ -134,7 +134,7 @@ module _ {ℓ} {R : Type ℓ} (g : Graph) (r : Rule) (images : List ℕ) (values
   target-result : (t : ℕ) → t < length (r .target)
       → ((o : Origin) → List·Memᴰ o (targetOf r t .inputs) → after (resolve g r images o) ≡ originResult source target o)
       → after (placeOf g r images t) ≡ target t
-  unfolding resultAt targetSlot
+  unfolding resultAt isVariable targetSlot
   target-result t l same =
       let v : ℕ = placeOf g r images t in
       let s : Slot = targetSlot g r images values t in

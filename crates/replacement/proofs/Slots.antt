@@ -1,7 +1,7 @@
 -- Every slot of a new table follows its kind: what stays keeps its counts, a target vertex has those of its record in the rule and
 -- results of its expressions for attributes, and the others are Empty. The attributes are 32-bit words.
 -- Assumes nothing.
-use mathlib.Core.Path.{_≡_, refl}
+use mathlib.Core.Path.{_≡_}
 use mathlib.Core.Bool.{true, false}
 use mathlib.Core.List.{List, [], List·Memᴰ, List·Memᴰ·not-nil, Memᴰ·of-map}
 use mathlib.Core.Logic.{⊎-elim}
@@ -14,7 +14,7 @@ use lib.IntN.{ℤ, pos}
 use lib.ListN.{length, getD, length-map, List·getD-map}
 use Rattle.definitions.specs.Lists.{all, position}
 use Rattle.definitions.specs.Fields.{Bytes, signed, wordOf}
-use Rattle.definitions.specs.Operators.{kindProj, kinds, rowOf, shapeFits}
+use Rattle.definitions.specs.Operators.{kindProj, shapeFits}
 use Rattle.definitions.specs.Graph.{slotCount, Slot, Graph, emptySlot, renamed, graphOf, slotOf, atLeastOne, SoundGraph}
 use Rattle.definitions.specs.Rule.{sourceCount, targetCount, vertexAt, Rule, ruleOf, targetOf, SoundRule}
 use Rattle.definitions.specs.Attributes.{inRange}

@@ -1,17 +1,17 @@
 -- A table that holds the vertices of another one under new numbers: it has no cycle, and each vertex has its old result.
 -- Assumes nothing.
-use mathlib.Core.Path.{_≡_, refl, sym, ap, _∙_, subst}
+use mathlib.Core.Path.{_≡_, sym, ap, _∙_}
 use mathlib.Core.Bool.{true, false, cond}
 use mathlib.Core.List.{List, map, map-map, map-id}
 use mathlib.Core.Logic.{⊎-elim}
 use Prim.Native.Nat.{ℕ}
-use lib.Dec.{T, eqb}
+use lib.Dec.{eqb}
 use Rattle.definitions.specs.Operators.{kindVariable}
 use Rattle.definitions.specs.Paths.{Reads, Reaches, here, onward, Acyclic}
 use Rattle.definitions.specs.Graph.{Slot, Graph, renamed, slotOf, inputsOf, isVertex, isVariable}
 use Rattle.definitions.specs.Results.{Meaning, resultAt, AreResults, Follows}
 use Rattle.laws.proofs.Lists.{decided, map-same}
-use Rattle.laws.proofs.Members.{holds, true-holds}
+use Rattle.laws.proofs.Members.{true-holds}
 use Rattle.theory.proofs.Results.{Layout, along-edges}
 
 -- a slot whose inputs keep their names
@@ -59,7 +59,7 @@ module _ {g new : Graph} {kept : ℕ → Type 0} {to : ℕ → ℕ} (carries : C
     -- a vertex that is kept has its old result, at its new number
     pub carried-results : Layout g → (before after : ℕ → R) → AreResults m g before → AreResults meant new after
         → (v : ℕ) → kept v → after (to v) ≡ before v
-    unfolding resultAt renamed
+    unfolding resultAt isVariable renamed
     carried-results layout before after old results =
         along-edges g layout (λ v. kept v → after (to v) ≡ before v) (λ v earlier k.
         let inputs : map after (map to (inputsOf g v)) ≡ map before (inputsOf g v) =

@@ -1,7 +1,7 @@
--- The squeezed table: where each vertex goes, that the table is sound, that it keeps results, and that a second squeeze changes nothing.
+-- The squeezed table: where each vertex goes, that the table is sound, and that a second squeeze changes nothing.
 -- Assumes nothing.
-use mathlib.Core.Path.{_≡_, refl, sym, ap, _∙_, subst}
-use mathlib.Core.Bool.{Bool, true, false, cond}
+use mathlib.Core.Path.{_≡_, sym, ap, _∙_, subst}
+use mathlib.Core.Bool.{true, false}
 use mathlib.Core.List.{List, map, map-id, List·Memᴰ, List·Memᴰ·not-nil, Memᴰ·of-map}
 use mathlib.Core.Logic.{⊎-elim}
 use Prim.Native.Nat.{ℕ, _<_, _≤_}
@@ -10,17 +10,17 @@ use borrow.Author.Tests.{lt-ltb, le-ltb, ltb-true, ltb-false}
 use lib.Dec.{ltb}
 use lib.ListN.{length, getD, length-map}
 use lib.Seq.{ext-getD}
-use Rattle.definitions.specs.Lists.{tabulate, filter, member, position, range}
+use Rattle.definitions.specs.Lists.{filter, member, position, range}
 use Rattle.definitions.specs.Paths.{Reads, Acyclic}
 use Rattle.definitions.specs.Graph.{unusedPlace, Slot, Graph, emptySlot, renamed, slotOf, inputsOf, isVertex}
 use Rattle.definitions.specs.Squeeze.{verticesOf, movedTo, squeezedSlot, squeeze}
-use Rattle.laws.proofs.Lists.{decided, true-not-false, fails, length-tabulate, getD-tabulate, map-same}
-use Rattle.laws.proofs.Graph.{slot-past, reader-inside, vertex-inside}
+use Rattle.laws.proofs.Lists.{decided, true-not-false, length-tabulate, getD-tabulate, map-same}
+use Rattle.laws.proofs.Graph.{slot-past, vertex-inside}
 use Rattle.laws.proofs.Members.{mem-range, mem-member, position-at, position-inside}
 use Rattle.laws.proofs.Filtered.{mem-filter, filtered-most, filtered-after, filtered-all, filtered-holds, filtered-place, filtered-position}
-use Rattle.encoding.specs.Tables.{slotFits, Table, Words}
+use Rattle.encoding.specs.Tables.{Table, Words}
 use Rattle.encoding.proofs.Graphs.{empty-fits, renamed-fits}
-use Rattle.tidying.proofs.Carried.{Carries, acyclic-back}
+use Rattle.tidying.proofs.Carried.{acyclic-back}
 
 module _ (g : Graph) where
   abbrev slots : ℕ
@@ -105,7 +105,7 @@ module _ (g : Graph) where
   unfolding isVertex renamed
   low-vertex k l = rw (squeezed-slot k l) (from-vertex k l)
 
-  pub high-empty : (k : ℕ) → vertexCount ≤ k → isVertex (squeeze g) k ≡ false
+  high-empty : (k : ℕ) → vertexCount ≤ k → isVertex (squeeze g) k ≡ false
   unfolding isVertex emptySlot
   high-empty k l = rw (squeezed-empty k l)
 
@@ -115,7 +115,7 @@ module _ (g : Graph) where
       (λ (s : ltb k vertexCount ≡ false). absurd (true-not-false t (high-empty k (ltb-false k vertexCount s))))
       (decided (ltb k vertexCount))
 
-  pub moved-vertex : (v : ℕ) → isVertex g v ≡ true → isVertex (squeeze g) (movedTo g v) ≡ true
+  moved-vertex : (v : ℕ) → isVertex g v ≡ true → isVertex (squeeze g) (movedTo g v) ≡ true
   moved-vertex v t = low-vertex (movedTo g v) (moved-below v t)
 
   -- ---- what a slot of the squeezed table reads
@@ -172,9 +172,6 @@ module _ (g : Graph) where
         let u = old .1 .0 in
         let from : comesFrom v ≡ u = ap comesFrom (sym (old .1 .2)) ∙ moved-from u (table .inputs (comesFrom w) u (old .1 .1)) in
         subst (Reads (inputsOf g) (comesFrom w)) (sym from) (old .1 .1))
-
-    pub squeezed-carries : Carries g (squeeze g) (λ v. isVertex g v ≡ true) (movedTo g)
-    squeezed-carries = record { vertex = λ v t. t; slot = moved-slot; read = λ v u t e. table .inputs v u e }
 
 -- ---- a second squeeze
 

@@ -1,19 +1,18 @@
 -- The swept table: which slots it empties, that it is sound, that it keeps results, and that a second sweep changes nothing.
 -- Assumes nothing.
-use mathlib.Core.Path.{_≡_, refl, sym, ap, _∙_, subst}
-use mathlib.Core.Bool.{Bool, true, false, cond, not, _&&_}
+use mathlib.Core.Path.{_≡_, refl, sym, _∙_, subst}
+use mathlib.Core.Bool.{Bool, true, false, not, _&&_}
 use mathlib.Core.List.{List, List·Memᴰ, List·Memᴰ·not-nil}
 use mathlib.Core.Logic.{_⊎_, inl, inr, ⊎-elim}
 use Prim.Native.Nat.{ℕ, _<_, _≤_}
 use native.Mathlib.Omega.{arith}
-use borrow.Author.Tests.{eqb-true, not-true, not-false, ltb-true, ltb-false}
+use borrow.Author.Tests.{eqb-true, not-true, ltb-true, ltb-false}
 use lib.Dec.{eqb, ltb}
 use lib.ListN.{length}
 use lib.Seq.{ext-getD}
-use Rattle.definitions.specs.Lists.{tabulate}
-use Rattle.definitions.specs.Operators.{kindEmpty, kindVariable, kindCall, rowOf, kinds, shapeFits}
+use Rattle.definitions.specs.Operators.{kindEmpty, kindVariable, kindCall, rowOf, kinds}
 use Rattle.definitions.specs.Paths.{Reads, Reaches, here, onward, ReachesOne, Acyclic, isMarked}
-use Rattle.definitions.specs.Graph.{Slot, Graph, emptySlot, renamed, slotOf, inputsOf, isVertex, isVariable}
+use Rattle.definitions.specs.Graph.{Slot, Graph, emptySlot, slotOf, inputsOf, isVertex, isVariable}
 use Rattle.definitions.specs.Sweep.{Unneeded, reachingOutputs, isUnneeded, sweptSlot, sweep}
 use Rattle.laws.proofs.Lists.{decided, true-not-false, fails, and-left, and-right, length-tabulate, getD-tabulate, length-none}
 use Rattle.laws.proofs.Graph.{slot-past, reader-inside, vertex-inside}
@@ -21,7 +20,7 @@ use Rattle.laws.proofs.Operators.{row-inputs}
 use Rattle.theory.proofs.Paths.{reaches-trans}
 use Rattle.theory.proofs.Results.{named-table}
 use Rattle.reachability.proofs.Reaching.{reaching-sound, reaching-complete}
-use Rattle.encoding.specs.Tables.{slotFits, Table, Words}
+use Rattle.encoding.specs.Tables.{Table, Words}
 use Rattle.encoding.proofs.Blocks.{shaped}
 use Rattle.encoding.proofs.Graphs.{empty-fits}
 use Rattle.tidying.proofs.Carried.{renamed-self, Carries, acyclic-back}
@@ -233,7 +232,7 @@ module _ (g : Graph) (table : Table g) where
     path = path-stays (needed .path) (record { start = needed .start; listed = needed .listed; path = here });
   }
 
-  pub none-unneeded : (v : ℕ) → Unneeded (sweep g) v → ⊥
+  none-unneeded : (v : ℕ) → Unneeded (sweep g) v → ⊥
   unfolding isVariable
   none-unneeded v u =
       let f = vertex-stays v (u .vertex) in

@@ -1,7 +1,7 @@
 -- The loop's invariant: the first i output places have their new names.
 -- Assumes nothing.
 use mathlib.Core.Path.{refl, sym, ap, _∙_}
-use Prim.Native.Nat.{_-_, _<_}
+use Prim.Native.Nat.{ℕ, _-_, _<_, _≤_}
 use native.Mathlib.Omega.{arith}
 use Rattle.definitions.specs.Lists.{padded}
 use Rattle.definitions.specs.Graph.{slotLimit, outputLimit, unusedPlace, outputCount, graphOf}
@@ -27,12 +27,15 @@ one-left c = omega (arith, c .loop-test .taken, c .before .before .output-count 
 few : (c : tie.In-loop Inv-loop μ-loop) → c .before .loop .i < outputLimit
 few c = omega (arith, one-left c, start (c .before) .pre .0 .outputs)
 
+below-limit : {v n : ℕ} → v < n → n ≤ slotLimit → v < slotLimit
+below-limit l m = omega arith
+
 named : (c : tie.After-output-at Inv-loop μ-loop) → c .output-at .result < slotLimit
 named c =
     let l = c .before in
     let s = start (l .before) in
     rw (c .output-at .ensures .0)
-    (omega (arith, s .pre .1 .0 .named (l .before .loop .i) (one-left l), s .pre .0 .slots))
+    (below-limit (s .pre .1 .0 .named _ (omega (arith, one-left l))) (s .pre .0 .slots))
 
 output-count-requires : tie.Need-output-count-requires Inv-loop μ-loop
 output-count-requires c κs = omega (arith, c .before .pre .0 .size)
@@ -45,7 +48,7 @@ loop-holds c =
     filling-none (count ∙ sym (length-outputs (s .args .graph .now))) (omega (arith, count, s .pre .0 .outputs)) refl
 
 output-at-requires : tie.Need-output-at-requires Inv-loop μ-loop
-output-at-requires c κs = (start (c .before) .pre .0, one-left c)
+output-at-requires c κs = (start (c .before) .pre .0, omega (arith, one-left c))
 
 mul-outputs : tie.Need-mul-outputs Inv-loop μ-loop
 mul-outputs c = omega (arith, named c)

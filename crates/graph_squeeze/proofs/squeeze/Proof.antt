@@ -5,14 +5,14 @@ use mathlib.Core.List.{List}
 use Prim.Native.Nat.{ℕ, _-_, _*_, _≤_}
 use native.Mathlib.Nat.{sub-zero}
 use native.Mathlib.Omega.{arith}
-use lib.ListN.{length, take}
+use lib.ListN.{take}
 use lib.Seq.{length-take-le}
 use Rattle.definitions.specs.declared.Refusal.{Refusal}
 use Rattle.definitions.specs.declared.Reply.the-variants.{Refused}
 use Rattle.definitions.specs.Lists.{concatMap}
 use Rattle.definitions.specs.Fields.{u16Bytes}
 use Rattle.definitions.specs.Reply.{done}
-use Rattle.definitions.specs.Graph.{slotLimit, slotCount, graphOf, graphBlock, SoundGraph}
+use Rattle.definitions.specs.Graph.{slotLimit, graphOf, graphBlock, SoundGraph}
 use Rattle.definitions.specs.Squeeze.{squeeze, movesBlock, squeezeReply, squeezeGraph, squeezeMoves}
 use Rattle.laws.proofs.Reply.{done-plain, where-done, where-refused}
 use Rattle.laws.proofs.Operations.{squeeze-valueless}
