@@ -154,13 +154,13 @@ bool would_replace(const std::string &path, const std::string &input_path) {
 }
 
 bool same_output(const std::string &path, const std::string &other) {
-    if (path == "-" || other == "-") {
-        return path == other;
-    }
-    // Links to one file have one inode; a file that is not there yet has only its path.
+    const std::string one = path == "-" ? "/dev/stdout" : path;
+    const std::string two = other == "-" ? "/dev/stdout" : other;
+    // Links to one file have one inode; a file that is not there yet has only its path,
+    // and a pipe has only the one that the system gives it.
     std::error_code no_answer;
-    const fs::path one = whole_path(path);
-    return fs::equivalent(path, other, no_answer) || (!one.empty() && one == whole_path(other));
+    const fs::path whole = whole_path(one);
+    return fs::equivalent(one, two, no_answer) || (!whole.empty() && whole == whole_path(two));
 }
 
 } // namespace leafgraph::tool

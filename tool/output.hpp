@@ -23,7 +23,8 @@ void write_output(const std::string &path, Bytes bytes);
 // spelling or link the two are named, or by a redirection of standard input.
 bool would_replace(const std::string &path, const std::string &input_path);
 
-// Whether two outputs would be written to one place. Neither file need be there yet.
+// Whether two outputs would be written to one place, also by a redirection of standard
+// output. Neither file need be there yet.
 bool same_output(const std::string &path, const std::string &other);
 
 } // namespace leafgraph::tool
