@@ -14,7 +14,7 @@ namespace leafgraph::tool {
 std::string refusal_line(Reply reply, const Input &graph, const Input &rule);
 
 // Each throws the refusal, or that there is no match, unless the reply is done. With one
-// input it is the reply of a call that takes one block alone.
+// input it is the reply of a call that takes no graph and rule together.
 void want_done(Reply reply, const Input &graph, const Input &rule);
 void want_done(Reply reply, const Input &block);
 void want_sound_graph(const Input &graph);
