@@ -73,11 +73,11 @@ OUT is the same file; the file RULE can't be OUT.
   -o OUT     write the new block to OUT, '-' for standard output, and no text
   --numbers  print operators by number and not by name
 
-OUT is replaced whole or not at all. If anything is refused, it is not written;
-nor if there is no match, for which the exit status is 3: then nothing is swept
-or squeezed, either. With --all, no match is what is wanted: the graph is swept
-and squeezed as asked, OUT is written, and the exit status is 0. The old slots of
---moves are those that the last rewriting has left.
+FILE and then OUT are replaced, each whole or not at all. If anything is refused,
+neither is written; nor if there is no match, for which the exit status is 3: then
+nothing is swept or squeezed, either. With --all, no match is what is wanted: the
+graph is swept and squeezed as asked, FILE and OUT are written, and the exit
+status is 0. The old slots of --moves are those that the last rewriting has left.
 )";
 
 const char *const sweep = R"(usage: leafgraph sweep GRAPH [-o OUT | --numbers]
