@@ -3,6 +3,8 @@
 #ifndef LEAFGRAPH_SWEEP_SQUEEZE_H
 #define LEAFGRAPH_SWEEP_SQUEEZE_H
 
+#include <string.h>
+
 #include "leafgraph.h"
 #include "shared_constants.h"
 
@@ -80,6 +82,19 @@ static inline void put_moves(uint8_t *list, const struct squeeze_call *call) {
     for (slot = 0; slot < SLOTS; slot++) {
         list[2 * slot] = call->moves[slot];
         list[2 * slot + 1] = call->moves[slot] == NO_OUTPUT ? 255 : 0;
+    }
+}
+
+/* The list of another squeeze after that: each vertex stays where it went. */
+static inline void put_moves_again(uint8_t *list, const struct squeeze_call *call) {
+    size_t slot;
+    memset(list, 255, MOVES_LENGTH);
+    for (slot = 0; slot < SLOTS; slot++) {
+        const uint8_t went = call->moves[slot];
+        if (went != NO_OUTPUT) {
+            list[2 * went] = went;
+            list[2 * went + 1] = 0;
+        }
     }
 }
 

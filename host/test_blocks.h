@@ -329,11 +329,15 @@ static int count_squeeze_differences(void) {
     size_t call, length;
     int count = 0;
     for (call = 0; call < sizeof squeeze_calls / sizeof squeeze_calls[0]; call++) {
+        const char *what = squeeze_calls[call].what;
         put_table(before, &squeeze_calls[call].before);
         put_table(after, &squeeze_calls[call].after);
         put_moves(moves, &squeeze_calls[call]);
-        count += squeeze_differs(squeeze_calls[call].what, before, sizeof before,
-                                 sizeof moves, after, moves, LG_DONE, 0);
+        count += squeeze_differs(what, before, sizeof before, sizeof moves, after, moves,
+                                 LG_DONE, 0);
+        put_moves_again(moves, &squeeze_calls[call]);
+        count += squeeze_differs(what, after, sizeof after, sizeof moves, after, moves,
+                                 LG_DONE, 0);
     }
     for (length = 0; length < sizeof bad_moves_lengths / sizeof bad_moves_lengths[0]; length++) {
         count += squeeze_differs("a list of another length", before, sizeof before,
