@@ -9,6 +9,7 @@ use leafgraph_reference::meaning::Meaning;
 use leafgraph_reference::random::Random;
 use leafgraph_reference::results::Accepted;
 use leafgraph_reference::rule::Rule;
+use leafgraph_reference::squeeze::NOWHERE;
 
 use crate::library::{Library, SECOND};
 
@@ -77,19 +78,33 @@ impl Cleaned<'_> {
             None => sweep_faults(old, new, &mut meaning),
         };
         faults.extend(told.into_iter().map(String::from));
-        if !self.is_settled(library) {
+        if !self.is_settled(library, new) {
             faults.push("the same call once more changes something".into());
         }
         faults
     }
 
-    /// Whether the library leaves the new table as it is.
-    fn is_settled(&self, library: &Library) -> bool {
+    /// Whether the library leaves the new table as it is, and a squeeze says so.
+    fn is_settled(&self, library: &Library, new: Graph) -> bool {
         let mut again = self.new.to_vec();
-        let reply = match self.list {
-            Some(list) => (library.squeeze)(&mut again, &mut list.to_vec()),
-            None => (library.sweep)(&mut again),
+        let said = match self.list {
+            Some(_) => {
+                let right = staying(new);
+                // No byte is right before, so that each has to be written.
+                let mut list: Vec<u8> = right.iter().map(|byte| !byte).collect();
+                (library.squeeze)(&mut again, &mut list) == 0 && list == right
+            }
+            None => (library.sweep)(&mut again) == 0,
         };
-        reply == 0 && again == self.new
+        said && again == self.new
     }
+}
+
+/// The list of a squeeze that moves nothing.
+fn staying(graph: Graph) -> Vec<u8> {
+    let numbers = graph.slots().zip(0..).map(|(slot, own)| match slot.is_empty() {
+        true => NOWHERE,
+        false => own,
+    });
+    numbers.flat_map(u16::to_le_bytes).collect()
 }

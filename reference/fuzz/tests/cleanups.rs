@@ -208,6 +208,33 @@ fn another_number_for_empty_slots_is_noticed() {
     assert!(fault.starts_with("list after, 4 bytes differ, the first at 4"), "{fault}");
 }
 
+/// Lists that are wrong only where nothing moves. The first squeeze of this example
+/// moves something, so they are those of the second.
+#[test]
+fn a_wrong_second_list_is_noticed() {
+    let forgotten: fn(&mut [u8], &mut [u8]) -> u64 = |graph, list| {
+        let (old, before) = (graph.to_vec(), list.to_vec());
+        let reply = (PROVED.squeeze)(graph, list);
+        if graph == old {
+            list.copy_from_slice(&before);
+        }
+        reply
+    };
+    let another: fn(&mut [u8], &mut [u8]) -> u64 = |graph, list| {
+        let old = graph.to_vec();
+        let reply = (PROVED.squeeze)(graph, list);
+        if graph == old {
+            list[2] ^= 1;
+        }
+        reply
+    };
+    for squeeze in [forgotten, another] {
+        let (operation, fault) = difference(&Library { squeeze, ..PROVED }, "empty-between", 0);
+        assert_eq!(operation, Operation::Squeeze);
+        assert_eq!(fault, "the same call once more changes something");
+    }
+}
+
 #[test]
 fn a_wrong_list_taken_is_noticed() {
     let squeeze = |graph: &mut [u8], list: &mut [u8]| {
