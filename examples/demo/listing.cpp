@@ -46,7 +46,8 @@ std::string listed(const std::vector<std::size_t> &slots) {
 void show_graph(const char *when, const Graph &graph, const Names &variable_names) {
     std::printf("The pipeline %s: %zu vertices in %zu slots, %zu stages to run for each "
                 "photograph.\n\n",
-                when, leafgraph::tool::count_vertices(graph), graph.slots.size(), stages(graph, true).size());
+                when, leafgraph::tool::count_vertices(graph), graph.slots.size(),
+                stages(graph, true).size());
     std::printf("  slot  vertex                                  needed for\n");
     for (std::size_t slot = 0; slot < graph.slots.size(); slot++) {
         if (graph.slots[slot].kind != Kind::empty) {
