@@ -385,7 +385,10 @@ void show_end(const Pipeline &before, Expectations &expectations) {
 void show_proof() {
     std::printf("What is shown here of the rules on one photograph is proved for every graph, rule "
                 "and start,\nwhatever the operators mean, where the rule itself keeps its outputs' "
-                "results: Demand3 in\ncrates/answers/specs/Statements.antt.\n");
+                "results: Demand3 in\ncrates/answers/specs/Statements.antt. So it is of the sweep, "
+                "SweepKeeps: every vertex that stays\nand every output has its result; and of the "
+                "squeeze, SqueezeKeeps: every vertex has it in its\nnew slot, and every output has "
+                "its own, where each Variable's result follows it.\n");
 }
 
 bool demonstrated(const std::string &folder) {
