@@ -201,6 +201,8 @@ uint64_t lg_rewrite(uint8_t *graph, size_t graph_len,
  * Empty, except Variables, which all stay, read or not. A vertex that an output
  * names reaches itself, and stays. What stays keeps every byte of its slot, and
  * the header is as it was: the number of slots and the outputs are the same.
+ * Whatever the operators, constants, tuples and projections mean, every vertex
+ * that stays has the result that it had.
  *
  * Reads:   graph_len bytes at graph.
  * Writes:  on LG_DONE, the graph_len bytes at graph: the swept graph block, of
