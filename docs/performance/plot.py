@@ -37,7 +37,7 @@ def read_results(text):
 
 
 def operation(call):
-    """The first word of the call: check, match or rewrite."""
+    """The first word of the call: check, match, rewrite, sweep or squeeze."""
     return call.replace(":", " ").split()[0]
 
 
@@ -144,6 +144,13 @@ COLOURS = {
     "rewrite: 2 outputs, last pair": "#D55E00",
     "rewrite: shared Const, last slot": "#CC79A7",
     "rewrite: to the end": "#009E73",
+    "sweep: a dead chain": "#0072B2",
+    "sweep: all live": "#D55E00",
+    "sweep: all live, reversed": "#CC79A7",
+    "sweep: every second slot Empty": "#009E73",
+    "squeeze: a dead chain": "#0072B2",
+    "squeeze: all live": "#D55E00",
+    "squeeze: every second slot Empty": "#009E73",
 }
 OTHER = "#009E73"
 INK, GRID, FRAME, EQUAL, LIMIT = "#222222", "#E4E4E4", "#666666", "#444444", "#B22222"
@@ -164,7 +171,7 @@ def panel_of(call):
 
 def is_thin(call):
     """Whether a call has a thin line with open squares: it may run together with a thick one."""
-    return "2 outputs" in call if panel_of(call) == LOOK else call.endswith("none")
+    return "2 outputs" in call if panel_of(call) == LOOK else call.endswith(("none", "all live"))
 
 
 def text(x, y, words, more=""):
