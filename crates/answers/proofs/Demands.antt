@@ -12,7 +12,7 @@ use lib.ListN.{length, length-map}
 use Rattle.definitions.specs.Fields.{Bytes}
 use Rattle.definitions.specs.Paths.{Reads, Acyclic}
 use Rattle.definitions.specs.Reply.{numberIn}
-use Rattle.definitions.specs.Graph.{Graph, graphOf, inputsOf, isVertex, graphBlock, SoundGraph}
+use Rattle.definitions.specs.Graph.{graphVersion, Graph, graphOf, inputsOf, isVertex, trueCount, graphBlock, SoundGraph}
 use Rattle.definitions.specs.Rule.{sourceCount, Rule, ruleOf, SoundRule}
 use Rattle.definitions.specs.Match.{imageOf, readAttribute, Match}
 use Rattle.definitions.specs.Rewriting.{targetResults, stays, hasRoom, redirect, newGraph}
@@ -63,8 +63,8 @@ module _ (graph rule images : List ℕ) (values : List (List ℤ)) where
     accepted-sound : Bytes graph → SoundGraph graphAfter
     accepted-sound bytes = rw (a .block) (block-sound new table (words bytes) (a .acyclic))
 
-    accepted-table : Bytes graph → graphOf graphAfter ≡ new
-    accepted-table bytes = ap graphOf (a .block) ∙ block-back new table (words bytes)
+    pub accepted-table : Bytes graph → graphOf graphAfter ≡ new
+    accepted-table bytes = ap graphOf (a .block) ∙ block-back new table graphVersion (trueCount new) (words bytes)
 
     -- demand 3 for the two tables
     pub at : Site g r images

@@ -2,17 +2,19 @@
 -- Assumes nothing.
 use mathlib.Core.Path.{_≡_, refl}
 use mathlib.Core.Bool.{true, false}
-use mathlib.Core.List.{List}
+use mathlib.Core.List.{List, [], _∷_}
 use Prim.Native.Nat.{ℕ, _+_, _<_, _^_}
 use native.Mathlib.Omega.{arith}
 use Rattle.definitions.specs.Lists.{member}
-use Rattle.definitions.specs.Graph.{graphOf}
+use Rattle.definitions.specs.Reply.{badGraphCount}
+use Rattle.definitions.specs.Graph.{graphVersion, graphOf}
 use Rattle.definitions.specs.Rule.{sideLimit, sourceCount, targetCount, ruleHeaderFits}
-use Rattle.definitions.specs.Faults.{GraphFault, RuleFault, header, slot, input, output, cycle, vertex, order, outputs, node, attribute}
+use Rattle.definitions.specs.Faults.{FaultAs, GraphFault, RuleFault, header, slot, input, output, cycle, form, count, vertex, order, outputs, node, attribute}
+use Rattle.laws.proofs.Members.{member-left}
 use Rattle.laws.proofs.Graph.{reader-inside, length-slots, length-outputs, few-slots, few-outputs}
 use Rattle.laws.proofs.Rule.{few-sources, few-targets}
 use Rattle.rule_check.proofs.Laws.{whole}
-use Rattle.answers.specs.Statements.{graphNumbers, ruleNumbers}
+use Rattle.answers.specs.Statements.{formNumbers, graphNumbers, ruleNumbers}
 
 -- a number and a place that the bits of a reply can hold
 pub record Small (n p : ℕ) : Type 0 where
@@ -30,27 +32,36 @@ pub record Numbered (Fault : ℕ → ℕ → Type 0) (bad : List ℕ) : Type 0 w
   pub apart : member 0 bad ≡ false
 
 module _ {block : List ℕ} where
+  pub form-listed : {version n p : ℕ} → FaultAs version block n p → member n formNumbers ≡ true
+  unfolding member
+  form-listed (header h) = refl
+  form-listed (slot h low) = refl
+  form-listed (input h records low) = refl
+  form-listed (output h records inputs low) = refl
+  form-listed (cycle h records inputs named low) = refl
+
+  pub form-small : {version n p : ℕ} → FaultAs version block n p → Small n p
+  form-small (header h) = record { number = omega arith; place = omega arith }
+  form-small {version} (slot h low) = record { number = omega arith; place = omega (arith, low .bad .0, few-slots block version h) }
+  form-small {version} (input {k} h records low) = record {
+    number = omega arith;
+    place = omega (arith, reader-inside (graphOf block) k (low .bad .0) (low .bad .1), length-slots block, few-slots block version h);
+  }
+  form-small {version} (output h records inputs low) =
+      record { number = omega arith; place = omega (arith, low .bad .0, length-outputs block, few-outputs block version h) }
+  form-small {version} (cycle {v} h records inputs named low) = record {
+    number = omega arith;
+    place = omega (arith, reader-inside (graphOf block) v (low .bad .0) (low .bad .2), length-slots block, few-slots block version h);
+  }
+
   pub graph-listed : {n p : ℕ} → GraphFault block n p → member n graphNumbers ≡ true
   unfolding member
-  graph-listed (header h) = refl
-  graph-listed (slot h low) = refl
-  graph-listed (input h records low) = refl
-  graph-listed (output h records inputs low) = refl
-  graph-listed (cycle h records inputs named low) = refl
+  graph-listed (form {n} f) = member-left n formNumbers (badGraphCount ∷ []) (form-listed f)
+  graph-listed (count sound low) = refl
 
   pub graph-small : {n p : ℕ} → GraphFault block n p → Small n p
-  graph-small (header h) = record { number = omega arith; place = omega arith }
-  graph-small (slot h low) = record { number = omega arith; place = omega (arith, low .bad .0, few-slots block h) }
-  graph-small (input {k} h records low) = record {
-    number = omega arith;
-    place = omega (arith, reader-inside (graphOf block) k (low .bad .0) (low .bad .1), length-slots block, few-slots block h);
-  }
-  graph-small (output h records inputs low) =
-      record { number = omega arith; place = omega (arith, low .bad .0, length-outputs block, few-outputs block h) }
-  graph-small (cycle {v} h records inputs named low) = record {
-    number = omega arith;
-    place = omega (arith, reader-inside (graphOf block) v (low .bad .0) (low .bad .2), length-slots block, few-slots block h);
-  }
+  graph-small (form f) = form-small f
+  graph-small (count sound low) = record { number = omega arith; place = omega (arith, low .bad .0, few-slots block graphVersion (sound .header)) }
 
   pub rule-listed : {n p : ℕ} → RuleFault block n p → member n ruleNumbers ≡ true
   unfolding member
@@ -68,6 +79,10 @@ module _ {block : List ℕ} where
   rule-small (outputs h none visited unfit) = record { number = omega arith; place = omega arith }
   rule-small (node h none visited fit low) = record { number = omega arith; place = omega (arith, low .bad .0, whole block h .nodes) }
   rule-small (attribute h none visited fit nodes low) = record { number = omega arith; place = omega (arith, low .bad .0, few-vertices block h) }
+
+pub form-numbered : (version : ℕ) (block : List ℕ) → Numbered (FaultAs version block) formNumbers
+unfolding member
+form-numbered version block = record { listed = form-listed; small = form-small; apart = refl }
 
 pub graph-numbered : (block : List ℕ) → Numbered (GraphFault block) graphNumbers
 unfolding member
@@ -91,8 +106,9 @@ rule-apart (attribute h none visited fit nodes low) = refl
 
 pub graph-apart : {block : List ℕ} {n p : ℕ} → GraphFault block n p → member n ruleNumbers ≡ false
 unfolding member
-graph-apart (header h) = refl
-graph-apart (slot h low) = refl
-graph-apart (input h records low) = refl
-graph-apart (output h records inputs low) = refl
-graph-apart (cycle h records inputs named low) = refl
+graph-apart (form (header h)) = refl
+graph-apart (form (slot h low)) = refl
+graph-apart (form (input h records low)) = refl
+graph-apart (form (output h records inputs low)) = refl
+graph-apart (form (cycle h records inputs named low)) = refl
+graph-apart (count sound low) = refl

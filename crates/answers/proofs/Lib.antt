@@ -7,8 +7,10 @@ pub mod Room
 pub mod Exclusive
 pub mod Rewriting
 pub mod Demands
+pub mod Records
 pub mod Unchanged
 pub mod Tidying
 pub mod Sweeping
 pub mod Squeezing
+pub mod Importing
 pub mod Statements

@@ -8,7 +8,7 @@ use native.Mathlib.Omega.{arith}
 use lib.ListN.{length, getD, List·getD-eq-default}
 use lib.Seq.{ext-getD}
 use Rattle.definitions.specs.Fields.{u16At, u16Bytes}
-use Rattle.definitions.specs.Graph.{unusedPlace, graphOf, SoundGraph}
+use Rattle.definitions.specs.Graph.{unusedPlace, graphVersion, graphOf, SoundGraph}
 use Rattle.definitions.specs.Rule.{sideLimit, sourceCount, ruleOf, SoundRule}
 use Rattle.definitions.specs.Match.{imageOf, Match, leastMatch}
 use Rattle.definitions.specs.Operations.{mapPlaces, mapBytes, mapBlock}
@@ -84,7 +84,7 @@ module _ (graph rule : List ℕ) (start : ℕ) (images : List ℕ) (sound : Soun
         arith,
         image-inside (graphOf graph) (ruleOf rule) images j least-is (rw (least-is .size) at l),
         length-slots graph,
-        few-slots graph (sound .header),
+        few-slots graph graphVersion (sound .form .header),
       )
 
   -- a map that holds its block

@@ -16,7 +16,7 @@ use Rattle.definitions.specs.Lists.{member}
 use Rattle.definitions.specs.Fields.{u16Bytes}
 use Rattle.definitions.specs.Operators.{kindVariable}
 use Rattle.definitions.specs.Reply.{done, badMovesLength, refused, packed, numberIn, placeIn, valueIn}
-use Rattle.definitions.specs.Graph.{slotCount, Graph, renamed, graphOf, slotOf, isVertex, isVariable, recordAt, graphBlock, graphReply, SoundGraph}
+use Rattle.definitions.specs.Graph.{graphVersion, slotCount, Graph, renamed, graphOf, slotOf, isVertex, isVariable, recordAt, trueCount, graphBlock, graphReply, SoundGraph}
 use Rattle.definitions.specs.Faults.{GraphFault}
 use Rattle.definitions.specs.Squeeze.{movedTo, squeeze, movesBlock, movesReply, squeezeReply, squeezeGraph, squeezeMoves}
 use Rattle.definitions.specs.Results.{Meaning}
@@ -228,10 +228,10 @@ module _ (graph moves : List ℕ) (reply : ℕ) (graphAfter movesAfter : List �
     listed = contract .listed ∙ where-done (movesBlock (graphOf graph)) moves told
 
     same-table : graphOf graphAfter ≡ squeeze (graphOf graph)
-    same-table = ap graphOf left ∙ block-back (squeeze (graphOf graph)) later words
+    same-table = ap graphOf left ∙ block-back (squeeze (graphOf graph)) later graphVersion (trueCount (squeeze (graphOf graph))) words
 
     after-sound : SoundGraph graphAfter
-    after-sound = rw left (block-sound (squeeze (graphOf graph)) later words (squeezed-acyclic (graphOf graph) table (sound .acyclic)))
+    after-sound = rw left (block-sound (squeeze (graphOf graph)) later words (squeezed-acyclic (graphOf graph) table (sound .form .acyclic)))
 
     -- the list's numbers
     abbrev to : ℕ → ℕ
@@ -263,11 +263,11 @@ module _ (graph moves : List ℕ) (reply : ℕ) (graphAfter movesAfter : List �
         let s = slotOf (graphOf graph) v in
         ap (λ (t : Graph). slotOf t (to v)) same-table ∙ ap (slotOf (squeeze (graphOf graph))) (went v t) ∙ moved-slot (graphOf graph) v t
         ∙ ap (λ (xs : List ℕ). record { kind = s .kind; operator = s .operator; inputs = xs; attributes = s .attributes })
-        (sym (went-all (s .inputs) (sound .inputs v)))
+        (sym (went-all (s .inputs) (sound .form .inputs v)))
 
     outputs-after : graphOf graphAfter .outputs ≡ map to (graphOf graph .outputs)
     unfolding squeeze
-    outputs-after = ap (λ (t : Graph). t .outputs) same-table ∙ sym (went-all (graphOf graph .outputs) (sound .outputs))
+    outputs-after = ap (λ (t : Graph). t .outputs) same-table ∙ sym (went-all (graphOf graph .outputs) (sound .form .outputs))
 
     rest-after : (k : ℕ) → isVertex (graphOf graphAfter) k ≡ true
         → (v : ℕ) × (isVertex (graphOf graph) v ≡ true) × (to v ≡ k)
@@ -279,8 +279,8 @@ module _ (graph moves : List ℕ) (reply : ℕ) (graphAfter movesAfter : List �
 
     same-size : length graphAfter ≡ length graph
     same-size =
-        ap length left ∙ block-length (squeeze (graphOf graph)) later ∙ ap recordAt (squeezed-size (graphOf graph))
-        ∙ sym (block-length (graphOf graph) table) ∙ ap length (canonical graph sound (contract .lentGraph))
+        ap length left ∙ block-length (squeeze (graphOf graph)) later graphVersion (trueCount (squeeze (graphOf graph))) ∙ ap recordAt (squeezed-size (graphOf graph))
+        ∙ sym (block-length (graphOf graph) table graphVersion (trueCount (graphOf graph))) ∙ ap length (canonical graph sound (contract .lentGraph))
 
     squeezes : Squeezes graph graphAfter movesAfter
     squeezes = record {
@@ -296,7 +296,7 @@ module _ (graph moves : List ℕ) (reply : ℕ) (graphAfter movesAfter : List �
     -- ---- results
 
     carries : Carries (graphOf graph) (graphOf graphAfter) (λ v. isVertex (graphOf graph) v ≡ true) to
-    carries = record { vertex = λ v t. t; slot = slot-after; read = λ v u t e. sound .inputs v u e }
+    carries = record { vertex = λ v t. t; slot = slot-after; read = λ v u t e. sound .form .inputs v u e }
 
     -- a Variable is a vertex
     variable-vertex : (v : ℕ) → isVariable (graphOf graph) v ≡ true → isVertex (graphOf graph) v ≡ true
@@ -315,7 +315,7 @@ module _ (graph moves : List ℕ) (reply : ℕ) (graphAfter movesAfter : List �
         },
       );
       every = λ meant follows.
-          keeps (layout graph sound) (layout graphAfter after-sound) carries follows outputs-after (sound .outputs) (after-sound .outputs);
+          keeps (layout graph sound) (layout graphAfter after-sound) carries follows outputs-after (sound .form .outputs) (after-sound .form .outputs);
     }
 
   pub squeeze-replies : SqueezeReplies graph moves reply graphAfter movesAfter

@@ -1,16 +1,17 @@
 -- The statements of specs/Statements, each from its contract alone.
 -- Assumes nothing.
-use mathlib.Core.Path.{_≡_, subst}
+use mathlib.Core.Path.{_≡_, sym, ap, _∙_, subst}
 use mathlib.Core.List.{List}
 use Prim.Native.Nat.{ℕ, _+_, _*_, _^_}
 use native.Mathlib.Omega.{arith}
 use Rattle.definitions.specs.Reply.{numberIn, placeIn, valueIn}
-use Rattle.definitions.specs.Graph.{graphOf}
+use Rattle.definitions.specs.Graph.{graphOf, graphBlock}
 use Rattle.definitions.specs.Rule.{sourceCount, ruleOf}
 use Rattle.definitions.specs.Results.{Meaning}
+use Rattle.encoding.proofs.Graphs.{canonical}
 use Rattle.answers.specs.Written.{imagesIn}
 use Rattle.answers.specs.Rewritten.{Due}
-use Rattle.answers.specs.Statements.{Says, CheckedGraph, CheckedRule, Searched, Rewrote, Swept, Squeezed, GraphVerdict, RuleVerdict, MatchReplies, Yields, RewriteReplies, Demand3, SweepReplies, SweepKeeps, SweptTwice, SqueezeReplies, SqueezeKeeps, SqueezedTwice}
+use Rattle.answers.specs.Statements.{Says, CheckedGraph, CheckedRule, Searched, Rewrote, Swept, Squeezed, Imported, GraphVerdict, RuleVerdict, OneBlock, MatchReplies, Yields, RewriteReplies, Demand3, SweepReplies, SweepKeeps, SweptTwice, SqueezeReplies, SqueezeKeeps, SqueezedTwice, ImportReplies, ImportedOnce, OldRefused}
 use Rattle.answers.proofs.Blocks.{graph-verdict, rule-verdict}
 use Rattle.answers.proofs.Matching.{match-replies}
 use Rattle.answers.proofs.Rewriting.{block-replies, due, replied, listed, refusal-keeps, written}
@@ -18,6 +19,7 @@ use Rattle.answers.proofs.Demands.{yields-sound, yields-table, demand-3
 use Rattle.answers.proofs.Unchanged.{keeps-record, keeps-constant}
 use Rattle.answers.proofs.Sweeping.{sweep-replies, sweep-keeps, sweep-twice}
 use Rattle.answers.proofs.Squeezing.{squeeze-replies, squeeze-keeps, squeeze-twice}
+use Rattle.answers.proofs.Importing.{import-replies, import-once, old-refused}
 
 -- Number and place are all that the C side gets: what is said of them is said of the whole reply.
 pub whole-word : (reply n p : ℕ) → Says reply n p → reply ≡ n + 2 ^ 8 * p
@@ -27,6 +29,14 @@ whole-word reply n p says = omega (arith, says .number, says .place, says .value
 -- lg_check_graph
 pub checked-graph : (graph : List ℕ) (reply : ℕ) → CheckedGraph graph reply → GraphVerdict graph reply
 checked-graph = graph-verdict
+
+pub checked-old : (graph : List ℕ) (reply : ℕ) → CheckedGraph graph reply → OldRefused graph reply
+checked-old = old-refused
+
+-- two sound blocks of one graph
+pub one-block : OneBlock
+one-block one other bytes also sound second same =
+    sym (canonical one sound bytes) ∙ ap graphBlock same ∙ canonical other second also
 
 -- lg_check_rule
 pub checked-rule : (rule : List ℕ) (reply : ℕ) → CheckedRule rule reply → RuleVerdict rule reply
@@ -91,3 +101,11 @@ module _ (graph moves : List ℕ) (reply : ℕ) (graphAfter movesAfter : List �
 
   pub squeezed-twice : numberIn reply ≡ 0 → SqueezedTwice graphAfter movesAfter
   squeezed-twice = squeeze-twice graph moves reply graphAfter movesAfter contract
+
+module _ (graph : List ℕ) (reply : ℕ) (graphAfter : List ℕ) (contract : Imported graph reply graphAfter) where
+  -- lg_import
+  pub imported : ImportReplies graph reply graphAfter
+  imported = import-replies graph reply graphAfter contract
+
+  pub imported-once : numberIn reply ≡ 0 → ImportedOnce graphAfter
+  imported-once = import-once graph reply graphAfter contract

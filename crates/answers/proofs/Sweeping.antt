@@ -3,12 +3,12 @@
 use mathlib.Core.Path.{_≡_, refl, sym, ap, _∙_, subst}
 use mathlib.Core.Bool.{true, false}
 use mathlib.Core.List.{List, map-id}
-use Prim.Native.Nat.{ℕ, _+_, _<_}
+use Prim.Native.Nat.{ℕ, _<_}
 use native.Mathlib.Omega.{arith}
 use lib.ListN.{length, getD}
 use Rattle.definitions.specs.Fields.{byteAt}
 use Rattle.definitions.specs.Reply.{numberIn}
-use Rattle.definitions.specs.Graph.{headerBytes, slotBytes, slotCount, recordAt, Graph, graphOf, isVertex, headerBlock, graphBlock, SoundGraph}
+use Rattle.definitions.specs.Graph.{headerBytes, graphVersion, slotCount, recordAt, Graph, graphOf, isVertex, trueCount, headerBlock, graphBlock, SoundGraph}
 use Rattle.definitions.specs.Sweep.{Unneeded, sweep, sweepGraph}
 use Rattle.definitions.specs.Results.{Meaning}
 use Rattle.laws.proofs.Lists.{fails}
@@ -20,9 +20,11 @@ use Rattle.encoding.proofs.Blocks.{block-length, header-held, block-back, block
 use Rattle.encoding.proofs.Graphs.{table-of, words-of, canonical}
 use Rattle.tidying.proofs.Carried.{Carries}
 use Rattle.tidying.proofs.Swept.{unneeded-sound, swept-size, stays-slot, empty-only, empty-every, swept-table, swept-words, swept-acyclic, swept-carries, swept-twice}
+use Rattle.answers.specs.Written.{KeepsRecord}
 use Rattle.answers.specs.Statements.{Swept, GraphVerdict, Sweeps, SweepReplies, SweepKeeps, SweptTwice}
 use Rattle.answers.proofs.Blocks.{graph-verdict}
-use Rattle.answers.proofs.Tidying.{refused-why, same-bytes, layout, keeps}
+use Rattle.answers.proofs.Records.{record-kept}
+use Rattle.answers.proofs.Tidying.{refused-why, layout, keeps}
 
 module _ (graph : List ℕ) (reply : ℕ) (graphAfter : List ℕ) (contract : Swept graph reply graphAfter) where
   abbrev g : Graph
@@ -57,10 +59,10 @@ module _ (graph : List ℕ) (reply : ℕ) (graphAfter : List ℕ) (contract : Sw
     left = contract .left ∙ where-done (graphBlock (sweep g)) graph (every-sound graph sound)
 
     same-table : graphOf graphAfter ≡ sweep g
-    same-table = ap graphOf left ∙ block-back (sweep g) later words
+    same-table = ap graphOf left ∙ block-back (sweep g) later graphVersion (trueCount (sweep g)) words
 
     after-sound : SoundGraph graphAfter
-    after-sound = rw left (block-sound (sweep g) later words (swept-acyclic g table (sound .acyclic)))
+    after-sound = rw left (block-sound (sweep g) later words (swept-acyclic g table (sound .form .acyclic)))
 
     -- byte by byte
     byte-after : (i : ℕ) → byteAt graphAfter i ≡ byteAt (graphBlock (sweep g)) i
@@ -69,24 +71,23 @@ module _ (graph : List ℕ) (reply : ℕ) (graphAfter : List ℕ) (contract : Sw
     byte-before : (i : ℕ) → byteAt (graphBlock g) i ≡ byteAt graph i
     byte-before i = ap (λ (block : List ℕ). byteAt block i) (canonical graph sound (contract .lentGraph))
 
-    record-kept : (v : ℕ) → v < slotCount graph → (Unneeded g v → ⊥)
-        → (i : ℕ) → i < slotBytes → byteAt graphAfter (recordAt v + i) ≡ byteAt graph (recordAt v + i)
-    record-kept v inside needed i l =
-        byte-after (recordAt v + i)
-        ∙ same-bytes g (sweep g) table later v (omega (arith, length-slots graph)) (omega (arith, swept-size g table, length-slots graph))
-        (stays-slot g table v (fails (λ t. needed (unneeded-sound g table v t)))) i l
-        ∙ byte-before (recordAt v + i)
+    records-kept : (v : ℕ) → v < slotCount graph → (Unneeded g v → ⊥) → KeepsRecord graph graphAfter v
+    records-kept v inside needed =
+        record-kept graph graphAfter (sweep g) table later (canonical graph sound (contract .lentGraph)) left same-table v
+        (omega (arith, length-slots graph)) (omega (arith, swept-size g table, length-slots graph))
+        (stays-slot g table v (fails (λ t. needed (unneeded-sound g table v t))))
 
     header-kept : (i : ℕ) → i < headerBytes → byteAt graphAfter i ≡ byteAt graph i
     unfolding sweep
     header-kept i l =
-        byte-after i ∙ header-held (sweep g) later i l
-        ∙ ap (λ (n : ℕ). getD (headerBlock n (g .outputs)) i 0) (swept-size g table)
-        ∙ sym (header-held g table i l) ∙ byte-before i
+        byte-after i ∙ header-held (sweep g) later graphVersion (trueCount (sweep g)) i l
+        ∙ ap (λ (n : ℕ). getD (headerBlock graphVersion n (g .outputs)) i 0) (swept-size g table)
+        ∙ sym (header-held g table graphVersion (trueCount g) i l) ∙ byte-before i
 
     same-size : length graphAfter ≡ length graph
     same-size =
-        ap length left ∙ block-length (sweep g) later ∙ ap recordAt (swept-size g table) ∙ sym (block-length g table)
+        ap length left ∙ block-length (sweep g) later graphVersion (trueCount (sweep g)) ∙ ap recordAt (swept-size g table)
+        ∙ sym (block-length g table graphVersion (trueCount g))
         ∙ ap length (canonical graph sound (contract .lentGraph))
 
     sweeps : Sweeps graph graphAfter
@@ -95,7 +96,7 @@ module _ (graph : List ℕ) (reply : ℕ) (graphAfter : List ℕ) (contract : Sw
         λ f. empty-only g table v (subst (λ (t : Graph). isVertex t v ≡ false) same-table f),
         λ why. subst (λ (t : Graph). isVertex t v ≡ false) (sym same-table) (empty-every g table v why),
       );
-      records = record-kept;
+      records = records-kept;
       header = header-kept;
       size = same-size;
       sound = after-sound;
@@ -108,8 +109,8 @@ module _ (graph : List ℕ) (reply : ℕ) (graphAfter : List ℕ) (contract : Sw
         (subst (λ (t : Graph). Carries g t (λ v. isVertex t v ≡ true) (λ v. v)) (sym same-table) (swept-carries g table))
         (record { function = refl; variable = λ v t. refl })
         (same-outputs ∙ sym (map-id (g .outputs)))
-        (λ v k. after-sound .outputs v (rw same-outputs k))
-        (after-sound .outputs)
+        (λ v k. after-sound .form .outputs v (rw same-outputs k))
+        (after-sound .form .outputs)
       where
         same-outputs : graphOf graphAfter .outputs ≡ g .outputs
         same-outputs = ap (λ (t : Graph). t .outputs) same-table

@@ -1,15 +1,14 @@
 -- What sweep and squeeze have in common: a sound block before and after, and results that are carried from one table to the other.
 -- Assumes nothing.
-use mathlib.Core.Path.{_≡_, refl, sym, ap, ap₂, _∙_}
+use mathlib.Core.Path.{_≡_, refl, ap, _∙_}
 use mathlib.Core.Bool.{Bool, true}
 use mathlib.Core.List.{List, map, List·Memᴰ}
-use Prim.Native.Nat.{ℕ, _+_, _<_}
+use Prim.Native.Nat.{ℕ}
 use lib.ListN.{length, getD, length-map}
-use Rattle.definitions.specs.Fields.{byteAt}
 use Rattle.definitions.specs.declared.Refusal.{Refusal}
 use Rattle.definitions.specs.declared.Reply.{Reply}
 use Rattle.definitions.specs.declared.Reply.the-variants.{Done, Refused}
-use Rattle.definitions.specs.Graph.{slotBytes, unusedPlace, recordAt, Slot, Graph, graphOf, slotOf, isVertex, slotBlock, graphBlock, graphReply, SoundGraph}
+use Rattle.definitions.specs.Graph.{unusedPlace, Graph, graphOf, isVertex, graphReply, SoundGraph}
 use Rattle.definitions.specs.Results.{Meaning, Follows}
 use Rattle.laws.proofs.Lists.{map-at}
 use Rattle.laws.proofs.Members.{mem-at}
@@ -17,9 +16,6 @@ use Rattle.laws.proofs.Reply.{done-plain}
 use Rattle.laws.proofs.Operations.{graph-valueless}
 use Rattle.theory.proofs.Results.{Layout, results-unique, results-exist}
 use Rattle.graph_check.proofs.Sound.{only-sound}
-use Rattle.encoding.specs.Tables.{Table}
-use Rattle.encoding.proofs.Tails.{tail-zero}
-use Rattle.encoding.proofs.Blocks.{record-held}
 use Rattle.tidying.proofs.Carried.{Carries, carried-vertex, carried-results}
 use Rattle.answers.specs.Tidied.{KeepsResults}
 
@@ -31,18 +27,9 @@ refused-why graph unsound = by (graphReply graph) refl
     by (Done value) e = absurd (unsound (only-sound graph (done-plain (graph-valueless graph) e)))
     by (Refused why) e = (why, e)
 
--- a slot that is the same in two tables has the same bytes in their blocks
-pub same-bytes : (g new : Graph) → Table g → Table new → (k : ℕ) → k < length (g .slots) → k < length (new .slots)
-    → slotOf new k ≡ slotOf g k → (i : ℕ) → i < slotBytes
-    → byteAt (graphBlock new) (recordAt k + i) ≡ byteAt (graphBlock g) (recordAt k + i)
-same-bytes g new table later k inside within same i l =
-    record-held new later k within i l
-    ∙ ap₂ (λ (tail : List ℕ) (s : Slot). getD (slotBlock tail s) i 0) (tail-zero new k ∙ sym (tail-zero g k)) same
-    ∙ sym (record-held g table k inside i l)
-
 -- the table of a sound block
 pub layout : (graph : List ℕ) → SoundGraph graph → Layout (graphOf graph)
-layout graph sound = record { vertices = sound .inputs; acyclic = sound .acyclic }
+layout graph sound = record { vertices = sound .form .inputs; acyclic = sound .form .acyclic }
 
 -- results that are carried along, and those of the outputs
 module _ {ℓ} {R : Type ℓ} {m meant : Meaning R} {g new : Graph} {stays : ℕ → Bool} {to : ℕ → ℕ} where

@@ -1,28 +1,26 @@
--- 'Nothing else changes': a vertex that stays and reads no replaced output keeps every byte of its record. Theorems from the contract of
--- lg_rewrite alone.
+-- 'Nothing else changes': a vertex that stays and reads no replaced output keeps every byte of its record but its count, and its count too
+-- where as many places name it. Theorems from the contract of lg_rewrite alone.
 -- Assumes nothing.
-use mathlib.Core.Path.{_≡_, sym, ap, ap₂, _∙_}
+use mathlib.Core.Path.{_≡_, ap, _∙_}
 use mathlib.Core.List.{List, map-id}
-use Prim.Native.Nat.{ℕ, _+_, _<_}
+use Prim.Native.Nat.{ℕ, _<_}
 use lib.Dec.{T}
-use lib.ListN.{length, getD}
-use Rattle.definitions.specs.Fields.{byteAt}
+use lib.ListN.{length}
 use Rattle.definitions.specs.Reply.{numberIn}
-use Rattle.definitions.specs.Graph.{slotBytes, recordAt, Slot, Graph, renamed, graphOf, slotOf, inputsOf, slotBlock}
+use Rattle.definitions.specs.Graph.{Graph, renamed, graphOf, slotOf, inputsOf}
 use Rattle.definitions.specs.Rule.{sourceCount, Rule, ruleOf}
 use Rattle.definitions.specs.Match.{outputImages}
 use Rattle.definitions.specs.Rewriting.{stays, redirect, stayingSlot, newGraph}
 use Rattle.laws.proofs.Lists.{map-same}
 use Rattle.laws.proofs.Members.{holds, no-member}
 use Rattle.laws.proofs.Rewriting.{new-length}
-use Rattle.encoding.proofs.Tails.{tail-zero}
-use Rattle.encoding.proofs.Blocks.{record-held}
 use Rattle.encoding.proofs.Graphs.{table-of, canonical}
 use Rattle.replacement.proofs.Table.{stays-inside, redirect-other, slot-staying}
-use Rattle.answers.specs.Written.{imagesIn}
+use Rattle.answers.specs.Written.{imagesIn, KeepsRecord}
 use Rattle.answers.specs.Rewritten.{SharedConst, ReadsNone}
 use Rattle.answers.specs.Statements.{Rewrote, KeptConst}
-use Rattle.answers.proofs.Demands.{accepted, table, at, shared-stays, shared-unmoved, shared-plain}
+use Rattle.answers.proofs.Records.{record-kept}
+use Rattle.answers.proofs.Demands.{accepted, table, accepted-table, at, shared-stays, shared-unmoved, shared-plain}
 
 slot-kept : (g : Graph) (r : Rule) (images : List ℕ) (k : ℕ) → ReadsNone g r images k → stayingSlot g r images k ≡ slotOf g k
 unfolding renamed stayingSlot
@@ -34,8 +32,8 @@ module _ (graph rule : List ℕ) (start : ℕ) (before : List ℕ) (reply : ℕ)
     (contract : Rewrote graph rule start before reply graphAfter after) where
   pub keeps-record : numberIn reply ≡ 0 → (k : ℕ) → T (stays (graphOf graph) (ruleOf rule) (imagesIn after (sourceCount rule)) k)
       → ReadsNone (graphOf graph) (ruleOf rule) (imagesIn after (sourceCount rule)) k
-      → (i : ℕ) → i < slotBytes → byteAt graphAfter (recordAt k + i) ≡ byteAt graph (recordAt k + i)
-  keeps-record h k t none i l =
+      → KeepsRecord graph graphAfter k
+  keeps-record h k t none =
       let images = imagesIn after (sourceCount rule) in
       let g = graphOf graph in
       let r = ruleOf rule in
@@ -46,12 +44,9 @@ module _ (graph rule : List ℕ) (start : ℕ) (before : List ℕ) (reply : ℕ)
       let inside = stays-inside g r images k stay in
       let site = at graph rule images values (a .1) in
       let insideNew : k < length (new .slots) = rw (new-length g r images values) inside in
-      ap (λ block. byteAt block (recordAt k + i)) (a .1 .block)
-      ∙ record-held new (table graph rule images values (a .1)) k insideNew i l
-      ∙ ap₂ (λ (tail : List ℕ) (s : Slot). getD (slotBlock tail s) i 0) (tail-zero new k ∙ sym (tail-zero g k))
-      (slot-staying g r images values site k stay ∙ slot-kept g r images k none)
-      ∙ sym (record-held g (table-of graph (a .1 .sound)) k inside i l)
-      ∙ ap (λ block. byteAt block (recordAt k + i)) (canonical graph (a .1 .sound) (contract .lentGraph))
+      record-kept graph graphAfter new (table-of graph (a .1 .sound)) (table graph rule images values (a .1))
+      (canonical graph (a .1 .sound) (contract .lentGraph)) (a .1 .block) (accepted-table graph rule images values (a .1) (contract .lentGraph)) k
+      inside insideNew (slot-staying g r images values site k stay ∙ slot-kept g r images k none)
 
   -- A shared constant stays with its record, and no place that names it is redirected.
   pub keeps-constant : numberIn reply ≡ 0 → (v : ℕ) → SharedConst (graphOf graph) (ruleOf rule) (imagesIn after (sourceCount rule)) v

@@ -15,17 +15,18 @@ use lib.IntN.{ℤ}
 use lib.ListN.{length}
 use Rattle.definitions.specs.Lists.{member}
 use Rattle.definitions.specs.Fields.{Bytes, byteAt, u16At}
-use Rattle.definitions.specs.Reply.{badMapLength, badGraphHeader, badGraphRecord, badGraphName, graphHasCycle, badRuleHeader, badRuleRecord, badRuleOrder, badRuleOutputs, badRuleExpression, noMatch, noResult, noRoom, newCycle, badMovesLength, packed, numberIn, placeIn, valueIn}
-use Rattle.definitions.specs.Graph.{headerBytes, slotBytes, unusedPlace, slotCount, recordAt, renamed, graphOf, slotOf, isVertex, graphBlock, graphReply, SoundGraph}
+use Rattle.definitions.specs.Reply.{badMapLength, badGraphHeader, badGraphRecord, badGraphName, graphHasCycle, badGraphCount, badRuleHeader, badRuleRecord, badRuleOrder, badRuleOutputs, badRuleExpression, noMatch, noResult, noRoom, newCycle, badMovesLength, packed, numberIn, placeIn, valueIn}
+use Rattle.definitions.specs.Graph.{headerBytes, slotBytes, unusedPlace, importVersion, slotCount, renamed, Graph, graphOf, slotOf, isVertex, graphBlock, graphReply, SoundAs, SoundGraph}
 use Rattle.definitions.specs.Rule.{sourceCount, ruleOf, ruleReply, SoundRule}
-use Rattle.definitions.specs.Faults.{GraphFault, RuleFault}
+use Rattle.definitions.specs.Faults.{FaultAs, GraphFault, RuleFault}
 use Rattle.definitions.specs.Match.{readAttribute, MatchFrom, LeastFrom}
 use Rattle.definitions.specs.Rewriting.{targetResults, stays, redirect, newGraph}
 use Rattle.definitions.specs.Operations.{atReturn, returned, mapPlaces, mapBytes, findMatch, rewrite}
 use Rattle.definitions.specs.Sweep.{Unneeded, sweepGraph}
 use Rattle.definitions.specs.Squeeze.{squeezeReply, squeezeGraph, squeezeMoves}
+use Rattle.definitions.specs.Import.{importReply, importGraph}
 use Rattle.definitions.specs.Results.{Meaning, Follows}
-use Rattle.answers.specs.Written.{imagesIn}
+use Rattle.answers.specs.Written.{imagesIn, OutsideVersion, OutsideCount, SameByte, KeepsRecord}
 use Rattle.answers.specs.Rewritten.{Due, SharedConst, ReadsNone, Keeps}
 use Rattle.answers.specs.Tidied.{wentTo, Renumbers, KeepsResults}
 
@@ -66,6 +67,12 @@ pub record Squeezed (graph moves : List ℕ) (reply : ℕ) (graphAfter movesAfte
   pub lentGraph : Bytes graph
   pub lentMoves : Bytes moves
 
+-- lg_import: reply and graph bytes are the definition's; likewise
+pub record Imported (graph : List ℕ) (reply : ℕ) (graphAfter : List ℕ) : Type 0 where
+  pub replied : reply ≡ packed (importReply graph)
+  pub left : graphAfter ≡ importGraph graph
+  pub lentGraph : Bytes graph
+
 -- ==== what follows: the checks
 
 -- The C side reads number n in bits 0 to 7 of a reply, where 0 is done, and place p in bits 8 to 39. No request names a value yet.
@@ -74,9 +81,12 @@ pub record Says (reply n p : ℕ) : Type 0 where
   pub place : placeIn reply ≡ p
   pub value : valueIn reply ≡ 0
 
--- the kinds of fault of a graph block, and of a rule block
+-- the kinds of fault of a graph block of either version, those of version 2, and those of a rule block
+abbrev pub formNumbers : List ℕ
+formNumbers = badGraphHeader ∷ badGraphRecord ∷ badGraphName ∷ graphHasCycle ∷ []
+
 abbrev pub graphNumbers : List ℕ
-graphNumbers = badGraphHeader ∷ badGraphRecord ∷ badGraphName ∷ graphHasCycle ∷ []
+graphNumbers = formNumbers ++ badGraphCount ∷ []
 
 abbrev pub ruleNumbers : List ℕ
 ruleNumbers = badRuleHeader ∷ badRuleRecord ∷ badRuleOrder ∷ badRuleOutputs ∷ badRuleExpression ∷ []
@@ -94,13 +104,18 @@ pub record Verdict (Sound : Type 0) (Fault : ℕ → ℕ → Type 0) (bad : List
   pub plain : numberIn reply ≡ 0 → placeIn reply ≡ 0
   pub value : valueIn reply ≡ 0
 
--- "20 to 23 replace 2". Follows from CheckedGraph
+-- "20 to 23 replace 2", and "24 after 23". Follows from CheckedGraph
 abbrev pub GraphVerdict : List ℕ → ℕ → Type 0
 GraphVerdict graph reply = Verdict (SoundGraph graph) (GraphFault graph) graphNumbers reply
 
 -- "30 to 34 replace 3". Follows from CheckedRule
 abbrev pub RuleVerdict : List ℕ → ℕ → Type 0
 RuleVerdict rule reply = Verdict (SoundRule rule) (RuleFault rule) ruleNumbers reply
+
+-- "A sound block is the block of its graph": so two sound blocks of bytes that stand for one graph are the same bytes, and what an
+-- operation says of the graph at the return it says of every byte. Follows from the definitions.
+abbrev pub OneBlock : Type 0
+OneBlock = (one other : List ℕ) → Bytes one → Bytes other → SoundGraph one → SoundGraph other → graphOf one ≡ graphOf other → one ≡ other
 
 -- ==== what follows: matching and rewriting
 
@@ -116,7 +131,7 @@ blockNumbers = badMapLength ∷ graphNumbers ++ ruleNumbers
 pub record BlockReplies (graph rule map : List ℕ) (reply : ℕ) : Type 0 where
   -- "1: map buffer isn't 32 bytes"
   pub wrongMap : (numberIn reply ≡ badMapLength) ↔ (length map ≡ mapBytes → ⊥)
-  -- "20 to 23 replace 2": a bad graph block
+  -- "20 to 23 replace 2", and "24 after 23": a bad graph block
   pub wrongGraph : (member (numberIn reply) graphNumbers ≡ true) ↔ ((length map ≡ mapBytes) × (SoundGraph graph → ⊥))
   -- "30 to 34 replace 3": a bad rule block
   pub wrongRule : (member (numberIn reply) ruleNumbers ≡ true)
@@ -150,18 +165,19 @@ pub record MatchReplies (graph rule : List ℕ) (start : ℕ) (map : List ℕ) (
   -- "4: no match from s"
   pub none : (numberIn reply ≡ noMatch)
       ↔ (Good graph rule map × ((images : List ℕ) → MatchFrom (graphOf graph) (ruleOf rule) start images → ⊥))
-  -- "matching 0 to 4", with 20 to 23 for 2 and 30 to 34 for 3
+  -- "matching 0 to 4", with 20 to 24 for 2 and 30 to 34 for 3
   pub listed : member (numberIn reply) matchNumbers ≡ true
   -- "Only rewriting writes the graph." "After a refusal each lent byte is as it came."
   pub graphKept : graphAfter ≡ graph
   pub refusalKeeps : (numberIn reply ≡ 0 → ⊥) → mapAfter ≡ map
   pub written : numberIn reply ≡ 0 → WritesLeast graph rule start mapAfter
 
--- vertex v stays, with every byte of its record, and what stays and names it goes on to name it: no place that does is redirected
+-- vertex v stays, with every byte of its record but its count, and what stays and names it goes on to name it: no place that does is
+-- redirected
 pub record KeptConst (graph rule images graphAfter : List ℕ) (v : ℕ) : Type 0 where
   pub kept : T (stays (graphOf graph) (ruleOf rule) images v)
   pub named : redirect (graphOf graph) (ruleOf rule) images v ≡ v
-  pub bytes : (i : ℕ) → i < slotBytes → byteAt graphAfter (recordAt v + i) ≡ byteAt graph (recordAt v + i)
+  pub bytes : KeepsRecord graph graphAfter v
 
 -- "An accepted rewriting yields the one table that document 01 describes": for the match `images`, with the results of the target
 -- vertices' expressions. Its block is sound, so that rewritings can follow one another.
@@ -172,9 +188,9 @@ pub record Yields (graph rule images graphAfter : List ℕ) : Type 0 where
   pub table : graphOf graphAfter ≡ newGraph (graphOf graph) (ruleOf rule) images values
   pub sound : SoundGraph graphAfter
   -- "Nothing else changes" is said by `block`. A part of it, by bytes: a vertex that stays and reads no replaced output keeps every byte
-  -- of its record.
+  -- of its record, and its count may change alone, where other places name it than before.
   pub records : (k : ℕ) → T (stays (graphOf graph) (ruleOf rule) images k) → ReadsNone (graphOf graph) (ruleOf rule) images k
-      → (i : ℕ) → i < slotBytes → byteAt graphAfter (recordAt k + i) ≡ byteAt graph (recordAt k + i)
+      → KeepsRecord graph graphAfter k
   -- "It is removed only if all its reads come from images of non-input source vertices and no graph output names it; otherwise it is a
   -- staying vertex."
   pub constants : (v : ℕ) → SharedConst (graphOf graph) (ruleOf rule) images v → KeptConst graph rule images graphAfter v
@@ -207,14 +223,14 @@ pub record Demand3 {ℓ} {R : Type ℓ} (m : Meaning R) (graph rule graphAfter m
 
 -- ==== what follows: the sweep
 
--- What an accepted sweep leaves. Together this is every byte: a slot that is Empty in a sound block has one content.
+-- What an accepted sweep leaves. Together this is every byte: a slot that is Empty in a sound block has one content, and a count is the true
+-- one.
 pub record Sweeps (graph graphAfter : List ℕ) : Type 0 where
   -- "Every vertex from which no graph output is reached becomes Empty, except Variables": Empty after is what was so, and these
   pub empty : (v : ℕ) → (isVertex (graphOf graphAfter) v ≡ false)
       ↔ ((isVertex (graphOf graph) v ≡ false) ⊎ Unneeded (graphOf graph) v)
-  -- every other record keeps every byte, and so does the header
-  pub records : (v : ℕ) → v < slotCount graph → (Unneeded (graphOf graph) v → ⊥)
-      → (i : ℕ) → i < slotBytes → byteAt graphAfter (recordAt v + i) ≡ byteAt graph (recordAt v + i)
+  -- every other record keeps every byte but its count, which is true again by `sound`, and the header keeps every byte
+  pub records : (v : ℕ) → v < slotCount graph → (Unneeded (graphOf graph) v → ⊥) → KeepsRecord graph graphAfter v
   pub header : (i : ℕ) → i < headerBytes → byteAt graphAfter i ≡ byteAt graph i
   -- N and the block's length stay
   pub size : length graphAfter ≡ length graph
@@ -291,3 +307,31 @@ SqueezedTwice graphAfter movesAfter =
     → length moves ≡ length movesAfter
     → (numberIn reply ≡ 0) × (again ≡ graphAfter)
     × ((v : ℕ) → isVertex (graphOf graphAfter) v ≡ true → wentTo movesAgain v ≡ v)
+
+-- ==== what follows: the import
+
+-- What an accepted import leaves. Together this is every byte.
+pub record Imports (graph graphAfter : List ℕ) : Type 0 where
+  -- "An import turns a sound version 1 block into version 2", which stands for the same graph: so every result is the same
+  pub sound : SoundGraph graphAfter
+  pub table : graphOf graphAfter ≡ graphOf graph
+  -- every byte is the same but those of the version and of the counts
+  pub header : (i : ℕ) → i < headerBytes → OutsideVersion i → byteAt graphAfter i ≡ byteAt graph i
+  pub records : (k : ℕ) → k < slotCount graph → (i : ℕ) → i < slotBytes → OutsideCount i → SameByte graph graphAfter k i
+  pub size : length graphAfter ≡ length graph
+
+-- follows from Imported
+pub record ImportReplies (graph : List ℕ) (reply : ℕ) (graphAfter : List ℕ) : Type 0 where
+  -- the rules of version 1 alone, and never 24
+  pub verdict : Verdict (SoundAs importVersion graph) (FaultAs importVersion graph) formNumbers reply
+  pub refusalKeeps : (numberIn reply ≡ 0 → ⊥) → graphAfter ≡ graph
+  pub imports : numberIn reply ≡ 0 → Imports graph graphAfter
+
+-- "Any other version is 20", of version 2 too: a second import is refused, and changes nothing. Follows from Imported and reply 0.
+abbrev pub ImportedOnce : List ℕ → Type 0
+ImportedOnce graphAfter =
+    (reply : ℕ) (again : List ℕ) → Imported graphAfter reply again → Says reply badGraphHeader 0 × (again ≡ graphAfter)
+
+-- And of version 1 everywhere else: a block that the import takes is refused by the check. Follows from CheckedGraph.
+abbrev pub OldRefused : List ℕ → ℕ → Type 0
+OldRefused graph reply = SoundAs importVersion graph → Says reply badGraphHeader 0

@@ -9,8 +9,8 @@ use Prim.Native.Nat.{ℕ, _+_, _<_}
 use lib.ListN.{length, getD}
 use Rattle.definitions.specs.Fields.{byteAt}
 use Rattle.definitions.specs.Paths.{Reads, OnCycle}
-use Rattle.definitions.specs.Reply.{badGraphHeader, badGraphRecord, badGraphName, graphHasCycle, badRuleHeader, badRuleRecord, badRuleOrder, badRuleOutputs, badRuleExpression}
-use Rattle.definitions.specs.Graph.{unusedPlace, slotCount, recordAt, Graph, graphOf, inputsOf, isVertex, headerFits, recordFits}
+use Rattle.definitions.specs.Reply.{badGraphHeader, badGraphRecord, badGraphName, graphHasCycle, badGraphCount, badRuleHeader, badRuleRecord, badRuleOrder, badRuleOutputs, badRuleExpression}
+use Rattle.definitions.specs.Graph.{unusedPlace, graphVersion, slotCount, recordAt, storedCount, Graph, graphOf, inputsOf, isVertex, trueCount, headerFits, recordFits, SoundAs}
 use Rattle.definitions.specs.Rule.{sideLimit, sourceCount, targetCount, nodeCount, vertexAt, Rule, ruleOf, ruleHeaderFits, badVertex, traversal, GoodOutputs, nodeFits, useFits}
 
 -- p has the fault, and nothing below it has
@@ -25,8 +25,8 @@ None Bad = (k : ℕ) → Bad k → ⊥
 -- ---- a graph block
 
 -- slot k has a record against its kind
-abbrev pub BadRecord : List ℕ → ℕ → Type 0
-BadRecord block k = (k < slotCount block) × (recordFits block (recordAt k) ≡ false)
+abbrev pub BadRecord : ℕ → List ℕ → ℕ → Type 0
+BadRecord version block k = (k < slotCount block) × (recordFits version block (recordAt k) ≡ false)
 
 -- slot k has an input that names no vertex
 abbrev pub BadInput : Graph → ℕ → Type 0
@@ -36,20 +36,30 @@ BadInput g k = (v : ℕ) × Reads (inputsOf g) k v × (isVertex g v ≡ false)
 abbrev pub BadOutput : Graph → ℕ → Type 0
 BadOutput g i = (i < length (g .outputs)) × (isVertex g (getD (g .outputs) i unusedPlace) ≡ false)
 
-pub data GraphFault (block : List ℕ) : ℕ → ℕ → Type 0 where
+-- slot k stores another count than the true one
+abbrev pub BadCount : List ℕ → ℕ → Type 0
+BadCount block k = (k < slotCount block) × (storedCount block k ≡ trueCount (graphOf block) k → ⊥)
+
+-- a fault by the rules of a version, counts aside
+pub data FaultAs (version : ℕ) (block : List ℕ) : ℕ → ℕ → Type 0 where
   -- 20: length or header
-  header : headerFits block ≡ false → GraphFault block badGraphHeader 0
+  header : headerFits version block ≡ false → FaultAs version block badGraphHeader 0
   -- 21: a record against its kind
-  slot : {k : ℕ} → headerFits block ≡ true → Lowest (BadRecord block) k → GraphFault block badGraphRecord k
+  slot : {k : ℕ} → headerFits version block ≡ true → Lowest (BadRecord version block) k → FaultAs version block badGraphRecord k
   -- 22: an input that names no vertex; the place is the slot that reads
-  input : {k : ℕ} → headerFits block ≡ true → None (BadRecord block) → Lowest (BadInput (graphOf block)) k
-      → GraphFault block badGraphName k
+  input : {k : ℕ} → headerFits version block ≡ true → None (BadRecord version block) → Lowest (BadInput (graphOf block)) k
+      → FaultAs version block badGraphName k
   -- 22 too: "for a graph output, looked at after all inputs, its place, 0 to 3"
-  output : {i : ℕ} → headerFits block ≡ true → None (BadRecord block) → None (BadInput (graphOf block))
-      → Lowest (BadOutput (graphOf block)) i → GraphFault block badGraphName i
+  output : {i : ℕ} → headerFits version block ≡ true → None (BadRecord version block) → None (BadInput (graphOf block))
+      → Lowest (BadOutput (graphOf block)) i → FaultAs version block badGraphName i
   -- 23: "for a cycle, the lowest slot on one"
-  cycle : {v : ℕ} → headerFits block ≡ true → None (BadRecord block) → None (BadInput (graphOf block)) → None (BadOutput (graphOf block))
-      → Lowest (OnCycle (inputsOf (graphOf block))) v → GraphFault block graphHasCycle v
+  cycle : {v : ℕ} → headerFits version block ≡ true → None (BadRecord version block) → None (BadInput (graphOf block))
+      → None (BadOutput (graphOf block)) → Lowest (OnCycle (inputsOf (graphOf block))) v → FaultAs version block graphHasCycle v
+
+pub data GraphFault (block : List ℕ) : ℕ → ℕ → Type 0 where
+  form : {n p : ℕ} → FaultAs graphVersion block n p → GraphFault block n p
+  -- 24: "a wrong count is 24, place the lowest such slot, after 23"
+  count : {k : ℕ} → SoundAs graphVersion block → Lowest (BadCount block) k → GraphFault block badGraphCount k
 
 -- ---- a rule block; "target vertex t counts as S + t"
 

@@ -1,7 +1,8 @@
--- 'The graph block': its fields, the graph for which a block stands, and the faults of a block.
+-- 'The graph block': its fields, the graph for which a block stands, and the faults of a block. Request 5/13 has made version 2 of it, which
+-- every operation takes but the import; that takes version 1.
 -- Assumes nothing.
 use mathlib.Core.Path.{_≡_}
-use mathlib.Core.Bool.{Bool, true, false, not, _&&_, _||_}
+use mathlib.Core.Bool.{Bool, true, false, cond, not, _&&_, _||_}
 use mathlib.Core.List.{List, [], _∷_, _++_, map, List·Memᴰ}
 use Prim.Native.Nat.{ℕ, _+_, _-_, _*_, _<_}
 use lib.Dec.{eqb, ltb}
@@ -12,7 +13,7 @@ use Rattle.definitions.specs.Lists.{within, lowest, total, tabulate, all
 use Rattle.definitions.specs.Fields.{byteAt, u16At, u32At, filled, markFits, signed, u16Bytes, u32Bytes}
 use Rattle.definitions.specs.Operators.{kindEmpty, kindVariable, kindProj, shapeFits}
 use Rattle.definitions.specs.Paths.{Reads, Acyclic, onCycle}
-use Rattle.definitions.specs.Reply.{badGraphHeader, badGraphRecord, badGraphName, graphHasCycle, Fault, fault, flag, place, judged}
+use Rattle.definitions.specs.Reply.{badGraphHeader, badGraphRecord, badGraphName, graphHasCycle, badGraphCount, Fault, fault, flag, place, judged}
 
 -- ---- sizes
 
@@ -42,6 +43,13 @@ tailOffset = 40
 abbrev pub tailBytes : ℕ
 tailBytes = slotBytes - tailOffset
 
+-- a tail starts with the record's count, a 16-bit number; the rest of it is zero
+abbrev pub countOffset : ℕ
+countOffset = tailOffset
+
+abbrev pub countBytes : ℕ
+countBytes = 2
+
 abbrev pub slotLimit : ℕ
 slotLimit = 512
 
@@ -62,8 +70,15 @@ unusedPlace = 65535
 abbrev pub graphLetter : ℕ
 graphLetter = 84
 
+abbrev pub versionOffset : ℕ
+versionOffset = 4
+
 abbrev pub graphVersion : ℕ
-graphVersion = 1
+graphVersion = 2
+
+-- what the import takes
+abbrev pub importVersion : ℕ
+importVersion = 1
 
 -- ---- fields
 
@@ -76,6 +91,10 @@ outputCount block = u16At block 8
 -- where the record of slot k starts
 abbrev pub recordAt : ℕ → ℕ
 recordAt k = headerBytes + slotBytes * k
+
+-- the count that slot k's record stores
+abbrev pub storedCount : List ℕ → ℕ → ℕ
+storedCount block k = u16At block (recordAt k + countOffset)
 
 -- ---- the graph of a block
 
@@ -129,15 +148,15 @@ isVariable g v = eqb (slotOf g v .kind) kindVariable
 unfoldable pub readsOf : Graph → ℕ → ℕ
 readsOf g v = total (λ w. count v (inputsOf g w)) (length (g .slots))
 
--- how many input places and graph outputs name slot v
-unfoldable pub usesOf : Graph → ℕ → ℕ
-usesOf g v = readsOf g v + count v (g .outputs)
+-- "the number of input places and graph outputs that name this slot": places are counted, and not readers
+unfoldable pub trueCount : Graph → ℕ → ℕ
+trueCount g v = readsOf g v + count v (g .outputs)
 
 -- ---- the block of a graph
 
--- the tail of slot k's record: zero for now
-unfoldable pub slotTail : Graph → ℕ → List ℕ
-slotTail g k = replicate tailBytes 0
+-- the tail of a record that stores this count
+unfoldable pub countTail : ℕ → List ℕ
+countTail n = u16Bytes n ++ replicate (tailBytes - countBytes) 0
 
 -- the record of a slot, with the tail that it is given
 unfoldable pub slotBlock : List ℕ → Slot → List ℕ
@@ -147,25 +166,31 @@ slotBlock tail s =
     ++ concatMap u32Bytes (padded attributeLimit 0 (s .attributes))
     ++ tail
 
--- the record of slot k, and those of the first n slots
-abbrev pub recordBlock : Graph → ℕ → List ℕ
-recordBlock g k = slotBlock (slotTail g k) (slotOf g k)
+-- the record of slot k, and those of the first n slots, with these counts
+abbrev pub recordBlock : (ℕ → ℕ) → Graph → ℕ → List ℕ
+recordBlock counts g k = slotBlock (countTail (counts k)) (slotOf g k)
 
-abbrev pub recordsBlock : Graph → ℕ → List ℕ
-recordsBlock g n = concatMap (recordBlock g) (tabulate n (λ k. k))
+abbrev pub recordsBlock : (ℕ → ℕ) → Graph → ℕ → List ℕ
+recordsBlock counts g n = concatMap (recordBlock counts g) (tabulate n (λ k. k))
 
 -- the header for n slots and these outputs
-unfoldable pub headerBlock : ℕ → List ℕ → List ℕ
-headerBlock n outputs =
+unfoldable pub headerBlock : ℕ → ℕ → List ℕ → List ℕ
+headerBlock version n outputs =
     (76 ∷ 71 ∷ graphLetter ∷ 0 ∷ [])
-    ++ u16Bytes graphVersion
+    ++ u16Bytes version
     ++ u16Bytes n
     ++ u16Bytes (length outputs)
     ++ concatMap u16Bytes (padded outputLimit unusedPlace outputs)
     ++ replicate (headerBytes - outputsEnd) 0
 
-unfoldable pub graphBlock : Graph → List ℕ
-graphBlock g = headerBlock (length (g .slots)) (g .outputs) ++ recordsBlock g (length (g .slots))
+-- a block that stands for a graph, with this version and these counts
+unfoldable pub blockAs : ℕ → (ℕ → ℕ) → Graph → List ℕ
+blockAs version counts g =
+    headerBlock version (length (g .slots)) (g .outputs) ++ recordsBlock counts g (length (g .slots))
+
+-- the block of a graph has the true counts
+abbrev pub graphBlock : Graph → List ℕ
+graphBlock g = blockAs graphVersion (trueCount g) g
 
 -- ---- faults, by kind, in document 01's order
 
@@ -175,11 +200,11 @@ outputPlacesFit block =
     within 1 (outputCount block) outputLimit && filled block (outputsOffset + 2 * outputCount block) outputsEnd 255
 
 -- length and header, with the unused output places
-unfoldable pub headerFits : List ℕ → Bool
-headerFits block =
+unfoldable pub headerFits : ℕ → List ℕ → Bool
+headerFits version block =
     eqb (length block) (recordAt (slotCount block))
     && markFits block graphLetter
-    && eqb (u16At block 4) graphVersion
+    && eqb (u16At block versionOffset) version
     && within 1 (slotCount block) slotLimit
     && outputPlacesFit block
     && filled block outputsEnd headerBytes 0
@@ -189,17 +214,21 @@ unfoldable pub atLeastOne : ℤ → Bool
 atLeastOne (pos n) = ltb 0 n
 atLeastOne (negsuc n) = false
 
--- the record that starts at `at` follows its kind: the tables, the unused places, a Proj's index, and a tail of zero bytes
-unfoldable pub recordFits : List ℕ → ℕ → Bool
-recordFits block at =
+-- where a record's last zero bytes start: version 1 has no count
+unfoldable pub zerosOffset : ℕ → ℕ
+zerosOffset version = cond (eqb version importVersion) countOffset (countOffset + countBytes)
+
+-- the record that starts at `at` follows its kind: the tables, the unused places, a Proj's index, and zero bytes at its end
+unfoldable pub recordFits : ℕ → List ℕ → ℕ → Bool
+recordFits version block at =
     shapeFits (byteAt block at) (byteAt block (at + 1)) (byteAt block (at + 2)) (byteAt block (at + 3))
     && filled block (at + inputsOffset + 2 * byteAt block (at + 2)) (at + attributesOffset) 255
     && filled block (at + attributesOffset + 4 * byteAt block (at + 3)) (at + tailOffset) 0
     && (not (eqb (byteAt block at) kindProj) || atLeastOne (signed (u32At block (at + attributesOffset))))
-    && filled block (at + tailOffset) (at + slotBytes) 0
+    && filled block (at + zerosOffset version) (at + slotBytes) 0
 
-unfoldable pub badRecord : List ℕ → ℕ → Bool
-badRecord block k = not (recordFits block (recordAt k))
+unfoldable pub badRecord : ℕ → List ℕ → ℕ → Bool
+badRecord version block k = not (recordFits version block (recordAt k))
 
 -- slot k has an input that names no vertex
 unfoldable pub badInputs : Graph → ℕ → Bool
@@ -216,28 +245,48 @@ lowestOnCycle g = lowest (onCycle (inputsOf g) (length (g .slots))) (length (g .
 unfoldable pub hasCycle : Graph → Bool
 hasCycle g = ltb (lowestOnCycle g) (length (g .slots))
 
--- all kinds of fault; an output is looked at after all inputs
-unfoldable pub graphFaults : List ℕ → List Fault
-graphFaults block =
-    fault badGraphHeader (flag (not (headerFits block)))
-    ∷ fault badGraphRecord (place (slotCount block) (lowest (badRecord block) (slotCount block)))
+-- slot k stores a wrong count
+unfoldable pub badCount : List ℕ → ℕ → Bool
+badCount block k = not (eqb (storedCount block k) (trueCount (graphOf block) k))
+
+-- the kinds of fault that a block of either version can have; an output is looked at after all inputs
+unfoldable pub faultsAs : ℕ → List ℕ → List Fault
+faultsAs version block =
+    fault badGraphHeader (flag (not (headerFits version block)))
+    ∷ fault badGraphRecord (place (slotCount block) (lowest (badRecord version block) (slotCount block)))
     ∷ fault badGraphName (place (slotCount block) (lowest (badInputs (graphOf block)) (slotCount block)))
     ∷ fault badGraphName (place (outputCount block) (lowest (badOutput (graphOf block)) (outputCount block)))
     ∷ fault graphHasCycle (place (slotCount block) (lowestOnCycle (graphOf block)))
     ∷ []
 
+-- "a wrong count is 24, place the lowest such slot, after 23"
+unfoldable pub countFaults : List ℕ → List Fault
+countFaults block = fault badGraphCount (place (slotCount block) (lowest (badCount block) (slotCount block))) ∷ []
+
+-- what judging a block by the rules of a version gives, counts aside
+unfoldable pub replyAs : ℕ → List ℕ → Reply
+replyAs version block = judged (faultsAs version block)
+
 -- what checking a graph gives
 unfoldable pub graphReply : List ℕ → Reply
-graphReply block = judged (graphFaults block)
+graphReply block = judged (faultsAs graphVersion block ++ countFaults block)
 
 -- ---- a sound graph; it is proved that the reply is done exactly for these
 
--- The first two parts are the tests above, which say by bytes what the paper says of the header and of a record. The other three are the
--- paper's sentences and no tests: "Each input and each output names a slot that isn't Empty." and "No vertex has a path of one or more
--- edges to itself." What the code computes for these is proved to be the same.
-pub record SoundGraph (block : List ℕ) : Type 0 where
-  pub header : headerFits block ≡ true
-  pub records : (k : ℕ) → k < slotCount block → recordFits block (recordAt k) ≡ true
+-- Sound by the rules of a version, counts aside. The first two parts are the tests above, which say by bytes what the paper says of the
+-- header and of a record. The other three are the paper's sentences and no tests: "Each input and each output names a slot that isn't
+-- Empty." and "No vertex has a path of one or more edges to itself." What the code computes for these is proved to be the same.
+pub record SoundAs (version : ℕ) (block : List ℕ) : Type 0 where
+  pub header : headerFits version block ≡ true
+  pub records : (k : ℕ) → k < slotCount block → recordFits version block (recordAt k) ≡ true
   pub inputs : (k v : ℕ) → Reads (inputsOf (graphOf block)) k v → isVertex (graphOf block) v ≡ true
   pub outputs : (v : ℕ) → List·Memᴰ v (graphOf block .outputs) → isVertex (graphOf block) v ≡ true
   pub acyclic : Acyclic (inputsOf (graphOf block))
+
+-- every slot, an Empty one too, stores its true count
+abbrev pub TrueCounts : List ℕ → Type 0
+TrueCounts block = (k : ℕ) → k < slotCount block → storedCount block k ≡ trueCount (graphOf block) k
+
+pub record SoundGraph (block : List ℕ) : Type 0 where
+  pub form : SoundAs graphVersion block
+  pub counts : TrueCounts block

@@ -14,4 +14,5 @@ pub mod Rewriting
 pub mod Operations
 pub mod Sweep
 pub mod Squeeze
+pub mod Import
 pub mod Results

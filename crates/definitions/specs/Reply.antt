@@ -12,7 +12,8 @@ use Rattle.definitions.specs.declared.Reply.the-variants.{Done, Refused}
 abbrev pub badMapLength : ℕ
 badMapLength = 1
 
--- what is wrong with a graph block: length or header; a record against its kind; an input or output that names no vertex; a cycle
+-- what is wrong with a graph block: length or header; a record against its kind; an input or output that names no vertex; a cycle; a wrong
+-- count
 abbrev pub badGraphHeader : ℕ
 badGraphHeader = 20
 
@@ -24,6 +25,9 @@ badGraphName = 22
 
 abbrev pub graphHasCycle : ℕ
 graphHasCycle = 23
+
+abbrev pub badGraphCount : ℕ
+badGraphCount = 24
 
 -- what is wrong with a rule block: length or header; a record, with its input places; visiting order; outputs and connection; an
 -- expression

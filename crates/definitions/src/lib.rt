@@ -17,14 +17,22 @@ pub const ATTRIBUTES_OFFSET: usize = 16;
 pub const TAIL_OFFSET: usize = 40;
 
 pub const TAIL_BYTES: usize = SLOT_BYTES - TAIL_OFFSET;
+// A tail starts with the record's count.
+pub const COUNT_OFFSET: usize = TAIL_OFFSET;
+
+pub const COUNT_BYTES: usize = 2;
 
 pub const SLOT_LIMIT: usize = 512;
 
 pub const OUTPUT_LIMIT: usize = 4;
-// The letter of its mark, `T`, and its version.
+// The letter of its mark, `T`, where its version stands, and the version; the import takes another.
 pub const GRAPH_LETTER: usize = 84;
 
-pub const GRAPH_VERSION: usize = 1;
+pub const VERSION_OFFSET: usize = 4;
+
+pub const GRAPH_VERSION: usize = 2;
+
+pub const IMPORT_VERSION: usize = 1;
 
 // The rule block.
 pub const RULE_HEADER_BYTES: usize = 16;

@@ -1,4 +1,5 @@
--- The block of a graph stands for that graph: what is read from it is the graph, and it is sound where the graph is.
+-- A block that is made of a graph, of any version and with any counts, stands for that graph: what is read from it is the graph. One of
+-- version 2 is sound where the graph is and the counts are true.
 -- Assumes nothing.
 use mathlib.Core.Path.{_≡_, sym, ap, fun-ext, _∙_}
 use mathlib.Core.Bool.{true, false, not, _||_}
@@ -8,30 +9,24 @@ use Prim.Native.Nat.{ℕ, _+_, _*_, _^_, _<_, _≤_}
 use native.Mathlib.Omega.{arith}
 use borrow.Author.Tests.{leb-true, ltb-true, ltb-false}
 use lib.Dec.{eqb, ltb, leb}
-use lib.ListN.{length, getD, take, drop, length-drop, List·getD-eq-default}
-use lib.Seq.{length-take-le, getD-take, getD-drop, take-at, ext-getD}
+use lib.ListN.{length, getD, take, drop, List·getD-eq-default}
+use lib.Seq.{take-at}
 use Rattle.definitions.specs.Fields.{byteAt, signed, filled}
 use Rattle.definitions.specs.Operators.{kindEmpty, kindProj, shapeFits}
 use Rattle.definitions.specs.Paths.{Acyclic}
-use Rattle.definitions.specs.Graph.{headerBytes, slotBytes, tailOffset, slotLimit, outputLimit, inputLimit, attributeLimit, unusedPlace, slotCount, recordAt, Slot, Graph, emptySlot, slotFrom, graphOf, slotOf, inputsOf, isVertex, slotTail, recordBlock, recordsBlock, headerBlock, graphBlock, atLeastOne, lowestOnCycle, hasCycle, SoundGraph}
+use Rattle.definitions.specs.Graph.{headerBytes, slotBytes, tailOffset, tailBytes, slotLimit, outputLimit, inputLimit, attributeLimit, unusedPlace, graphVersion, slotCount, recordAt, storedCount, Slot, Graph, emptySlot, slotFrom, graphOf, slotOf, inputsOf, isVertex, trueCount, readsOf, countTail, recordBlock, recordsBlock, headerBlock, blockAs, graphBlock, atLeastOne, zerosOffset, lowestOnCycle, hasCycle, SoundAs, SoundGraph}
 use Rattle.laws.proofs.Lists.{decided, and-left, and-right}
 use Rattle.laws.proofs.Members.{mem-at}
+use Rattle.laws.proofs.Sums.{count-length}
+use Rattle.laws.proofs.Counts.{reads-most}
 use Rattle.laws.proofs.Operators.{few-inputs, few-attributes}
 use Rattle.laws.proofs.Graph.{slot-past, vertex-inside, slot-of, length-slots, length-attributes}
-use Rattle.graph_fields.specs.Layout.{ReadableGraph, Closed}
+use Rattle.graph_fields.specs.Layout.{ReadableGraph, Closed, OutputsNamed}
 use Rattle.encoding.specs.Tables.{slotFits, Table, Words}
-use Rattle.encoding.proofs.Pieces.{at-first, at-second, length-two, tabulated, length-numbered, numbered-at}
+use Rattle.encoding.proofs.Pieces.{at-first, tabulated, headed-length, headed-at, headed-cut}
 use Rattle.encoding.proofs.Records.{length-slot, tail-held, kind-back, operator-back, attribute-count-back, inputs-back, attributes-back, record-fits}
-use Rattle.encoding.proofs.Tails.{length-tail, tail-fits}
+use Rattle.encoding.proofs.Tails.{length-tail, count-read-back, tail-fits}
 use Rattle.encoding.proofs.Headers.{length-header, count-back, output-count-back, outputs-back, header-fits}
-
--- ---- the two parts of a graph's block
-
-abbrev header : Graph → List ℕ
-header g = headerBlock (length (g .slots)) (g .outputs)
-
-abbrev records : Graph → List ℕ
-records g = recordsBlock g (length (g .slots))
 
 module _ (g : Graph) (table : Table g) where
   -- ---- what the graph's counts are, and its inputs
@@ -69,193 +64,235 @@ module _ (g : Graph) (table : Table g) where
   output-inside i l =
       let v = getD (g .outputs) i unusedPlace in vertex-inside g v (table .outputs v (mem-at (g .outputs) i unusedPlace l))
 
-  -- ---- where the block holds the header and the records
+  -- an attribute is a word, and so is what stands past the last
+  pub word-at : Words g → (k : ℕ) → k < length (g .slots) → (i : ℕ) → getD (slotOf g k .attributes) i 0 < 2 ^ 32
+  word-at words k inside i =
+      let xs = slotOf g k .attributes in
+      ⊎-elim (λ (t : ltb i (length xs) ≡ true).
+      words k inside (getD xs i 0) (mem-at xs i 0 (ltb-true i (length xs) t)))
+      (λ (t : ltb i (length xs) ≡ false).
+      omega (arith, List·getD-eq-default xs 0 (ltb-false i (length xs) t)))
+      (decided (ltb i (length xs)))
 
-  pub sized : (k : ℕ) → k < length (g .slots) → length (recordBlock g k) ≡ slotBytes
-  sized k l = length-slot (slotOf g k) (inputs-fit k l) (attributes-fit k l) (slotTail g k) (length-tail g k)
+  module _ (version : ℕ) (counts : ℕ → ℕ) where
+    abbrev made : List ℕ
+    made = blockAs version counts g
 
-  length-headed : length (header g) ≡ headerBytes
-  length-headed = length-header (length (g .slots)) (g .outputs) few-outputs
+    abbrev header : List ℕ
+    header = headerBlock version (length (g .slots)) (g .outputs)
 
-  pub block-length : length (graphBlock g) ≡ recordAt (length (g .slots))
-  unfolding graphBlock
-  block-length =
-      length-two (header g) (records g) headerBytes (slotBytes * length (g .slots)) length-headed
-      (length-numbered (recordBlock g) slotBytes (length (g .slots)) (λ k. k) sized)
+    abbrev recorded : List ℕ
+    recorded = recordsBlock counts g (length (g .slots))
 
-  -- the first 24 bytes are the header's
-  pub header-held : (i : ℕ) → i < headerBytes → byteAt (graphBlock g) i ≡ getD (header g) i 0
-  unfolding graphBlock
-  header-held i l = at-first (header g) (records g) headerBytes i 0 length-headed l
+    -- ---- where the block holds the header and the records
 
-  -- and the 48 from `recordAt k` on are those of slot k's record
-  pub record-held : (k : ℕ) → k < length (g .slots) → (i : ℕ) → i < slotBytes
-      → byteAt (graphBlock g) (recordAt k + i) ≡ getD (recordBlock g k) i 0
-  unfolding graphBlock
-  record-held k l i m =
-      let e : recordAt k + i ≡ headerBytes + (slotBytes * k + i) = omega arith in
-      rw e (at-second (header g) (records g) headerBytes (slotBytes * k + i) 0 length-headed
-      ∙ numbered-at (recordBlock g) slotBytes (length (g .slots)) (λ j. j) sized k i 0 l m)
+    pub sized : (k : ℕ) → k < length (g .slots) → length (recordBlock counts g k) ≡ slotBytes
+    sized k l = length-slot (slotOf g k) (inputs-fit k l) (attributes-fit k l) (countTail (counts k)) (length-tail (counts k))
 
-  -- so they can be cut out
-  pub record-cut : (k : ℕ) → k < length (g .slots) → take slotBytes (drop (recordAt k) (graphBlock g)) ≡ recordBlock g k
-  record-cut k l =
-      let run = take slotBytes (drop (recordAt k) (graphBlock g)) in
-      let long : length run ≡ slotBytes =
-      length-take-le slotBytes (drop (recordAt k) (graphBlock g)) (simp length-drop (omega (arith, block-length))) in
-      ext-getD 0 run (recordBlock g k) (long ∙ sym (sized k l))
-      (λ i m.
-      let inside : i < slotBytes = omega arith in
-      getD-take slotBytes (drop (recordAt k) (graphBlock g)) i 0 inside ∙ getD-drop (recordAt k) (graphBlock g) i 0
-      ∙ record-held k l i inside)
+    length-headed : length header ≡ headerBytes
+    length-headed = length-header version (length (g .slots)) (g .outputs) few-outputs
 
-  pub header-cut : take headerBytes (graphBlock g) ≡ header g
-  unfolding graphBlock
-  header-cut = take-at (header g) (records g) headerBytes length-headed
+    pub block-length : length made ≡ recordAt (length (g .slots))
+    unfolding blockAs
+    block-length = headed-length header headerBytes slotBytes (length (g .slots)) (recordBlock counts g) length-headed sized
 
-  -- ---- what is read from it
+    -- the first 24 bytes are the header's
+    pub header-held : (i : ℕ) → i < headerBytes → byteAt made i ≡ getD header i 0
+    unfolding blockAs
+    header-held i l = at-first header recorded headerBytes i 0 length-headed l
 
-  pub block-slots : slotCount (graphBlock g) ≡ length (g .slots)
-  block-slots =
-      count-back (length (g .slots)) (g .outputs) few-outputs (graphBlock g) header-held (omega (arith, few-slots))
+    -- and the 48 from `recordAt k` on are those of slot k's record
+    pub record-held : (k : ℕ) → k < length (g .slots) → (i : ℕ) → i < slotBytes
+        → byteAt made (recordAt k + i) ≡ getD (recordBlock counts g k) i 0
+    unfolding blockAs
+    record-held = headed-at header headerBytes slotBytes (length (g .slots)) (recordBlock counts g) length-headed sized 0
 
-  pub block-outputs : graphOf (graphBlock g) .outputs ≡ g .outputs
-  block-outputs =
-      outputs-back (length (g .slots)) (g .outputs) few-outputs (graphBlock g) header-held
-      (λ i l. omega (arith, output-inside i l, few-slots))
+    -- so they can be cut out
+    pub record-cut : (k : ℕ) → k < length (g .slots) → take slotBytes (drop (recordAt k) made) ≡ recordBlock counts g k
+    unfolding blockAs
+    record-cut = headed-cut header headerBytes slotBytes (length (g .slots)) (recordBlock counts g) length-headed sized 0
 
-  module _ (k : ℕ) (inside : k < length (g .slots)) where
-    read-from : slotOf (graphOf (graphBlock g)) k ≡ slotFrom (graphBlock g) (recordAt k)
-    read-from = slot-of (graphBlock g) k (omega (arith, block-slots))
+    pub header-cut : take headerBytes made ≡ header
+    unfolding blockAs
+    header-cut = take-at header recorded headerBytes length-headed
 
-    kind-same : slotFrom (graphBlock g) (recordAt k) .kind ≡ slotOf g k .kind
-    unfolding slotFrom
-    kind-same =
-        kind-back (slotOf g k) (inputs-fit k inside) (attributes-fit k inside) (slotTail g k) (graphBlock g) (recordAt k) (record-held k inside)
+    -- ---- what is read from it
 
-    operator-same : slotFrom (graphBlock g) (recordAt k) .operator ≡ slotOf g k .operator
-    unfolding slotFrom
-    operator-same =
-        operator-back (slotOf g k) (inputs-fit k inside) (attributes-fit k inside) (slotTail g k) (graphBlock g) (recordAt k) (record-held k inside)
+    pub block-slots : slotCount made ≡ length (g .slots)
+    block-slots =
+        count-back version (length (g .slots)) (g .outputs) few-outputs made header-held (omega (arith, few-slots))
 
-    inputs-same : slotFrom (graphBlock g) (recordAt k) .inputs ≡ slotOf g k .inputs
-    inputs-same =
-        inputs-back (slotOf g k) (inputs-fit k inside) (attributes-fit k inside) (slotTail g k) (graphBlock g) (recordAt k) (record-held k inside)
-        (λ i l. omega (arith, input-inside k i l, few-slots))
+    pub block-outputs : graphOf made .outputs ≡ g .outputs
+    block-outputs =
+        outputs-back version (length (g .slots)) (g .outputs) few-outputs made header-held
+        (λ i l. omega (arith, output-inside i l, few-slots))
 
-    attribute-count-same : length (slotFrom (graphBlock g) (recordAt k) .attributes) ≡ length (slotOf g k .attributes)
-    attribute-count-same =
-        length-attributes (graphBlock g) (recordAt k)
-        ∙ attribute-count-back (slotOf g k) (inputs-fit k inside) (attributes-fit k inside) (slotTail g k) (graphBlock g) (recordAt k)
-        (record-held k inside)
+    module _ (k : ℕ) (inside : k < length (g .slots)) where
+      read-from : slotOf (graphOf made) k ≡ slotFrom made (recordAt k)
+      read-from = slot-of made k (omega (arith, block-slots))
 
-    tail-same : filled (graphBlock g) (recordAt k + tailOffset) (recordAt k + slotBytes) 0 ≡ true
-    tail-same =
-        tail-fits g k (graphBlock g) (recordAt k)
-        (tail-held (slotOf g k) (inputs-fit k inside) (attributes-fit k inside) (slotTail g k) (graphBlock g) (recordAt k)
-        (record-held k inside))
+      kind-same : slotFrom made (recordAt k) .kind ≡ slotOf g k .kind
+      unfolding slotFrom
+      kind-same =
+          kind-back (slotOf g k) (inputs-fit k inside) (attributes-fit k inside) (countTail (counts k)) made (recordAt k) (record-held k inside)
 
-  -- a field of every slot, where it is the same within
-  everywhere : {A : Type 0} (field : Slot → A)
-      → ((k : ℕ) → k < length (g .slots) → field (slotFrom (graphBlock g) (recordAt k)) ≡ field (slotOf g k))
-      → (v : ℕ) → field (slotOf (graphOf (graphBlock g)) v) ≡ field (slotOf g v)
-  everywhere field same v =
-      ⊎-elim (λ (t : ltb v (length (g .slots)) ≡ true).
-      let inside = ltb-true v (length (g .slots)) t in
-      ap field (read-from v inside) ∙ same v inside)
-      (λ (t : ltb v (length (g .slots)) ≡ false).
-      let past = ltb-false v (length (g .slots)) t in
-      ap field (slot-past (graphOf (graphBlock g)) v (omega (arith, length-slots (graphBlock g), block-slots)))
-      ∙ sym (ap field (slot-past g v past)))
-      (decided (ltb v (length (g .slots))))
+      operator-same : slotFrom made (recordAt k) .operator ≡ slotOf g k .operator
+      unfolding slotFrom
+      operator-same =
+          operator-back (slotOf g k) (inputs-fit k inside) (attributes-fit k inside) (countTail (counts k)) made (recordAt k) (record-held k inside)
 
-  -- a slot's kind, operator and inputs come back, and how many attributes it has: these need not be words
-  pub block-kind : (v : ℕ) → slotOf (graphOf (graphBlock g)) v .kind ≡ slotOf g v .kind
-  block-kind = everywhere (λ (s : Slot). s .kind) kind-same
+      inputs-same : slotFrom made (recordAt k) .inputs ≡ slotOf g k .inputs
+      inputs-same =
+          inputs-back (slotOf g k) (inputs-fit k inside) (attributes-fit k inside) (countTail (counts k)) made (recordAt k) (record-held k inside)
+          (λ i l. omega (arith, input-inside k i l, few-slots))
 
-  pub block-operator : (v : ℕ) → slotOf (graphOf (graphBlock g)) v .operator ≡ slotOf g v .operator
-  block-operator = everywhere (λ (s : Slot). s .operator) operator-same
+      attribute-count-same : length (slotFrom made (recordAt k) .attributes) ≡ length (slotOf g k .attributes)
+      attribute-count-same =
+          length-attributes made (recordAt k)
+          ∙ attribute-count-back (slotOf g k) (inputs-fit k inside) (attributes-fit k inside) (countTail (counts k)) made (recordAt k)
+          (record-held k inside)
 
-  pub block-inputs : (v : ℕ) → inputsOf (graphOf (graphBlock g)) v ≡ inputsOf g v
-  block-inputs = everywhere (λ (s : Slot). s .inputs) inputs-same
+      tail-same : (i : ℕ) → i < tailBytes → byteAt made (recordAt k + tailOffset + i) ≡ getD (countTail (counts k)) i 0
+      tail-same =
+          tail-held (slotOf g k) (inputs-fit k inside) (attributes-fit k inside) (countTail (counts k)) made (recordAt k) (record-held k inside)
 
-  pub block-attribute-count : (v : ℕ) → length (slotOf (graphOf (graphBlock g)) v .attributes) ≡ length (slotOf g v .attributes)
-  block-attribute-count = everywhere (λ (s : Slot). length (s .attributes)) attribute-count-same
+      -- the count that it stores
+      pub block-count : counts k < 65536 → storedCount made k ≡ counts k
+      block-count = count-read-back (counts k) made (recordAt k) tail-same
 
-  pub block-vertex : (v : ℕ) → isVertex (graphOf (graphBlock g)) v ≡ isVertex g v
-  unfolding isVertex
-  block-vertex v = ap (λ (kind : ℕ). not (eqb kind kindEmpty)) (block-kind v)
+    -- a field of every slot, where it is the same within
+    everywhere : {A : Type 0} (field : Slot → A)
+        → ((k : ℕ) → k < length (g .slots) → field (slotFrom made (recordAt k)) ≡ field (slotOf g k))
+        → (v : ℕ) → field (slotOf (graphOf made) v) ≡ field (slotOf g v)
+    everywhere field same v =
+        ⊎-elim (λ (t : ltb v (length (g .slots)) ≡ true).
+        let inside = ltb-true v (length (g .slots)) t in
+        ap field (read-from v inside) ∙ same v inside)
+        (λ (t : ltb v (length (g .slots)) ≡ false).
+        let past = ltb-false v (length (g .slots)) t in
+        ap field (slot-past (graphOf made) v (omega (arith, length-slots made, block-slots)))
+        ∙ sym (ap field (slot-past g v past)))
+        (decided (ltb v (length (g .slots))))
 
-  -- so the code can read the block, also of a graph that has a cycle or an attribute that is no word
-  pub block-readable : ReadableGraph (graphBlock g)
-  block-readable = record {
-    whole = record {
-      size = rw block-slots block-length;
-      slots = omega (arith, block-slots, few-slots);
-      outputs = omega (arith, output-count-back (length (g .slots)) (g .outputs) few-outputs (graphBlock g) header-held, few-outputs);
-    };
-    inputs = λ k l. rw (block-inputs k) (inputs-fit k (omega (arith, block-slots)));
-    attributes = λ k l. rw (block-attribute-count k) (attributes-fit k (omega (arith, block-slots)));
-  }
+    -- a slot's kind, operator and inputs come back, and how many attributes it has: these need not be words
+    pub block-kind : (v : ℕ) → slotOf (graphOf made) v .kind ≡ slotOf g v .kind
+    block-kind = everywhere (λ (s : Slot). s .kind) kind-same
 
-  pub block-closed : Closed (graphBlock g)
-  block-closed = record {
-    named = λ k i l m. rw (block-inputs k, block-slots) (input-inside k i (rw (block-inputs k) at m));
-  }
+    pub block-operator : (v : ℕ) → slotOf (graphOf made) v .operator ≡ slotOf g v .operator
+    block-operator = everywhere (λ (s : Slot). s .operator) operator-same
 
-  -- and a cycle is one of both or of none
-  pub block-cycle : hasCycle (graphOf (graphBlock g)) ≡ hasCycle g
-  unfolding hasCycle lowestOnCycle
-  block-cycle =
-      let same : inputsOf (graphOf (graphBlock g)) ≡ inputsOf g = fun-ext block-inputs in
-      let size : length (graphOf (graphBlock g) .slots) ≡ length (g .slots) = length-slots (graphBlock g) ∙ block-slots in
-      rw (same, size)
+    pub block-inputs : (v : ℕ) → inputsOf (graphOf made) v ≡ inputsOf g v
+    block-inputs = everywhere (λ (s : Slot). s .inputs) inputs-same
 
-  -- ---- a graph whose attributes are words comes back whole
+    pub block-attribute-count : (v : ℕ) → length (slotOf (graphOf made) v .attributes) ≡ length (slotOf g v .attributes)
+    block-attribute-count = everywhere (λ (s : Slot). length (s .attributes)) attribute-count-same
 
-  module _ (words : Words g) where
-    -- an attribute is a word, and so is what stands past the last
-    pub word-at : (k : ℕ) → k < length (g .slots) → (i : ℕ) → getD (slotOf g k .attributes) i 0 < 2 ^ 32
-    word-at k inside i =
-        let xs = slotOf g k .attributes in
-        ⊎-elim (λ (t : ltb i (length xs) ≡ true).
-        words k inside (getD xs i 0) (mem-at xs i 0 (ltb-true i (length xs) t)))
-        (λ (t : ltb i (length xs) ≡ false).
-        omega (arith, List·getD-eq-default xs 0 (ltb-false i (length xs) t)))
-        (decided (ltb i (length xs)))
+    pub block-vertex : (v : ℕ) → isVertex (graphOf made) v ≡ isVertex g v
+    unfolding isVertex
+    block-vertex v = ap (λ (kind : ℕ). not (eqb kind kindEmpty)) (block-kind v)
 
-    attributes-same : (k : ℕ) → k < length (g .slots) → slotFrom (graphBlock g) (recordAt k) .attributes ≡ slotOf g k .attributes
-    attributes-same k inside =
-        attributes-back (slotOf g k) (inputs-fit k inside) (attributes-fit k inside) (slotTail g k) (graphBlock g) (recordAt k)
-        (record-held k inside) (λ i l. word-at k inside i)
-
-    slot-same : (k : ℕ) → k < length (g .slots) → slotFrom (graphBlock g) (recordAt k) ≡ slotOf g k
-    slot-same k inside = λ i. record {
-      kind = kind-same k inside i;
-      operator = operator-same k inside i;
-      inputs = inputs-same k inside i;
-      attributes = attributes-same k inside i;
+    -- so the code can read the block, also of a graph that has a cycle or an attribute that is no word
+    pub block-readable : ReadableGraph made
+    block-readable = record {
+      whole = record {
+        size = rw block-slots block-length;
+        slots = omega (arith, block-slots, few-slots);
+        outputs = omega (arith, output-count-back version (length (g .slots)) (g .outputs) few-outputs made header-held, few-outputs);
+      };
+      inputs = λ k l. rw (block-inputs k) (inputs-fit k (omega (arith, block-slots)));
+      attributes = λ k l. rw (block-attribute-count k) (attributes-fit k (omega (arith, block-slots)));
     }
 
-    slots-same : graphOf (graphBlock g) .slots ≡ g .slots
-    unfolding graphOf slotOf
-    slots-same =
-        tabulated (slotCount (graphBlock g)) (λ k. slotFrom (graphBlock g) (recordAt k)) (g .slots) emptySlot block-slots slot-same
-
-    -- the block stands for the graph
-    pub block-back : graphOf (graphBlock g) ≡ g
-    block-back = λ i. record { slots = slots-same i; outputs = block-outputs i }
-
-    -- and it is sound where the graph has no cycle
-    pub block-sound : Acyclic (inputsOf g) → SoundGraph (graphBlock g)
-    block-sound acyclic = record {
-      header = header-fits (length (g .slots)) (g .outputs) few-outputs (graphBlock g) header-held block-length
-          (table .size) (table .outputCount) (omega (arith, few-slots));
-      records = λ k l.
-          let inside : k < length (g .slots) = omega (arith, block-slots) in
-          record-fits (slotOf g k) (inputs-fit k inside) (attributes-fit k inside) (slotTail g k) (graphBlock g) (recordAt k)
-          (record-held k inside) (table .shapes k inside) (word-at k inside 0) (tail-same k inside);
-      inputs = rw block-back (table .inputs);
-      outputs = rw block-back (table .outputs);
-      acyclic = rw block-back acyclic;
+    pub block-closed : Closed made
+    block-closed = record {
+      named = λ k i l m. rw (block-inputs k, block-slots) (input-inside k i (rw (block-inputs k) at m));
     }
+
+    pub block-outputs-named : OutputsNamed made
+    block-outputs-named = record {
+      named = λ i l.
+          let inside : i < length (g .outputs) =
+          omega (arith, output-count-back version (length (g .slots)) (g .outputs) few-outputs made header-held) in
+          rw (block-outputs, block-slots) (output-inside i inside);
+    }
+
+    -- the true counts are those of the graph
+    pub block-true-count : (v : ℕ) → trueCount (graphOf made) v ≡ trueCount g v
+    unfolding trueCount readsOf
+    block-true-count v =
+        let same : inputsOf (graphOf made) ≡ inputsOf g = fun-ext block-inputs in
+        let size : length (graphOf made .slots) ≡ length (g .slots) = length-slots made ∙ block-slots in
+        rw (same, size, block-outputs)
+
+    -- and a cycle is one of both or of none
+    pub block-cycle : hasCycle (graphOf made) ≡ hasCycle g
+    unfolding hasCycle lowestOnCycle
+    block-cycle =
+        let same : inputsOf (graphOf made) ≡ inputsOf g = fun-ext block-inputs in
+        let size : length (graphOf made .slots) ≡ length (g .slots) = length-slots made ∙ block-slots in
+        rw (same, size)
+
+    -- ---- a graph whose attributes are words comes back whole
+
+    module _ (words : Words g) where
+      attributes-same : (k : ℕ) → k < length (g .slots) → slotFrom made (recordAt k) .attributes ≡ slotOf g k .attributes
+      attributes-same k inside =
+          attributes-back (slotOf g k) (inputs-fit k inside) (attributes-fit k inside) (countTail (counts k)) made (recordAt k)
+          (record-held k inside) (λ i l. word-at words k inside i)
+
+      slot-same : (k : ℕ) → k < length (g .slots) → slotFrom made (recordAt k) ≡ slotOf g k
+      slot-same k inside = λ i. record {
+        kind = kind-same k inside i;
+        operator = operator-same k inside i;
+        inputs = inputs-same k inside i;
+        attributes = attributes-same k inside i;
+      }
+
+      slots-same : graphOf made .slots ≡ g .slots
+      unfolding graphOf slotOf
+      slots-same =
+          tabulated (slotCount made) (λ k. slotFrom made (recordAt k)) (g .slots) emptySlot block-slots slot-same
+
+      -- the block stands for the graph
+      pub block-back : graphOf made ≡ g
+      block-back = λ i. record { slots = slots-same i; outputs = block-outputs i }
+
+  -- ---- and the one of version 2 is sound where the graph has no cycle
+
+  module _ (counts : ℕ → ℕ) (words : Words g) where
+    pub block-form : Acyclic (inputsOf g) → SoundAs graphVersion (blockAs graphVersion counts g)
+    block-form acyclic =
+        let made = blockAs graphVersion counts g in
+        let back = block-back graphVersion counts words in
+        record {
+          header = header-fits graphVersion (length (g .slots)) (g .outputs) few-outputs made (header-held graphVersion counts)
+              (block-length graphVersion counts) (table .size) (table .outputCount) (omega arith) (omega (arith, few-slots));
+          records = λ k l.
+              let inside : k < length (g .slots) = omega (arith, block-slots graphVersion counts) in
+              record-fits (slotOf g k) (inputs-fit k inside) (attributes-fit k inside) (countTail (counts k)) made (recordAt k)
+              (record-held graphVersion counts k inside) graphVersion (table .shapes k inside) (word-at words k inside 0)
+              (tail-fits (counts k) made (recordAt k) (tail-same graphVersion counts k inside));
+          inputs = rw back (table .inputs);
+          outputs = rw back (table .outputs);
+          acyclic = rw back acyclic;
+        }
+
+  -- a count is a 16-bit number
+  pub count-small : (k : ℕ) → trueCount g k < 65536
+  unfolding trueCount readsOf
+  count-small k =
+      omega (
+        arith,
+        reads-most (inputsOf g) (length (g .slots)) k inputs-fit,
+        few-slots,
+        count-length k (g .outputs),
+        few-outputs,
+      )
+
+  pub block-sound : Words g → Acyclic (inputsOf g) → SoundGraph (graphBlock g)
+  block-sound words acyclic = record {
+    form = block-form (trueCount g) words acyclic;
+    counts = λ k l.
+        let inside : k < length (g .slots) = omega (arith, block-slots graphVersion (trueCount g)) in
+        rw (block-back graphVersion (trueCount g) words) (block-count graphVersion (trueCount g) k inside (count-small k));
+  }

@@ -1,8 +1,9 @@
--- The graph of a sound block: its tables are a sound graph's, its attributes are words, and its block is that block.
+-- The graph of a sound block: its tables are a sound graph's, its attributes are words, and the block is made of it. So a sound graph has
+-- one block.
 -- Assumes nothing.
 use mathlib.Core.Path.{_≡_, refl, sym, ap, _∙_}
 use mathlib.Core.Bool.{true, false, and-false}
-use mathlib.Core.List.{List, List·Memᴰ}
+use mathlib.Core.List.{List, _++_, List·Memᴰ}
 use mathlib.Core.Logic.{⊎-elim}
 use Prim.Native.Nat.{ℕ, _+_, _*_, _^_, _<_}
 use native.Mathlib.Omega.{arith}
@@ -12,9 +13,10 @@ use lib.ListN.{length, getD, length-map}
 use lib.Seq.{ext-getD}
 use Rattle.definitions.specs.Fields.{byteAt, Bytes, u32At, signed}
 use Rattle.definitions.specs.Operators.{kindProj, rowOf, kinds, shapeFits}
-use Rattle.definitions.specs.Graph.{headerBytes, slotBytes, attributesOffset, slotCount, outputCount, recordAt, Slot, emptySlot, renamed, slotFrom, graphOf, slotTail, slotBlock, headerBlock, graphBlock, atLeastOne, recordFits, SoundGraph}
+use Rattle.definitions.specs.Graph.{headerBytes, slotBytes, attributesOffset, graphVersion, slotCount, outputCount, recordAt, storedCount, Slot, Graph, emptySlot, renamed, slotFrom, graphOf, slotOf, trueCount, countTail, slotBlock, recordBlock, headerBlock, blockAs, graphBlock, atLeastOne, recordFits, SoundAs, SoundGraph}
 use Rattle.laws.proofs.Lists.{decided, needed}
 use Rattle.laws.proofs.Members.{tabulate-mem}
+use Rattle.laws.proofs.Pieces.{pieces-same}
 use Rattle.laws.proofs.Operators.{row-attributes}
 use Rattle.laws.proofs.Graph.{slot-of, length-slots, length-outputs, length-inputs, length-attributes, attribute-of, header-size, slots-within, outputs-within, record-shape}
 use Rattle.encoding.specs.Tables.{slotFits, Table, Words}
@@ -54,7 +56,7 @@ unfolding renamed slotFits
 renamed-fits to s fits = rw (length-map (s .inputs) to) fits
 
 -- a record that follows its kind gives such a slot
-module _ (block : List ℕ) (at : ℕ) (fits : recordFits block at ≡ true) where
+module _ (version : ℕ) (block : List ℕ) (at : ℕ) (fits : recordFits version block at ≡ true) where
   index-read : byteAt block at ≡ kindProj → atLeastOne (signed (u32At block (at + attributesOffset))) ≡ true
   unfolding recordFits
   index-read proj = needed (atLeastOne (signed (u32At block (at + attributesOffset)))) fits (λ f. simp (proj, f, and-false))
@@ -63,21 +65,24 @@ module _ (block : List ℕ) (at : ℕ) (fits : recordFits block at ≡ true) whe
   unfolding slotFrom
   slot-read =
       follows (slotFrom block at)
-      (rw (length-inputs block at, length-attributes block at) (record-shape block at fits))
+      (rw (length-inputs block at, length-attributes block at) (record-shape block version at fits))
       (λ proj l.
       let first : at + attributesOffset + 4 * 0 ≡ at + attributesOffset = omega arith in
       rw (attribute-of block at 0 0 (rw (length-attributes block at) at l), first) (index-read proj))
 
-pub table-of : (block : List ℕ) → SoundGraph block → Table (graphOf block)
-table-of block sound = record {
-  size = rw (length-slots block) (slots-within block (sound .header));
-  outputCount = rw (length-outputs block) (outputs-within block (sound .header));
+pub table-as : (version : ℕ) (block : List ℕ) → SoundAs version block → Table (graphOf block)
+table-as version block sound = record {
+  size = rw (length-slots block) (slots-within block version (sound .header));
+  outputCount = rw (length-outputs block) (outputs-within block version (sound .header));
   shapes = λ k l.
       let inside : k < slotCount block = omega (arith, length-slots block) in
-      rw (slot-of block k inside) (slot-read block (recordAt k) (sound .records k inside));
+      rw (slot-of block k inside) (slot-read version block (recordAt k) (sound .records k inside));
   inputs = sound .inputs;
   outputs = sound .outputs;
 }
+
+pub table-of : (block : List ℕ) → SoundGraph block → Table (graphOf block)
+table-of block sound = table-as graphVersion block (sound .form)
 
 -- ---- attributes are read from four bytes
 
@@ -91,29 +96,52 @@ pub words-of : (block : List ℕ) → Bytes block → Words (graphOf block)
 words-of block bytes k l w m =
     word-read block bytes (recordAt k) w (rw (slot-of block k (omega (arith, length-slots block))) at m)
 
--- ---- a sound block is the block of its graph
+-- ---- a sound block of either version is made of its graph and of the counts that it stores
 
-module _ (block : List ℕ) (sound : SoundGraph block) (bytes : Bytes block) where
-  header-same : (i : ℕ) → i < headerBytes → byteAt (graphBlock (graphOf block)) i ≡ byteAt block i
+module _ (version : ℕ) (block : List ℕ) (sound : SoundAs version block) (bytes : Bytes block) where
+  abbrev made : List ℕ
+  made = blockAs version (storedCount block) (graphOf block)
+
+  table : Table (graphOf block)
+  table = table-as version block sound
+
+  header-same : (i : ℕ) → i < headerBytes → byteAt made i ≡ byteAt block i
   header-same i l =
-      header-held (graphOf block) (table-of block sound) i l
-      ∙ ap (λ (n : ℕ). getD (headerBlock n (graphOf block .outputs)) i 0) (length-slots block)
-      ∙ header-read block (sound .header) bytes i l
+      header-held (graphOf block) table version (storedCount block) i l
+      ∙ ap (λ (n : ℕ). getD (headerBlock version n (graphOf block .outputs)) i 0) (length-slots block)
+      ∙ header-read version block (sound .header) bytes i l
 
   record-same : (k i : ℕ) → k < slotCount block → i < slotBytes
-      → byteAt (graphBlock (graphOf block)) (headerBytes + (slotBytes * k + i)) ≡ byteAt block (headerBytes + (slotBytes * k + i))
+      → byteAt made (headerBytes + (slotBytes * k + i)) ≡ byteAt block (headerBytes + (slotBytes * k + i))
   record-same k i l m =
       let e : headerBytes + (slotBytes * k + i) ≡ recordAt k + i = omega arith in
       let fits = sound .records k l in
-      rw e (record-held (graphOf block) (table-of block sound) k (omega (arith, length-slots block)) i m
-      ∙ ap (λ (s : Slot). getD (slotBlock (slotTail (graphOf block) k) s) i 0) (slot-of block k l)
-      ∙ record-read block (recordAt k) fits bytes (slotTail (graphOf block) k) (tail-read (graphOf block) k block (recordAt k) fits) i m)
+      let tail = countTail (storedCount block k) in
+      rw e (record-held (graphOf block) table version (storedCount block) k (omega (arith, length-slots block)) i m
+      ∙ ap (λ (s : Slot). getD (slotBlock tail s) i 0) (slot-of block k l)
+      ∙ record-read version block (recordAt k) fits bytes tail (tail-read version block (recordAt k) fits bytes) i m)
 
-  pub canonical : graphBlock (graphOf block) ≡ block
-  canonical =
-      let length-same : length (graphBlock (graphOf block)) ≡ recordAt (slotCount block) =
-      block-length (graphOf block) (table-of block sound) ∙ ap recordAt (length-slots block) in
-      let Same : ℕ → Type 0 = λ i. byteAt (graphBlock (graphOf block)) i ≡ byteAt block i in
-      ext-getD 0 (graphBlock (graphOf block)) block (length-same ∙ sym (header-size block (sound .header)))
+  pub canonical-as : made ≡ block
+  canonical-as =
+      let length-same : length made ≡ recordAt (slotCount block) =
+      block-length (graphOf block) table version (storedCount block) ∙ ap recordAt (length-slots block) in
+      let Same : ℕ → Type 0 = λ i. byteAt made i ≡ byteAt block i in
+      ext-getD 0 made block (length-same ∙ sym (header-size block version (sound .header)))
       (λ i l. in-parts Same headerBytes (slotBytes * slotCount block) header-same
       (in-pieces (λ j. Same (headerBytes + j)) slotBytes (slotCount block) (omega arith) record-same) i (omega arith))
+
+-- ---- and a sound block has the true ones: it is the block of its graph
+
+pub counts-same : (version : ℕ) (one other : ℕ → ℕ) (g : Graph) → ((k : ℕ) → k < length (g .slots) → one k ≡ other k)
+    → blockAs version one g ≡ blockAs version other g
+unfolding blockAs
+counts-same version one other g same =
+    ap (λ (bytes : List ℕ). headerBlock version (length (g .slots)) (g .outputs) ++ bytes)
+    (pieces-same (recordBlock one g) (recordBlock other g) (length (g .slots))
+    (λ k l. ap (λ (n : ℕ). slotBlock (countTail n) (slotOf g k)) (same k l)))
+
+pub canonical : (block : List ℕ) → SoundGraph block → Bytes block → graphBlock (graphOf block) ≡ block
+canonical block sound bytes =
+    counts-same graphVersion (trueCount (graphOf block)) (storedCount block) (graphOf block)
+    (λ k l. sym (sound .counts k (omega (arith, length-slots block))))
+    ∙ canonical-as graphVersion block (sound .form) bytes

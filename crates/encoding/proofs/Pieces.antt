@@ -1,17 +1,17 @@
 -- A list that is made of pieces, by index: pieces of one size that stand one after the other, and what holds of every index
 -- because it holds of the indices of each part.
 -- Assumes nothing.
-use mathlib.Core.Path.{_≡_, ap, ap₂, _∙_}
+use mathlib.Core.Path.{_≡_, sym, ap, ap₂, _∙_}
 use mathlib.Core.Bool.{true, false}
 use mathlib.Core.List.{List, [], _∷_, _++_}
 use mathlib.Core.Logic.{⊎-elim}
 use Prim.Native.Nat.{ℕ, zero, suc, _+_, _-_, _*_, _/_, _%_, _<_, _≤_}
-use native.Mathlib.Nat.{not-suc-le-zero, le-of-suc-le-suc, mod-lt, div-add-mod, div-lt-iff-lt-mul, mul-comm}
+use native.Mathlib.Nat.{not-suc-le-zero, le-of-suc-le-suc, mod-lt, div-add-mod, div-lt-iff-lt-mul, mul-comm, mul-suc, mul-le-mul-left}
 use native.Mathlib.Omega.{arith}
 use borrow.Author.Tests.{ltb-true, ltb-false}
 use lib.Dec.{ltb}
-use lib.ListN.{length, getD, length-append, List·getD-append}
-use lib.Seq.{getD-append-add, ext-getD}
+use lib.ListN.{length, getD, take, drop, length-append, length-drop, List·getD-append}
+use lib.Seq.{length-take-le, getD-take, getD-drop, getD-append-add, ext-getD}
 use Rattle.definitions.specs.Lists.{tabulate, concatMap}
 use Rattle.laws.proofs.Lists.{decided, length-tabulate, getD-tabulate}
 use Rattle.laws.proofs.Pieces.{length-pieces}
@@ -101,3 +101,32 @@ module _ {A : Type 0} {B : Type 0} (f : A → List B) (size n : ℕ) (h : ℕ �
   numbered-at k i b l m =
       piece-at f size (h 0) (tabulate n h) each-sized k i b (omega (arith, length-tabulate n h)) m
       ∙ ap (λ (x : A). getD (f x) i b) (getD-tabulate n h k (h 0) l)
+
+-- and of pieces that stand behind a head
+module _ {B : Type 0} (head : List B) (from size n : ℕ) (f : ℕ → List B) (start : length head ≡ from)
+    (sized : (k : ℕ) → k < n → length (f k) ≡ size) where
+  abbrev headed : List B
+  headed = head ++ concatMap f (tabulate n (λ k. k))
+
+  pub headed-length : length headed ≡ from + size * n
+  headed-length = length-two head (concatMap f (tabulate n (λ k. k))) from (size * n) start (length-numbered f size n (λ k. k) sized)
+
+  pub headed-at : (b : B) (k : ℕ) → k < n → (i : ℕ) → i < size → getD headed (from + size * k + i) b ≡ getD (f k) i b
+  headed-at b k l i m =
+      let e : from + size * k + i ≡ from + (size * k + i) = omega arith in
+      rw e (at-second head (concatMap f (tabulate n (λ j. j))) from (size * k + i) b start ∙ numbered-at f size n (λ j. j) sized k i b l m)
+
+  -- so a piece can be cut out
+  pub headed-cut : (b : B) (k : ℕ) → k < n → take size (drop (from + size * k) headed) ≡ f k
+  headed-cut b k l =
+      let run = take size (drop (from + size * k) headed) in
+      let inside : size * k + size ≤ size * n = pieces-below k l in
+      let long : length run ≡ size =
+      length-take-le size (drop (from + size * k) headed) (simp length-drop (omega (arith, headed-length))) in
+      ext-getD b run (f k) (long ∙ sym (sized k l))
+      (λ i m.
+      let within : i < size = omega arith in
+      getD-take size (drop (from + size * k) headed) i b within ∙ getD-drop (from + size * k) headed i b ∙ headed-at b k l i within)
+    where
+      pieces-below : (k : ℕ) → k < n → size * k + size ≤ size * n
+      pieces-below k l = rw (← mul-suc size k) (mul-le-mul-left size l)

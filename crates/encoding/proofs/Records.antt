@@ -12,32 +12,36 @@ use lib.ListN.{length, getD}
 use Rattle.definitions.specs.Lists.{padded, concatMap}
 use Rattle.definitions.specs.Fields.{byteAt, Bytes, u16At, u32At, filled, signed, u16Bytes, u32Bytes}
 use Rattle.definitions.specs.Operators.{kindProj, shapeFits}
-use Rattle.definitions.specs.Graph.{slotBytes, inputsOffset, attributesOffset, tailOffset, tailBytes, inputLimit, attributeLimit, unusedPlace, Slot, slotFrom, slotBlock, atLeastOne, recordFits}
+use Rattle.definitions.specs.Graph.{slotBytes, inputsOffset, attributesOffset, tailOffset, tailBytes, inputLimit, attributeLimit, unusedPlace, Slot, slotFrom, slotBlock, atLeastOne, zerosOffset, recordFits}
 use Rattle.laws.proofs.Lists.{needed, and-left, and-right}
 use Rattle.laws.proofs.Graph.{length-inputs, input-of, length-attributes, attribute-of, record-shape}
 use Rattle.laws.proofs.Operators.{few-inputs, few-attributes}
 use Rattle.encoding.specs.Tables.{slotFits}
 use Rattle.encoding.proofs.Pieces.{in-parts, below-four, at-first, at-second, length-two, tabulated}
-use Rattle.encoding.proofs.Numbers.{length-u16, length-u32, u16-back, u32-back, u16-bytes, u32-bytes, u16-unused, u32-unused, filled-at}
+use Rattle.encoding.proofs.Numbers.{length-u16, length-u32, u16-back, u32-back, u16-bytes, u32-bytes, u16-unused, u32-unused}
 use Rattle.encoding.proofs.Places.{length-places, place-held, others-filled, places-held}
 
 -- ---- the parts of a slot's record
 
-abbrev front : Slot → List ℕ
+abbrev pub front : Slot → List ℕ
 front s = s .kind ∷ s .operator ∷ length (s .inputs) ∷ length (s .attributes) ∷ []
 
-abbrev inputPlaces : Slot → List ℕ
+abbrev pub inputPlaces : Slot → List ℕ
 inputPlaces s = concatMap u16Bytes (padded inputLimit unusedPlace (s .inputs))
 
-abbrev attributePlaces : Slot → List ℕ
+abbrev pub attributePlaces : Slot → List ℕ
 attributePlaces s = concatMap u32Bytes (padded attributeLimit 0 (s .attributes))
+
+pub slot-parts : (tail : List ℕ) (s : Slot) → slotBlock tail s ≡ (front s ++ inputPlaces s ++ attributePlaces s) ++ tail
+unfolding slotBlock
+slot-parts tail s = refl
 
 module _ (s : Slot) (fewInputs : length (s .inputs) ≤ inputLimit) (fewAttributes : length (s .attributes) ≤ attributeLimit) where
   upto-inputs : length (front s ++ inputPlaces s) ≡ attributesOffset
   upto-inputs = length-two (front s) (inputPlaces s) inputsOffset (2 * inputLimit) refl
       (length-places u16Bytes 2 inputLimit unusedPlace (s .inputs) length-u16 fewInputs)
 
-  upto-attributes : length (front s ++ inputPlaces s ++ attributePlaces s) ≡ tailOffset
+  pub upto-attributes : length (front s ++ inputPlaces s ++ attributePlaces s) ≡ tailOffset
   upto-attributes = length-two (front s ++ inputPlaces s) (attributePlaces s) attributesOffset (4 * attributeLimit) upto-inputs
       (length-places u32Bytes 4 attributeLimit 0 (s .attributes) length-u32 fewAttributes)
 
@@ -132,10 +136,10 @@ module _ (s : Slot) (fewInputs : length (s .inputs) ≤ inputLimit) (fewAttribut
           others-filled u32Bytes 4 attributeLimit 0 (s .attributes) length-u32 fewAttributes block (at + attributesOffset) (at + tailOffset) 0
           (omega arith) u32-unused (omega arith) attributes-held
 
-      pub record-fits : slotFits s ≡ true → getD (s .attributes) 0 0 < 2 ^ 32 → filled block (at + tailOffset) (at + slotBytes) 0 ≡ true
-          → recordFits block at ≡ true
+      pub record-fits : (version : ℕ) → slotFits s ≡ true → getD (s .attributes) 0 0 < 2 ^ 32
+          → filled block (at + zerosOffset version) (at + slotBytes) 0 ≡ true → recordFits version block at ≡ true
       unfolding slotFits recordFits
-      record-fits fits small zeroTail =
+      record-fits version fits small zeros =
           let shape = shapeFits (s .kind) (s .operator) (length (s .inputs)) (length (s .attributes)) in
           let index = not (eqb (s .kind) kindProj) || atLeastOne (signed (getD (s .attributes) 0 0)) in
           let same : u32At block (at + attributesOffset) ≡ getD (s .attributes) 0 0 =
@@ -148,25 +152,25 @@ module _ (s : Slot) (fewInputs : length (s .inputs) ≤ inputLimit) (fewAttribut
             same,
             unused-inputs,
             unused-attributes,
-            zeroTail,
+            zeros,
             and-left shape index fits,
             and-right shape index fits,
           )
 
 -- ---- a record that follows its kind is its slot's
 
-module _ (block : List ℕ) (at : ℕ) (fits : recordFits block at ≡ true) where
+module _ (version : ℕ) (block : List ℕ) (at : ℕ) (fits : recordFits version block at ≡ true) where
   pub few-inputs-read : length (slotFrom block at .inputs) ≤ inputLimit
   few-inputs-read =
       rw (length-inputs block at)
       (few-inputs (byteAt block at) (byteAt block (at + 1)) (byteAt block (at + 2)) (byteAt block (at + 3))
-      (record-shape block at fits))
+      (record-shape block version at fits))
 
   pub few-attributes-read : length (slotFrom block at .attributes) ≤ attributeLimit
   few-attributes-read =
       rw (length-attributes block at)
       (few-attributes (byteAt block at) (byteAt block (at + 1)) (byteAt block (at + 2)) (byteAt block (at + 3))
-      (record-shape block at fits))
+      (record-shape block version at fits))
 
   unused-inputs-read : filled block (at + inputsOffset + 2 * length (slotFrom block at .inputs)) (at + attributesOffset) 255 ≡ true
   unfolding recordFits
@@ -180,11 +184,9 @@ module _ (block : List ℕ) (at : ℕ) (fits : recordFits block at ≡ true) whe
       rw (length-attributes block at)
       (needed (filled block (at + attributesOffset + 4 * byteAt block (at + 3)) (at + tailOffset) 0) fits (λ f. simp (f, and-false)))
 
-  pub zero-tail-read : (i : ℕ) → i < tailBytes → byteAt block (at + tailOffset + i) ≡ 0
+  pub zeros-read : filled block (at + zerosOffset version) (at + slotBytes) 0 ≡ true
   unfolding recordFits
-  zero-tail-read i l =
-      filled-at block (at + tailOffset) (at + slotBytes) 0
-      (needed (filled block (at + tailOffset) (at + slotBytes) 0) fits (λ f. simp (f, and-false))) i (omega arith)
+  zeros-read = needed (filled block (at + zerosOffset version) (at + slotBytes) 0) fits (λ f. simp (f, and-false))
 
   front-read : (tail : List ℕ) (i : ℕ) → i < inputsOffset → getD (slotBlock tail (slotFrom block at)) i 0 ≡ byteAt block (at + i)
   unfolding slotBlock slotFrom

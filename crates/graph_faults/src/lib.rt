@@ -2,9 +2,11 @@
 // slot with one, or the number of slots where there is none.
 use definitions::ATTRIBUTES_OFFSET;
 use definitions::HEADER_BYTES;
+use definitions::IMPORT_VERSION;
 use definitions::INPUTS_OFFSET;
 use definitions::KIND_PROJ;
 use definitions::SLOT_BYTES;
+use definitions::TAIL_OFFSET;
 use fields::Integer;
 use fields::byte_at;
 use fields::i32_at;
@@ -14,6 +16,8 @@ use runs::WORD_BYTES;
 use runs::four_words_filled;
 use runs::is_filled;
 use runs::two_words_filled;
+use runs::word_ends_zero;
+use runs::word_filled;
 ghost use mathlib.Core.Path.{_≡_};
 ghost use mathlib.Core.Bool.{not, _||_};
 ghost use Prim.Native.Nat.{_+_, _*_, _≤_};
@@ -22,7 +26,7 @@ ghost use lib.ListN.{length};
 ghost use Rattle.definitions.specs.Lists.{lowest};
 ghost use Rattle.definitions.specs.Fields.{u32At, filled, signed};
 ghost use Rattle.definitions.specs.Operators.{kindProj};
-ghost use Rattle.definitions.specs.Graph.{inputsOffset, attributesOffset, slotBytes, inputLimit, slotCount, atLeastOne, recordFits, badRecord};
+ghost use Rattle.definitions.specs.Graph.{inputsOffset, attributesOffset, tailOffset, slotBytes, inputLimit, attributeLimit, slotCount, atLeastOne, zerosOffset, recordFits, badRecord};
 ghost use Rattle.graph_fields.specs.Layout.{WholeGraph};
 
 // Whether the record at `at` is no Proj, or its first attribute, the index, is at least 1.
@@ -53,10 +57,35 @@ fn unused_inputs_fit(graph: &[u8], at: usize, inputs: usize) -> bool
     two_words_filled(graph, from, to, 255)
 }
 
-// Whether the record at `at` follows its kind. Its unused attribute places and the zero bytes at its end are one run.
-pub fn record_fits(graph: &[u8], at: usize) -> bool
+// Whether the unused attribute places of the record at `at` hold 0.
+fn unused_attributes_fit(graph: &[u8], at: usize, attributes: usize) -> bool
     requires { ⌜ at + slotBytes ≤ length (now graph) ⌝ }
-    ensures { λ r. ⌜ r ≡ recordFits (now (graph .entry)) at ⌝ }
+    requires { ⌜ attributes ≤ attributeLimit ⌝ }
+    ensures { λ r. ⌜ r ≡ filled (now (graph .entry)) (at + attributesOffset + 4 * attributes) (at + tailOffset) 0 ⌝ }
+{
+    let from = at + ATTRIBUTES_OFFSET + 4 * attributes;
+    let to = at + TAIL_OFFSET;
+    if to < from + WORD_BYTES {
+        return is_filled(graph, from, to, 0);
+    }
+    four_words_filled(graph, from, to, 0)
+}
+
+// Whether the last bytes of the record at `at` are zero: its tail, but for the count where the version has one.
+fn end_fits(graph: &[u8], at: usize, version: usize) -> bool
+    requires { ⌜ at + slotBytes ≤ length (now graph) ⌝ }
+    ensures { λ r. ⌜ r ≡ filled (now (graph .entry)) (at + zerosOffset version) (at + slotBytes) 0 ⌝ }
+{
+    if version == IMPORT_VERSION {
+        return word_filled(graph, at + TAIL_OFFSET, 0);
+    }
+    word_ends_zero(graph, at + TAIL_OFFSET)
+}
+
+// Whether the record at `at` follows its kind.
+pub fn record_fits(graph: &[u8], at: usize, version: usize) -> bool
+    requires { ⌜ at + slotBytes ≤ length (now graph) ⌝ }
+    ensures { λ r. ⌜ r ≡ recordFits version (now (graph .entry)) at ⌝ }
 {
     let kind = byte_at(graph, at);
     let operator = byte_at(graph, at + 1);
@@ -68,26 +97,24 @@ pub fn record_fits(graph: &[u8], at: usize) -> bool
     if !unused_inputs_fit(graph, at, inputs) {
         return false;
     }
-    if !four_words_filled(
-        graph,
-        at + ATTRIBUTES_OFFSET + 4 * attributes,
-        at + SLOT_BYTES,
-        0,
-    ) {
+    if !unused_attributes_fit(graph, at, attributes) {
         return false;
     }
-    index_fits(graph, at, kind)
+    if !index_fits(graph, at, kind) {
+        return false;
+    }
+    end_fits(graph, at, version)
 }
 
 // The lowest slot with a bad record, or the number of slots.
-pub fn bad_record(graph: &[u8]) -> usize
+pub fn bad_record(graph: &[u8], version: usize) -> usize
     requires { ⌜ WholeGraph (now graph) ⌝ }
-    ensures { λ r. ⌜ r ≡ lowest (badRecord (now (graph .entry))) (slotCount (now (graph .entry))) ⌝ }
+    ensures { λ r. ⌜ r ≡ lowest (badRecord version (now (graph .entry))) (slotCount (now (graph .entry))) ⌝ }
 {
     let slots = slot_count(graph);
     let mut k = 0;
     while k < slots {
-        if !record_fits(graph, HEADER_BYTES + SLOT_BYTES * k) {
+        if !record_fits(graph, HEADER_BYTES + SLOT_BYTES * k, version) {
             return k;
         }
         k += 1;

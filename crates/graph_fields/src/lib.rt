@@ -1,5 +1,6 @@
 // A graph block's fields by index, as fields of the graph for which the block stands.
 use definitions::ATTRIBUTES_OFFSET;
+use definitions::COUNT_OFFSET;
 use definitions::HEADER_BYTES;
 use definitions::INPUTS_OFFSET;
 use definitions::KIND_EMPTY;
@@ -15,7 +16,7 @@ ghost use Prim.Native.Nat.{_+_, _<_, _≤_};
 ghost use lib.ListN.{length, getD};
 ghost use Rattle.fields.specs.Integer.{integerOf};
 ghost use Rattle.definitions.specs.Fields.{signed};
-ghost use Rattle.definitions.specs.Graph.{headerBytes, slotBytes, inputLimit, attributeLimit, unusedPlace, slotCount, outputCount, recordAt, graphOf, slotOf, inputsOf, isVertex};
+ghost use Rattle.definitions.specs.Graph.{headerBytes, slotBytes, inputLimit, attributeLimit, unusedPlace, slotCount, outputCount, recordAt, storedCount, graphOf, slotOf, inputsOf, isVertex};
 ghost use Rattle.graph_fields.specs.Layout.{WholeGraph, ReadableGraph};
 
 // How many slots the header counts.
@@ -114,6 +115,16 @@ pub fn attribute_word(graph: &[u8], k: usize, i: usize) -> usize
 {
     let at = record_at(graph, k);
     u32_at(graph, at + ATTRIBUTES_OFFSET + 4 * i)
+}
+
+// The count that slot k's record stores.
+pub fn stored_count(graph: &[u8], k: usize) -> usize
+    requires { ⌜ WholeGraph (now graph) ⌝ }
+    requires { ⌜ k < slotCount (now graph) ⌝ }
+    ensures { λ r. ⌜ (r ≡ storedCount (now (graph .entry)) k) × (r < 65536) ⌝ }
+{
+    let at = record_at(graph, k);
+    u16_at(graph, at + COUNT_OFFSET)
 }
 
 // What output place i names.

@@ -1,12 +1,12 @@
 // The first kind of fault of a graph block in document 01's order: its length and header.
 use definitions::GRAPH_LETTER;
-use definitions::GRAPH_VERSION;
 use definitions::HEADER_BYTES;
 use definitions::OUTPUT_LIMIT;
 use definitions::OUTPUTS_END;
 use definitions::OUTPUTS_OFFSET;
 use definitions::SLOT_BYTES;
 use definitions::SLOT_LIMIT;
+use definitions::VERSION_OFFSET;
 use fields::has_mark;
 use fields::u16_at;
 use graph_fields::output_count;
@@ -32,9 +32,9 @@ fn output_places_fit(graph: &[u8]) -> bool
     is_filled(graph, OUTPUTS_OFFSET + 2 * outputs, OUTPUTS_END, 255)
 }
 
-// Whether the length and the header are right.
-pub fn header_fits(graph: &[u8]) -> bool
-    ensures { λ r. ⌜ r ≡ headerFits (now (graph .entry)) ⌝ }
+// Whether the length and the header are right for a block of this version.
+pub fn header_fits(graph: &[u8], version: usize) -> bool
+    ensures { λ r. ⌜ r ≡ headerFits version (now (graph .entry)) ⌝ }
 {
     if graph.len() < HEADER_BYTES {
         return false;
@@ -46,7 +46,7 @@ pub fn header_fits(graph: &[u8]) -> bool
     if !has_mark(graph, GRAPH_LETTER) {
         return false;
     }
-    if u16_at(graph, 4) != GRAPH_VERSION {
+    if u16_at(graph, VERSION_OFFSET) != version {
         return false;
     }
     if slots < 1 {

@@ -67,13 +67,17 @@ module _ {graph new old : List ℕ} where
     back = w .back ∙ drop-further (recordAt k) (recordAt (k + 1)) graph old (omega arith) (h .back);
   }
 
+  -- a slot that is not written yet is the old one
+  pub halfway-slot : (k : ℕ) → Halfway k graph new old → slotAt graph (recordAt k) ≡ slotAt old (recordAt k)
+  unfolding slotAt
+  halfway-slot k h = ap (take slotBytes) (h .back)
+
   -- a slot that does not change is not written
   pub halfway-keep : (k : ℕ) → Halfway k graph new old → slotAt new (recordAt k) ≡ slotAt old (recordAt k)
       → Halfway (k + 1) graph new old
-  unfolding slotAt
   halfway-keep k h same = record {
     size = h .size;
-    front = next-slot k graph ∙ ap₂ _++_ (h .front) (ap (take slotBytes) (h .back) ∙ sym same) ∙ sym (next-slot k new);
+    front = next-slot k graph ∙ ap₂ _++_ (h .front) (halfway-slot k h ∙ sym same) ∙ sym (next-slot k new);
     back = drop-further (recordAt k) (recordAt (k + 1)) graph old (omega arith) (h .back);
   }
 

@@ -11,13 +11,14 @@ use lib.Dec.{ltb}
 use lib.ListN.{length, getD, take, drop, replicate, length-append, length-drop, take-append-drop, List·getD-eq-default}
 use lib.Seq.{getD-drop, length-take-le, take-at, drop-at}
 use Rattle.definitions.specs.Fields.{byteAt, Bytes}
-use Rattle.definitions.specs.Graph.{headerBytes, slotBytes, tailBytes, unusedPlace, slotCount, recordAt, Slot, Graph, emptySlot, renamed, graphOf, slotOf, inputsOf, isVertex, slotTail, slotBlock, headerBlock, graphBlock, SoundGraph}
+use Rattle.definitions.specs.Graph.{headerBytes, slotBytes, tailBytes, unusedPlace, graphVersion, slotCount, recordAt, Slot, Graph, emptySlot, renamed, graphOf, slotOf, inputsOf, isVertex, trueCount, countTail, slotBlock, headerBlock, blockAs, SoundGraph}
 use Rattle.definitions.specs.Squeeze.{movedTo, squeeze}
 use Rattle.laws.proofs.Lists.{decided, map-same}
 use Rattle.laws.proofs.Parts.{putPart}
 use Rattle.laws.proofs.Graph.{length-slots, vertex-inside}
 use Rattle.laws.proofs.Filtered.{filtered-most}
 use Rattle.encoding.specs.Tables.{Table}
+use Rattle.encoding.proofs.Tails.{zero-tail}
 use Rattle.encoding.proofs.Blocks.{few-slots, inputs-fit, attributes-fit, input-inside, word-at, sized, block-length, header-cut, record-held, record-cut}
 use Rattle.encoding.proofs.Graphs.{table-of, words-of, canonical}
 use Rattle.graph_records.specs.Records.{Writable, slotAt}
@@ -32,12 +33,12 @@ module _ (block : List ℕ) (sound : SoundGraph block) (bytes : Bytes block) whe
   g = graphOf block
 
   abbrev new : List ℕ
-  new = graphBlock (squeeze g)
+  new = blockAs graphVersion (λ i. 0) (squeeze g)
 
   table : Table g
   table = table-of block sound
 
-  after-table : Table (squeeze g)
+  pub after-table : Table (squeeze g)
   after-table = squeezed-table g table
 
   -- the squeezed records behind the old header
@@ -45,10 +46,10 @@ module _ (block : List ℕ) (sound : SoundGraph block) (bytes : Bytes block) whe
   middle = take headerBytes block ++ drop headerBytes new
 
   pub new-length : length new ≡ recordAt (slotCount block)
-  new-length = block-length (squeeze g) after-table ∙ ap recordAt (squeezed-size g ∙ length-slots block)
+  new-length = block-length (squeeze g) after-table graphVersion (λ i. 0) ∙ ap recordAt (squeezed-size g ∙ length-slots block)
 
   old-length : length block ≡ recordAt (slotCount block)
-  old-length = ap length (sym (canonical block sound bytes)) ∙ block-length g table ∙ ap recordAt (length-slots block)
+  old-length = ap length (sym (canonical block sound bytes)) ∙ block-length g table graphVersion (trueCount g) ∙ ap recordAt (length-slots block)
 
   header-length : length (take headerBytes block) ≡ headerBytes
   header-length = length-take-le headerBytes block (omega (arith, old-length))
@@ -99,10 +100,10 @@ module _ (block : List ℕ) (sound : SoundGraph block) (bytes : Bytes block) whe
     still-held : Held graph v (slotOf g v)
     still-held = record {
       fits = writable v inside;
-      tail = slotTail g v;
+      tail = countTail (trueCount g v);
       bytes = λ i l.
           byte-same i ∙ ap (λ (b : List ℕ). byteAt b (recordAt v + i)) (sym (canonical block sound bytes))
-          ∙ record-held g table v (omega (arith, length-slots block)) i l;
+          ∙ record-held g table graphVersion (trueCount g) v (omega (arith, length-slots block)) i l;
     }
 
     still-slot : HeldSlot graph v
@@ -129,13 +130,13 @@ module _ (block : List ℕ) (sound : SoundGraph block) (bytes : Bytes block) whe
     slot-same v =
         let s = slotOf g v in
         ap (λ (xs : List ℕ). record { kind = s .kind; operator = s .operator; inputs = xs; attributes = s .attributes })
-        (names-same (s .inputs) (sound .inputs v))
+        (names-same (s .inputs) (sound .form .inputs v))
 
-    pub new-header : headerBlock (slotCount block) (map (nameIn to) (g .outputs)) ≡ take headerBytes new
+    pub new-header : headerBlock graphVersion (slotCount block) (map (nameIn to) (g .outputs)) ≡ take headerBytes new
     unfolding squeeze
     new-header =
-        ap₂ headerBlock (sym (squeezed-size g ∙ length-slots block)) (names-same (g .outputs) (sound .outputs))
-        ∙ sym (header-cut (squeeze g) after-table)
+        ap₂ (headerBlock graphVersion) (sym (squeezed-size g ∙ length-slots block)) (names-same (g .outputs) (sound .form .outputs))
+        ∙ sym (header-cut (squeeze g) after-table graphVersion (λ i. 0))
 
     module _ {graph : List ℕ} (k : ℕ) (inside : k < slotCount block) (h : Halfway k graph middle block) where
       held : k < length (squeeze g .slots)
@@ -144,12 +145,13 @@ module _ (block : List ℕ) (sound : SoundGraph block) (bytes : Bytes block) whe
       -- what is written there is what the squeezed table has there
       step : {after : List ℕ} (s : Slot) → slotOf (squeeze g) k ≡ s → SlotWritten k (slotBlock (replicate tailBytes 0) s) graph after
           → Halfway (k + 1) after middle block
-      unfolding slotAt slotTail
+      unfolding slotAt
       step s same written =
           let bytesSame : slotAt middle (recordAt k) ≡ slotBlock (replicate tailBytes 0) s =
-          middle-slot k ∙ record-cut (squeeze g) after-table k held ∙ ap (slotBlock (replicate tailBytes 0)) same in
+          middle-slot k ∙ record-cut (squeeze g) after-table graphVersion (λ i. 0) k held ∙ ap₂ slotBlock zero-tail same in
           let size : length (slotBlock (replicate tailBytes 0) s) ≡ slotBytes =
-          ap (λ (t : Slot). length (slotBlock (replicate tailBytes 0) t)) (sym same) ∙ sized (squeeze g) after-table k held in
+          ap₂ (λ (tail : List ℕ) (t : Slot). length (slotBlock tail t)) (sym zero-tail) (sym same)
+          ∙ sized (squeeze g) after-table graphVersion (λ i. 0) k held in
           halfway-write k h written (omega (arith, h .size, middle-length)) size bytesSame
 
       module _ (low : k < count) where

@@ -1,5 +1,5 @@
 // The squeeze: in the lent graph the vertices move to the lowest slots, in their order, and all that names them follows; the lent list
-// tells where each slot went. No vertex moves up, so a record is read before its slot is written.
+// tells where each slot went. No vertex moves up, so a record is read before its slot is written. Counts are stored last, for the whole table.
 use definitions::HEADER_BYTES;
 use definitions::Reply;
 use definitions::SLOT_BYTES;
@@ -7,6 +7,7 @@ use definitions::SLOT_LIMIT;
 use definitions::TAIL_BYTES;
 use fields::widened;
 use graph_check::check;
+use graph_counts::store_counts;
 use graph_fields::output_count;
 use graph_fields::slot_count;
 use graph_moves::moves_of;
@@ -23,7 +24,7 @@ use writing::put_u16s;
 ghost use mathlib.Core.Path.{_≡_};
 ghost use Prim.Native.Nat.{_+_, _≤_};
 ghost use lib.ListN.{length, replicate};
-ghost use Rattle.definitions.specs.Graph.{headerBytes, slotLimit, tailBytes, slotCount, recordAt, Slot, renamed, graphOf, slotBlock, graphBlock, SoundGraph};
+ghost use Rattle.definitions.specs.Graph.{headerBytes, slotLimit, tailBytes, graphVersion, slotCount, recordAt, Slot, renamed, graphOf, slotBlock, blockAs, SoundGraph};
 ghost use Rattle.definitions.specs.Squeeze as squeezed;
 ghost use Rattle.graph_slots.specs.Written.{SlotWritten};
 ghost use Rattle.graph_moves.specs.Moving.{nameIn, Moving};
@@ -43,11 +44,11 @@ fn move_slot(graph: &mut [u8], v: usize, k: usize, to: &[u16; SLOT_LIMIT])
     write_slot(graph, k, renamed_record(record, to), &tail);
 }
 
-// Writes the squeezed table: slot by slot from 0 the vertex that comes there, or Empty behind the last, and then the header.
+// Writes the squeezed table: slot by slot from 0 the vertex that comes there, or Empty behind the last, and then the header. Counts are left 0.
 fn move_vertices(graph: &mut [u8], count: usize, from: &[u16; SLOT_LIMIT], to: &[u16; SLOT_LIMIT])
     requires { ⌜ SoundGraph (now graph) ⌝ }
     requires { ⌜ Moving (graphOf (now graph)) (slotCount (now graph)) count (now from) (now to) ⌝ }
-    ensures { λ r. ⌜ now (graph .exit) ≡ graphBlock (squeezed.squeeze (graphOf (now (graph .entry)))) ⌝ }
+    ensures { λ r. ⌜ now (graph .exit) ≡ blockAs graphVersion (λ i. 0) (squeezed.squeeze (graphOf (now (graph .entry)))) ⌝ }
 {
     let slots = slot_count(graph);
     let outputs = output_count(graph);
@@ -106,6 +107,7 @@ pub fn squeeze(graph: &mut [u8], moves: &mut [u8]) -> Reply
     let from = plan.from;
     let to = plan.to;
     move_vertices(graph, plan.count, &from, &to);
+    store_counts(graph);
     put_u16s(moves, &to[0..slots]);
     Reply::Done(0)
 }

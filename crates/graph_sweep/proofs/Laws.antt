@@ -1,6 +1,6 @@
 -- The marks of the slots that go, and the block that is emptied slot by slot.
 -- Assumes nothing.
-use mathlib.Core.Path.{_≡_, refl, sym, ap, _∙_}
+use mathlib.Core.Path.{_≡_, refl, sym, ap, ap₂, _∙_}
 use mathlib.Core.Bool.{Bool, true, false, not, _&&_}
 use mathlib.Core.List.{List}
 use mathlib.Core.Logic.{⊎-elim}
@@ -13,7 +13,7 @@ use lib.ListN.{length, take, set, replicate, length-set, length-replicate}
 use lib.Seq.{getD-set-same, getD-set-other}
 use Rattle.definitions.specs.Fields.{Bytes}
 use Rattle.definitions.specs.Paths.{isMarked}
-use Rattle.definitions.specs.Graph.{headerBytes, slotLimit, tailBytes, slotCount, recordAt, graphOf, slotOf, inputsOf, isVertex, isVariable, slotTail, slotBlock, headerBlock, graphBlock, SoundGraph}
+use Rattle.definitions.specs.Graph.{headerBytes, slotLimit, graphVersion, slotCount, recordAt, Slot, Graph, emptySlot, graphOf, slotOf, inputsOf, isVertex, isVariable, trueCount, countTail, slotBlock, headerBlock, SoundGraph}
 use Rattle.definitions.specs.Sweep.{reachingOutputs, isUnneeded, sweep}
 use Rattle.laws.specs.Marked.{Marked}
 use Rattle.laws.proofs.Lists.{decided}
@@ -22,11 +22,14 @@ use Rattle.theory.proofs.Results.{named-table}
 use Rattle.reachability.specs.Marks.{Marks}
 use Rattle.reachability.proofs.Marks.{marks-unique}
 use Rattle.reachability.proofs.Reaching.{reaching-marks}
+use Rattle.encoding.specs.Tables.{Table}
+use Rattle.encoding.proofs.Tails.{zero-tail}
 use Rattle.encoding.proofs.Blocks.{block-length, header-cut, record-cut}
 use Rattle.encoding.proofs.Graphs.{table-of, canonical}
 use Rattle.graph_records.specs.Records.{slotAt}
 use Rattle.graph_slots.specs.Written.{emptyBytes, Halfway}
 use Rattle.tidying.proofs.Swept.{swept-size, stays-slot, goes-slot, swept-table}
+use Rattle.graph_sweep.specs.Emptied.{oldCounts, emptied}
 
 -- ---- marks, one slot after the other
 
@@ -52,52 +55,61 @@ module _ (block : List ℕ) (sound : SoundGraph block) where
   same-unneeded needed marks v =
       let g = graphOf block in
       ap (λ (b : Bool). isVertex g v && not (isVariable g v) && not b)
-      (marks-unique marks (reaching-marks (named-table g (sound .inputs)) (g .outputs) (λ u m. vertex-inside g u (sound .outputs u m))) v)
+      (marks-unique marks (reaching-marks (named-table g (sound .form .inputs)) (g .outputs) (λ u m. vertex-inside g u (sound .form .outputs u m))) v)
 
   -- ---- the block, emptied slot by slot
 
   module _ (bytes : Bytes block) where
+    abbrev g : Graph
+    g = graphOf block
+
     abbrev new : List ℕ
-    new = graphBlock (sweep (graphOf block))
+    new = emptied g
+
+    table : Table g
+    table = table-of block sound
+
+    pub after-table : Table (sweep g)
+    after-table = swept-table g table
 
     -- the header stays
     pub swept-start : Halfway 0 block new block
     unfolding sweep
     swept-start =
-        let g = graphOf block in
-        let table = table-of block sound in
         let old = canonical block sound bytes in
         record {
-          size = ap length (sym old) ∙ block-length g table ∙ ap recordAt (sym (swept-size g table)) ∙ sym (block-length (sweep g) (swept-table g table));
-          front = ap (take headerBytes) (sym old) ∙ header-cut g table ∙ ap (λ (n : ℕ). headerBlock n (g .outputs)) (sym (swept-size g table))
-              ∙ sym (header-cut (sweep g) (swept-table g table));
+          size = ap length (sym old) ∙ block-length g table graphVersion (trueCount g) ∙ ap recordAt (sym (swept-size g table))
+              ∙ sym (block-length (sweep g) after-table graphVersion (oldCounts g));
+          front = ap (take headerBytes) (sym old) ∙ header-cut g table graphVersion (trueCount g)
+              ∙ ap (λ (n : ℕ). headerBlock graphVersion n (g .outputs)) (sym (swept-size g table))
+              ∙ sym (header-cut (sweep g) after-table graphVersion (oldCounts g));
           back = refl;
         }
 
     module _ (v : ℕ) (inside : v < slotCount block) where
-      slot-new : slotAt new (recordAt v) ≡ slotBlock (replicate tailBytes 0) (slotOf (sweep (graphOf block)) v)
-      unfolding slotAt slotTail
+      slot-new : slotAt new (recordAt v) ≡ slotBlock (countTail (oldCounts g v)) (slotOf (sweep g) v)
+      unfolding slotAt
       slot-new =
-          let g = graphOf block in
-          let table = table-of block sound in
-          record-cut (sweep g) (swept-table g table) v (omega (arith, swept-size g table, length-slots block))
+          record-cut (sweep g) after-table graphVersion (oldCounts g) v (omega (arith, swept-size g table, length-slots block))
 
-      slot-old : slotAt block (recordAt v) ≡ slotBlock (replicate tailBytes 0) (slotOf (graphOf block) v)
-      unfolding slotAt slotTail
+      slot-old : slotAt block (recordAt v) ≡ slotBlock (countTail (trueCount g v)) (slotOf g v)
+      unfolding slotAt
       slot-old =
           ap (λ (b : List ℕ). slotAt b (recordAt v)) (sym (canonical block sound bytes))
-          ∙ record-cut (graphOf block) (table-of block sound) v (omega (arith, length-slots block))
+          ∙ record-cut g table graphVersion (trueCount g) v (omega (arith, length-slots block))
 
-      pub swept-keep : isUnneeded (graphOf block) (reachingOutputs (graphOf block)) v ≡ false → slotAt new (recordAt v) ≡ slotAt block (recordAt v)
+      pub swept-keep : isUnneeded g (reachingOutputs g) v ≡ false → slotAt new (recordAt v) ≡ slotAt block (recordAt v)
+      unfolding oldCounts
       swept-keep f =
-          slot-new ∙ ap (slotBlock (replicate tailBytes 0)) (stays-slot (graphOf block) (table-of block sound) v f) ∙ sym slot-old
+          let count : oldCounts g v ≡ trueCount g v = simp f in
+          slot-new ∙ ap₂ (λ (n : ℕ) (s : Slot). slotBlock (countTail n) s) count (stays-slot g table v f) ∙ sym slot-old
 
-      pub swept-clear : isUnneeded (graphOf block) (reachingOutputs (graphOf block)) v ≡ true → slotAt new (recordAt v) ≡ emptyBytes
-      unfolding emptyBytes
-      swept-clear t = slot-new ∙ ap (slotBlock (replicate tailBytes 0)) (goes-slot (graphOf block) (table-of block sound) v t)
+      pub swept-clear : isUnneeded g (reachingOutputs g) v ≡ true → slotAt new (recordAt v) ≡ emptyBytes
+      unfolding emptyBytes oldCounts
+      swept-clear t =
+          let count : oldCounts g v ≡ 0 = simp t in
+          slot-new ∙ ap₂ (λ (n : ℕ) (s : Slot). slotBlock (countTail n) s) count (goes-slot g table v t)
+          ∙ ap (λ (tail : List ℕ). slotBlock tail emptySlot) zero-tail
 
     pub swept-end : length new ≡ recordAt (slotCount block)
-    swept-end =
-        let g = graphOf block in
-        let table = table-of block sound in
-        block-length (sweep g) (swept-table g table) ∙ ap recordAt (swept-size g table ∙ length-slots block)
+    swept-end = block-length (sweep g) after-table graphVersion (oldCounts g) ∙ ap recordAt (swept-size g table ∙ length-slots block)

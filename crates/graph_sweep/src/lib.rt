@@ -1,10 +1,12 @@
 // The sweep: every vertex from which no graph output is reached is emptied in the lent graph, except Variables, which the phone feeds by
-// number. Which slots go is settled before the first is written.
+// number. Which slots go is settled before the first is written. Then counts are stored anew: what a slot that went has read is named less
+// often.
 use definitions::KIND_EMPTY;
 use definitions::KIND_VARIABLE;
 use definitions::Reply;
 use definitions::SLOT_LIMIT;
 use graph_check::check;
+use graph_counts::store_counts;
 use graph_fields::kind_of;
 use graph_fields::slot_count;
 use graph_reach::reaching_outputs;
@@ -12,10 +14,11 @@ use graph_slots::clear_slot;
 ghost use mathlib.Core.Path.{_≡_};
 ghost use Prim.Native.Nat.{_<_};
 ghost use lib.ListN.{length};
-ghost use Rattle.definitions.specs.Graph.{slotLimit, slotCount, graphOf, graphBlock, graphReply, SoundGraph};
+ghost use Rattle.definitions.specs.Graph.{slotLimit, slotCount, graphOf, graphReply, SoundGraph};
 ghost use Rattle.definitions.specs.Sweep as swept;
 ghost use Rattle.laws.specs.Marked.{Marked};
 ghost use Rattle.graph_fields.specs.Layout.{WholeGraph};
+ghost use Rattle.graph_sweep.specs.Emptied.{emptied};
 
 // Whether slot v goes: it is a vertex, no Variable, and not marked as one that an output needs.
 fn goes(graph: &[u8], needed: &[bool; SLOT_LIMIT], v: usize) -> bool
@@ -51,11 +54,11 @@ fn find_unneeded(graph: &[u8]) -> [bool; SLOT_LIMIT]
     unneeded
 }
 
-// Empties the marked slots. Every other byte stays as it is.
+// Empties the marked slots. Every other byte stays as it is, the counts of what stays too.
 fn empty_slots(graph: &mut [u8], unneeded: &[bool; SLOT_LIMIT])
     requires { ⌜ SoundGraph (now graph) ⌝ }
     requires { ⌜ Marked (swept.isUnneeded (graphOf (now graph)) (swept.reachingOutputs (graphOf (now graph)))) (slotCount (now graph)) (now unneeded) ⌝ }
-    ensures { λ r. ⌜ now (graph .exit) ≡ graphBlock (swept.sweep (graphOf (now (graph .entry)))) ⌝ }
+    ensures { λ r. ⌜ now (graph .exit) ≡ emptied (graphOf (now (graph .entry))) ⌝ }
 {
     let slots = slot_count(graph);
     let mut v = 0;
@@ -78,5 +81,6 @@ pub fn sweep(graph: &mut [u8]) -> Reply
     }
     let unneeded = find_unneeded(graph);
     empty_slots(graph, &unneeded);
+    store_counts(graph);
     Reply::Done(0)
 }

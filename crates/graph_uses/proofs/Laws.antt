@@ -4,7 +4,7 @@ use mathlib.Core.Path.{_≡_, refl, sym, ap, _∙_}
 use mathlib.Core.List.{List}
 use Prim.Native.Nat.{ℕ, _+_, _*_, _≤_}
 use native.Mathlib.Omega.{arith}
-use Rattle.definitions.specs.Graph.{outputLimit, slotCount, graphOf, inputsOf, readsOf, usesOf}
+use Rattle.definitions.specs.Graph.{outputLimit, slotCount, graphOf, inputsOf, readsOf, trueCount}
 use Rattle.laws.proofs.Graph.{length-slots, length-outputs}
 use Rattle.laws.proofs.Sums.{count-length}
 use Rattle.laws.proofs.Counts.{reads-most}
@@ -20,8 +20,8 @@ module _ {block : List ℕ} (readable : ReadableGraph block) where
   pub reads-below-most : (k v : ℕ) → k ≤ slotCount block → readsBelow (graphOf block) k v ≤ 6 * k
   reads-below-most k v h = reads-most (inputsOf (graphOf block)) k v (λ w l. readable .inputs w (omega arith))
 
-  pub uses-most : (v : ℕ) → usesOf (graphOf block) v ≤ 6 * slotCount block + outputLimit
-  unfolding usesOf
+  pub uses-most : (v : ℕ) → trueCount (graphOf block) v ≤ 6 * slotCount block + outputLimit
+  unfolding trueCount
   uses-most v = omega (
     arith,
     reads-all block (slotCount block) v refl,

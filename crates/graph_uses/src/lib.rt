@@ -1,14 +1,16 @@
-// How often each slot of a graph is named, counted once, so that no question about the readers of a slot needs a look over the whole
-// table.
+// How often each slot of a graph is named, counted in one pass over the table, and the comparison with the counts that the slots store.
 use definitions::SLOT_LIMIT;
+use fields::widened;
 use graph_fields::input_at;
 use graph_fields::input_count;
 use graph_fields::output_at;
 use graph_fields::slot_count;
+use graph_fields::stored_count;
 ghost use mathlib.Core.Path.{_≡_};
 ghost use Prim.Native.Nat.{ℕ, _+_, _<_};
 ghost use lib.ListN.{length, getD};
-ghost use Rattle.definitions.specs.Graph.{slotLimit, slotCount, graphOf, usesOf};
+ghost use Rattle.definitions.specs.Lists.{lowest};
+ghost use Rattle.definitions.specs.Graph.{slotLimit, slotCount, graphOf, trueCount, badCount};
 ghost use Rattle.laws.specs.Counted.{Counted};
 ghost use Rattle.graph_uses.specs.Countable.{readsBelow, CountableGraph, InputsNext, OutputsNext};
 
@@ -18,18 +20,18 @@ fn add_inputs(graph: &[u8], k: usize, uses: &mut [u16; SLOT_LIMIT])
     ensures { λ r. ⌜ Counted slotLimit (readsBelow (graphOf (now (graph .entry))) (k + 1)) (now (uses .exit)) ⌝ }
 {
     let places = input_count(graph, k);
-    let mut i = 0;
-    while i < places {
-        let input = input_at(graph, k, i);
+    let mut place = 0;
+    while place < places {
+        let input = input_at(graph, k, place);
         uses[input] += 1;
-        i += 1;
+        place += 1;
     }
 }
 
 // Counts the output places, after all input places.
 fn add_outputs(graph: &[u8], uses: &mut [u16; SLOT_LIMIT])
     requires { ⌜ OutputsNext (now graph) (now uses) ⌝ }
-    ensures { λ r. ⌜ Counted slotLimit (usesOf (graphOf (now (graph .entry)))) (now (uses .exit)) ⌝ }
+    ensures { λ r. ⌜ Counted slotLimit (trueCount (graphOf (now (graph .entry)))) (now (uses .exit)) ⌝ }
 {
     let outputs = graph_fields::output_count(graph);
     let mut i = 0;
@@ -44,7 +46,7 @@ fn add_outputs(graph: &[u8], uses: &mut [u16; SLOT_LIMIT])
 pub fn count_uses(graph: &[u8]) -> [u16; SLOT_LIMIT]
     requires { ⌜ CountableGraph (now graph) ⌝ }
     ensures { λ r. ⌜ (length r ≡ slotLimit)
-        × ((v : ℕ) → v < slotCount (now (graph .entry)) → getD r v 0 ≡ usesOf (graphOf (now (graph .entry))) v) ⌝ }
+        × ((v : ℕ) → v < slotCount (now (graph .entry)) → getD r v 0 ≡ trueCount (graphOf (now (graph .entry))) v) ⌝ }
 {
     let slots = slot_count(graph);
     let mut uses = [0u16; SLOT_LIMIT];
@@ -55,4 +57,21 @@ pub fn count_uses(graph: &[u8]) -> [u16; SLOT_LIMIT]
     }
     add_outputs(graph, &mut uses);
     uses
+}
+
+// The lowest slot that stores a wrong count, or the number of slots.
+pub fn bad_count(graph: &[u8]) -> usize
+    requires { ⌜ CountableGraph (now graph) ⌝ }
+    ensures { λ r. ⌜ r ≡ lowest (badCount (now (graph .entry))) (slotCount (now (graph .entry))) ⌝ }
+{
+    let slots = slot_count(graph);
+    let uses = count_uses(graph);
+    let mut slot = 0;
+    while slot < slots {
+        if stored_count(graph, slot) != widened(uses[slot]) {
+            return slot;
+        }
+        slot += 1;
+    }
+    slots
 }

@@ -81,7 +81,7 @@ module _ (block : List ℕ) where
 
   -- ---- what a header that fits says, and a record that follows its kind
 
-  module _ (fits : headerFits block ≡ true) where
+  module _ (version : ℕ) (fits : headerFits version block ≡ true) where
     pub header-size : length block ≡ recordAt (slotCount block)
     unfolding headerFits
     header-size =
@@ -105,8 +105,8 @@ module _ (block : List ℕ) where
         leb-true (outputCount block) outputLimit
         (and-right (leb 1 (outputCount block)) (leb (outputCount block) outputLimit) outputs-within)
 
-  pub record-shape : (at : ℕ) → recordFits block at ≡ true
+  pub record-shape : (version at : ℕ) → recordFits version block at ≡ true
       → shapeFits (byteAt block at) (byteAt block (at + 1)) (byteAt block (at + 2)) (byteAt block (at + 3)) ≡ true
   unfolding recordFits
-  record-shape at fits =
+  record-shape version at fits =
       needed (shapeFits (byteAt block at) (byteAt block (at + 1)) (byteAt block (at + 2)) (byteAt block (at + 3))) fits (λ f. simp f)

@@ -2,7 +2,7 @@
 -- Assumes nothing.
 use mathlib.Core.Path.{_≡_, refl, subst}
 use mathlib.Core.Bool.{Bool, true, false, cond}
-use mathlib.Core.List.{List, [], _∷_}
+use mathlib.Core.List.{List, [], _∷_, _++_}
 use mathlib.Core.Option.{Option, none, some}
 use Prim.Native.Nat.{ℕ, _*_}
 use native.Mathlib.Omega.{arith}
@@ -13,19 +13,24 @@ use Rattle.definitions.specs.declared.Refusal.{Refusal}
 use Rattle.definitions.specs.declared.Reply.{Reply}
 use Rattle.definitions.specs.declared.Reply.the-variants.{Done, Refused}
 use Rattle.definitions.specs.Reply.{done, badMapLength, badMovesLength, noMatch, noResult, noRoom, newCycle, refusalAt, refusal, refused, firstRefusal}
-use Rattle.definitions.specs.Graph.{slotCount, Graph, graphOf, hasCycle, graphFaults, graphReply}
+use Rattle.definitions.specs.Graph.{graphVersion, importVersion, slotCount, Graph, graphOf, hasCycle, faultsAs, countFaults, replyAs, graphReply}
 use Rattle.definitions.specs.Rule.{sideLimit, Rule, ruleOf, ruleFaults, ruleReply}
 use Rattle.definitions.specs.Match.{readAttribute, leastMatch}
 use Rattle.definitions.specs.Rewriting.{targetResults, hasRoom, newGraph}
 use Rattle.definitions.specs.Operations.{mapBytes, mapReply, blocksReply, matched, findMatch, Rewritten, accepted, turnedDown, rewrittenWith, rewritten, replaced, rewrite}
 use Rattle.definitions.specs.Squeeze.{movesReply, squeezeReply}
+use Rattle.definitions.specs.Import.{importReply}
 use Rattle.laws.proofs.Reply.{Valueless, Plain, plain-done, plain-refused, refused-valueless, judged-valueless}
 
 -- ---- the lent blocks
 
+pub as-valueless : (version : ℕ) (block : List ℕ) → Valueless (replyAs version block)
+unfolding replyAs
+as-valueless version block = judged-valueless (faultsAs version block)
+
 pub graph-valueless : (block : List ℕ) → Valueless (graphReply block)
 unfolding graphReply
-graph-valueless block = judged-valueless (graphFaults block)
+graph-valueless block = judged-valueless (faultsAs graphVersion block ++ countFaults block)
 
 pub rule-valueless : (block : List ℕ) → Valueless (ruleReply block)
 unfolding ruleReply
@@ -51,6 +56,12 @@ blocks-valueless graph rule map =
     first-valueless (mapReply map) (graphReply graph ∷ ruleReply rule ∷ []) (map-valueless map)
     (first-valueless (graphReply graph) (ruleReply rule ∷ []) (graph-valueless graph)
     (first-valueless (ruleReply rule) [] (rule-valueless rule) (plain-done .value)))
+
+-- ---- the import
+
+pub import-valueless : (block : List ℕ) → Valueless (importReply block)
+unfolding importReply
+import-valueless block = as-valueless importVersion block
 
 -- ---- the squeeze
 

@@ -1,8 +1,8 @@
 -- Lists that are made of pieces, one after the other: one more piece, and how long pieces of one size are together.
 -- Assumes nothing.
-use mathlib.Core.Path.{_≡_, sym, ap, _∙_}
+use mathlib.Core.Path.{_≡_, refl, sym, ap, ap₂, _∙_}
 use mathlib.Core.List.{List, [], _∷_, _++_, append-assoc, append-nil}
-use Prim.Native.Nat.{ℕ, suc, _+_, _*_, _<_}
+use Prim.Native.Nat.{ℕ, zero, suc, _+_, _*_, _<_}
 use native.Mathlib.Numerals.{add-one}
 use native.Mathlib.Omega.{arith}
 use lib.ListN.{length, getD, length-append}
@@ -27,3 +27,14 @@ module _ {A B : Type 0} (f : A → List B) where
   length-pieces size d (x ∷ xs) sized =
       let rest = length-pieces size d xs (λ k l. sized (suc k) (omega arith)) in
       omega (arith, length-append (f x) (concatMap f xs), sized 0 (omega arith))
+
+-- pieces that are the same one by one are the same together
+pub pieces-same : {B : Type 0} (f g : ℕ → List B) (n : ℕ) → ((k : ℕ) → k < n → f k ≡ g k)
+    → concatMap f (tabulate n (λ k. k)) ≡ concatMap g (tabulate n (λ k. k))
+unfolding concatMap tabulate
+pieces-same f g zero same = refl
+pieces-same f g (suc n) same =
+    let numbers = tabulate n (λ k. k) in
+    ap (concatMap f) (tabulate-more n (λ k. k)) ∙ concat-more f numbers n
+    ∙ ap₂ _++_ (pieces-same f g n (λ k l. same k (omega arith))) (same n (omega arith))
+    ∙ sym (ap (concatMap g) (tabulate-more n (λ k. k)) ∙ concat-more g numbers n)

@@ -1,7 +1,7 @@
 -- A list of faults is answered by the first that holds, and by done where none does; a list of replies by its first refusal.
 -- Assumes nothing.
 use mathlib.Core.Path.{_≡_, refl, sym, ap, _∙_}
-use mathlib.Core.List.{List, [], _∷_}
+use mathlib.Core.List.{List, [], _∷_, _++_}
 use mathlib.Core.Option.{none, some}
 use Prim.Native.Nat.{ℕ, _<_, _^_}
 use native.Mathlib.Omega.{arith}
@@ -67,9 +67,11 @@ pub where-refused : {reply : Reply} {why : Refusal} (after before : List ℕ) �
 unfolding whereDone
 where-refused after before e = rw (e, whereDone)
 
+pub done-refused : {value : ℕ} {why : Refusal} → Done value ≡ Refused why → ⊥
+done-refused e = let z : _≡_ {A = ℕ} 0 1 = cc in omega arith
+
 pub done-or-refused : (n p : ℕ) → done ≡ refusedAt n p → ⊥
-unfolding refusalAt
-done-or-refused n p e = let z : _≡_ {A = ℕ} 0 1 = cc in omega arith
+done-or-refused n p e = done-refused e
 
 -- ---- a list of faults
 
@@ -78,6 +80,19 @@ unfolding judged
 judged-valueless [] = plain-done .value
 judged-valueless (fault n none ∷ faults) = judged-valueless faults
 judged-valueless (fault n (some at) ∷ faults) = refused-valueless n at
+
+-- two lists of faults, one after the other: the second is asked where the first has none
+pub judged-next : (faults next : List Fault) → judged faults ≡ done → judged (faults ++ next) ≡ judged next
+unfolding judged
+judged-next [] next e = refl
+judged-next (fault n none ∷ faults) next e = judged-next faults next e
+judged-next (fault n (some at) ∷ faults) next e = absurd (done-or-refused n at (sym e))
+
+pub judged-first : {why : Refusal} (faults next : List Fault) → judged faults ≡ Refused why → judged (faults ++ next) ≡ Refused why
+unfolding judged
+judged-first [] next e = absurd (done-refused e)
+judged-first (fault n none ∷ faults) next e = judged-first faults next e
+judged-first (fault n (some at) ∷ faults) next e = e
 
 -- ---- the first refusal of a list of replies
 

@@ -2,9 +2,9 @@
 // their C prototypes. None has a `requires`: any bytes are answered. The contracts stand in
 // answers/specs/Statements, each with what follows from it.
 use reply::pack;
-ghost use Rattle.answers.specs.Statements.{CheckedGraph, CheckedRule, Searched, Rewrote, Swept, Squeezed};
+ghost use Rattle.answers.specs.Statements.{CheckedGraph, CheckedRule, Searched, Rewrote, Swept, Squeezed, Imported};
 
-// Checks a graph block: 0, or 20 to 23 with a place.
+// Checks a graph block: 0, or 20 to 24, all but 20 with a place.
 #[no_mangle]
 pub extern "C" fn lg_check_graph(graph: &[u8]) -> u64
     ensures { λ r. ⌜ CheckedGraph (now (graph .entry)) r ⌝ }
@@ -54,4 +54,13 @@ pub extern "C" fn lg_squeeze(graph: &mut [u8], moves: &mut [u8]) -> u64
     ensures { λ r. ⌜ Squeezed (now (graph .entry)) (now (moves .entry)) r (now (graph .exit)) (now (moves .exit)) ⌝ }
 {
     pack(graph_squeeze::squeeze(graph, moves))
+}
+
+// Turns a sound block of version 1 into version 2, with true counts: 20 to 23 by the rules of version 1, or 0. A refusal leaves every byte as
+// it came.
+#[no_mangle]
+pub extern "C" fn lg_import(graph: &mut [u8]) -> u64
+    ensures { λ r. ⌜ Imported (now (graph .entry)) r (now (graph .exit)) ⌝ }
+{
+    pack(graph_import::import(graph))
 }

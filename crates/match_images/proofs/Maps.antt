@@ -14,7 +14,7 @@ use lib.Seq.{ext-getD, getD-set-same, getD-set-other}
 use Rattle.definitions.specs.Lists.{allBelow, anyBelow, allPairs}
 use Rattle.definitions.specs.Fields.{signed}
 use Rattle.definitions.specs.Operators.{kindEmpty}
-use Rattle.definitions.specs.Graph.{unusedPlace, Slot, Graph, slotOf, inputsOf, isVertex, usesOf}
+use Rattle.definitions.specs.Graph.{unusedPlace, Slot, Graph, slotOf, inputsOf, isVertex, trueCount}
 use Rattle.definitions.specs.Rule.{sideCapacity, Rule, sourceOf, sourceInputs}
 use Rattle.definitions.specs.Attributes.{agrees}
 use Rattle.definitions.specs.Match.{imageOf, attributeOf, readAttribute, mustBePrivate, Takes, Match, placesOf}
@@ -179,7 +179,7 @@ module _ (g : Graph) (r : Rule) (f : Formed r) (j v : ℕ) (images : List ℕ) (
         (λ i l h. rw (low i l) (takes-same g images made r i (slotOf g (imageOf images i)) f (omega arith)
         (λ u k. sym (low u (omega arith))) (p .takes i l h)))
         (λ h. rw here (takes-same g images made r j (slotOf g v) f inside (λ u k. sym (low u k)) (new-takes sends agree h)));
-    demands = below-next (λ i. mustBePrivate r i ≡ true → usesOf g (imageOf made i) ≡ placesOf r i) j
+    demands = below-next (λ i. mustBePrivate r i ≡ true → trueCount g (imageOf made i) ≡ placesOf r i) j
         (λ i l. rw (low i l) (p .demands i l)) (rw here (candidate-uses g r j v fits));
   }
 

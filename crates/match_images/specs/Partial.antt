@@ -6,7 +6,7 @@ use mathlib.Core.List.{List}
 use Prim.Native.Nat.{ℕ, _<_, _≤_}
 use lib.ListN.{length, getD}
 use Rattle.definitions.specs.Operators.{kindEmpty}
-use Rattle.definitions.specs.Graph.{unusedPlace, Graph, slotOf, inputsOf, isVertex, usesOf}
+use Rattle.definitions.specs.Graph.{unusedPlace, Graph, slotOf, inputsOf, isVertex, trueCount}
 use Rattle.definitions.specs.Rule.{sideCapacity, Rule, sourceOf, sourceInputs}
 use Rattle.definitions.specs.Match.{imageOf, mustBePrivate, Takes, Match, placesOf}
 
@@ -19,7 +19,7 @@ pub record Partial (g : Graph) (r : Rule) (next : ℕ) (images : List ℕ) : Typ
   pub injective : (i k : ℕ) → i < next → k < next → imageOf images i ≡ imageOf images k → i ≡ k
   pub takes : (i : ℕ) → i < next → (sourceOf r i .kind ≡ kindEmpty → ⊥)
       → Takes g images (sourceOf r i) (slotOf g (imageOf images i))
-  pub demands : (i : ℕ) → i < next → mustBePrivate r i ≡ true → usesOf g (imageOf images i) ≡ placesOf r i
+  pub demands : (i : ℕ) → i < next → mustBePrivate r i ≡ true → trueCount g (imageOf images i) ≡ placesOf r i
 
 -- `whole` has the first `next` images
 abbrev pub Extends : ℕ → List ℕ → List ℕ → Type 0

@@ -12,7 +12,7 @@ use lib.ListN.{length, getD}
 use Rattle.definitions.specs.Lists.{member}
 use Rattle.definitions.specs.Operators.{kindEmpty}
 use Rattle.definitions.specs.Paths.{Reads}
-use Rattle.definitions.specs.Graph.{Graph, slotOf, inputsOf, isVertex, usesOf}
+use Rattle.definitions.specs.Graph.{Graph, slotOf, inputsOf, isVertex, trueCount}
 use Rattle.definitions.specs.Rule.{Rule, anything, sourceOf, ruleOf, sourceCount, sourceInputs, isRuleInput, accessesBelow}
 use Rattle.definitions.specs.Match.{imageOf, isInterior, mustBePrivate, Match, placesOf}
 use Rattle.laws.proofs.Lists.{decided, and-left, and-right, needed}
@@ -63,7 +63,7 @@ module _ (g : Graph) (v : ℕ) (p : Head) (demand : ℕ) (passed : Bool) (looked
   unfolding suits
   look-fails f = simp (sym looked, f)
 
-  pub look-passes : passed ≡ true → (b : Bool) (uses : ℕ) → b ≡ usesFit demand uses → uses ≡ usesOf g v → b ≡ suits p demand g v
+  pub look-passes : passed ≡ true → (b : Bool) (uses : ℕ) → b ≡ usesFit demand uses → uses ≡ trueCount g v → b ≡ suits p demand g v
   unfolding suits
   look-passes t b uses e u = rw (← looked, t, ← u) e
 
@@ -77,7 +77,7 @@ candidate-suits g r j v head demand h d = rw (h, d)
 pub output-candidate : (g : Graph) (r : Rule) (o v : ℕ) → member o (r .sourceOutputs) ≡ true
     → passesLook (patternHead (sourceOf r o)) g v ≡ true → isCandidate g r o v ≡ true
 unfolding isCandidate suits demandOf mustBePrivate isInterior
-output-candidate g r o v m t = simp (t, m, and-false, no-demand (usesOf g v))
+output-candidate g r o v m t = simp (t, m, and-false, no-demand (trueCount g v))
 
 -- ---- a rule that can be matched
 
@@ -108,11 +108,11 @@ module _ (block : List ℕ) (m : Matchable block) where
 module _ (g : Graph) (r : Rule) (j v : ℕ) (fits : isCandidate g r j v ≡ true) where
   pub candidate-looked : look (sourceOf r j) (slotOf g v) ≡ true
   unfolding isCandidate suits passesLook
-  candidate-looked = and-left (look (sourceOf r j) (slotOf g v)) (usesFit (demandOf r j) (usesOf g v)) fits
+  candidate-looked = and-left (look (sourceOf r j) (slotOf g v)) (usesFit (demandOf r j) (trueCount g v)) fits
 
-  uses : usesFit (demandOf r j) (usesOf g v) ≡ true
+  uses : usesFit (demandOf r j) (trueCount g v) ≡ true
   unfolding isCandidate suits passesLook
-  uses = and-right (look (sourceOf r j) (slotOf g v)) (usesFit (demandOf r j) (usesOf g v)) fits
+  uses = and-right (look (sourceOf r j) (slotOf g v)) (usesFit (demandOf r j) (trueCount g v)) fits
 
   pub candidate-same : (sourceOf r j .kind ≡ kindEmpty → ⊥) → SameHead (patternHead (sourceOf r j)) (slotHead (slotOf g v))
   unfolding patternHead
@@ -129,9 +129,9 @@ module _ (g : Graph) (r : Rule) (j v : ℕ) (fits : isCandidate g r j v ≡ true
       simp (ne-eqb (slotOf g v .kind) kindEmpty (λ e. h (sym (same .kind) ∙ e))))
       (decided (eqb (sourceOf r j .kind) kindEmpty))
 
-  pub candidate-uses : mustBePrivate r j ≡ true → usesOf g v ≡ placesOf r j
+  pub candidate-uses : mustBePrivate r j ≡ true → trueCount g v ≡ placesOf r j
   unfolding demandOf
-  candidate-uses t = met-demand (placesOf r j) (usesOf g v) (rw t at uses)
+  candidate-uses t = met-demand (placesOf r j) (trueCount g v) (rw t at uses)
 
 -- a candidate has as many inputs and attributes as its source vertex, or more
 module _ (g : Graph) (r : Rule) (f : Formed r) (j v : ℕ) (l : j < length (r .source)) (fits : isCandidate g r j v ≡ true) where
@@ -160,14 +160,14 @@ module _ (g : Graph) (r : Rule) (f : Formed r) (whole : List ℕ) (m : Match g r
   input-inside j u reads = omega (arith, f .lower j u reads, source-reader r j u reads)
 
   module _ (j : ℕ) (l : j < length (r .source)) where
-    match-uses : usesFit (demandOf r j) (usesOf g (imageOf whole j)) ≡ true
+    match-uses : usesFit (demandOf r j) (trueCount g (imageOf whole j)) ≡ true
     unfolding demandOf
     match-uses = ⊎-elim
         (λ (t : mustBePrivate r j ≡ true).
-        rw t (demand-met (placesOf r j) (usesOf g (imageOf whole j))
+        rw t (demand-met (placesOf r j) (trueCount g (imageOf whole j))
         (private-uses g r whole (f .plain) input-inside (λ i k. image-inside g r whole i m k) (m .injective) (match-inputs g r whole m) j l
         (m .interior j l (true-holds (mustBePrivate r j) t)))))
-        (λ (t : mustBePrivate r j ≡ false). rw t (no-demand (usesOf g (imageOf whole j))))
+        (λ (t : mustBePrivate r j ≡ false). rw t (no-demand (trueCount g (imageOf whole j))))
         (decided (mustBePrivate r j))
 
     pub match-candidate : (v : ℕ) → imageOf whole j ≡ v → isCandidate g r j v ≡ true

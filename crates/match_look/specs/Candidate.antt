@@ -4,7 +4,7 @@ use mathlib.Core.Bool.{Bool, cond, not, _&&_, _||_}
 use Prim.Native.Nat.{ℕ, suc}
 use lib.Dec.{eqb}
 use Rattle.definitions.specs.Operators.{kindEmpty}
-use Rattle.definitions.specs.Graph.{Graph, slotOf, usesOf}
+use Rattle.definitions.specs.Graph.{Graph, slotOf, trueCount}
 use Rattle.definitions.specs.Rule.{Rule, sourceOf}
 use Rattle.rule_uses.specs.Demands.{demandOf}
 use Rattle.match_look.specs.Head.{Head, slotHead, patternHead}
@@ -28,7 +28,7 @@ usesFit demand uses = eqb demand 0 || eqb demand (suc uses)
 
 -- slot v passes the look for a vertex with that head, and is named as often as that demand allows
 unfoldable pub suits : Head → ℕ → Graph → ℕ → Bool
-suits head demand g v = passesLook head g v && usesFit demand (usesOf g v)
+suits head demand g v = passesLook head g v && usesFit demand (trueCount g v)
 
 -- slot v is a candidate for source vertex j
 unfoldable pub isCandidate : Graph → Rule → ℕ → ℕ → Bool

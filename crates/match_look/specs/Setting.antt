@@ -1,4 +1,4 @@
--- What matching asks of the lent blocks, and of the counts made from them.
+-- What matching asks of the lent blocks, and of what is counted in the rule.
 -- Assumes nothing.
 use mathlib.Core.Path.{_≡_}
 use mathlib.Core.Bool.{true}
@@ -6,7 +6,7 @@ use mathlib.Core.List.{List, []}
 use Prim.Native.Nat.{ℕ, _<_}
 use lib.ListN.{length, getD}
 use Rattle.definitions.specs.Operators.{kindEmpty}
-use Rattle.definitions.specs.Graph.{slotLimit, slotCount, graphOf, usesOf}
+use Rattle.definitions.specs.Graph.{slotCount, TrueCounts}
 use Rattle.definitions.specs.Rule.{sideCapacity, sourceCount, anything, ruleOf, sourceOf, sourceInputs, isRuleInput, accessesBelow}
 use Rattle.graph_fields.specs.Layout.{ReadableGraph, Closed}
 use Rattle.rule_fields.specs.Layout.{ReadableRule, Layered}
@@ -24,19 +24,16 @@ pub record Matchable (block : List ℕ) : Type 0 where
   pub below : (j i : ℕ) → j < sourceCount block → i < length (sourceOf (ruleOf block) j .attributes)
       → accessesBelow j (getD (sourceOf (ruleOf block) j .attributes) i anything) ≡ true
 
--- how often each slot is named
-abbrev pub UsesCounted : List ℕ → List ℕ → Type 0
-UsesCounted graph used = (length used ≡ slotLimit) × ((v : ℕ) → v < slotCount graph → getD used v 0 ≡ usesOf (graphOf graph) v)
-
-pub record Setting (graph rule used demanded : List ℕ) : Type 0 where
+pub record Setting (graph rule demanded : List ℕ) : Type 0 where
   pub readable : ReadableGraph graph
   pub closed : Closed graph
   pub matchable : Matchable rule
-  pub uses : UsesCounted graph used
+  -- so how often a slot is named is read from its record
+  pub counts : TrueCounts graph
   pub demands : (length demanded ≡ sideCapacity) × ((j : ℕ) → j < sourceCount rule → getD demanded j 0 ≡ demandOf (ruleOf rule) j)
 
 -- a slot that is looked at
-pub record LookReady (graph used : List ℕ) (v : ℕ) : Type 0 where
+pub record LookReady (graph : List ℕ) (v : ℕ) : Type 0 where
   pub readable : ReadableGraph graph
-  pub uses : UsesCounted graph used
+  pub counts : TrueCounts graph
   pub slot : v < slotCount graph

@@ -1,11 +1,12 @@
 // What is asked of a slot before its inputs are entered: the look at its kind, operator and counts, which turns away most slots, and then
 // how often it is named.
 use definitions::KIND_EMPTY;
-use definitions::SLOT_LIMIT;
+use fields::widened;
 use graph_fields::attribute_count;
 use graph_fields::input_count;
 use graph_fields::kind_of;
 use graph_fields::operator_of;
+use graph_fields::stored_count;
 use rule_fields::source_attribute_count;
 use rule_fields::source_input_count;
 use rule_fields::source_kind;
@@ -91,7 +92,7 @@ pub fn passes_look(graph: &[u8], head: u32, v: usize) -> bool
 }
 
 // Whether a slot with so many uses meets a demand: 0 is none, and another is one more than the uses.
-fn uses_fit(demand: u16, uses: u16) -> bool
+fn uses_fit(demand: usize, uses: usize) -> bool
     ensures { λ r. ⌜ r ≡ usesFit demand uses ⌝ }
 {
     if demand == 0 {
@@ -101,12 +102,12 @@ fn uses_fit(demand: u16, uses: u16) -> bool
 }
 
 // Whether slot v can be the image of a source vertex with that head and that demand, by what can be told without entering its inputs.
-pub fn suits(graph: &[u8], uses: &[u16; SLOT_LIMIT], head: u32, demand: u16, v: usize) -> bool
-    requires { ⌜ LookReady (now graph) (now uses) v ⌝ }
+pub fn suits(graph: &[u8], head: u32, demand: u16, v: usize) -> bool
+    requires { ⌜ LookReady (now graph) v ⌝ }
     ensures { λ r. ⌜ r ≡ suits (headIn head) demand (graphOf (now (graph .entry))) v ⌝ }
 {
     if !passes_look(graph, head, v) {
         return false;
     }
-    uses_fit(demand, uses[v])
+    uses_fit(widened(demand), stored_count(graph, v))
 }

@@ -8,7 +8,7 @@ use native.Mathlib.Omega.{arith}
 use lib.ListN.{length, take}
 use lib.Seq.{length-take-le}
 use Rattle.definitions.specs.Operators.{kindEmpty}
-use Rattle.definitions.specs.Graph.{unusedPlace, Graph, slotOf, inputsOf, isVertex, usesOf}
+use Rattle.definitions.specs.Graph.{unusedPlace, Graph, slotOf, inputsOf, isVertex, trueCount}
 use Rattle.definitions.specs.Rule.{sideCapacity, Rule, sourceOf, sourceInputs, isRuleInput}
 use Rattle.definitions.specs.Match.{imageOf, mustBePrivate, Takes, Match}
 use Rattle.laws.proofs.Lists.{true-not-false}
@@ -58,5 +58,5 @@ module _ (g : Graph) (r : Rule) (f : Formed r) (images : List ℕ) (p : Partial 
     takes = takes;
     interior = λ j l t. uses-private g r short (f .plain) (λ w u m. omega (arith, f .lower w u m, source-reader r w u m))
         (λ i k. vertex-inside g (imageOf short i) (vertex i k)) apart inner-inputs j l
-        (ap (usesOf g) (short-image j) ∙ p .demands j l (holds (mustBePrivate r j) t));
+        (ap (trueCount g) (short-image j) ∙ p .demands j l (holds (mustBePrivate r j) t));
   }

@@ -19,8 +19,8 @@ pub record Finds (best : Option (List ℕ)) (n : ℕ) (ok : Bool) (images : List
   pub small : ok ≡ true → n ≤ sideCapacity
   pub rest : ok ≡ true → (i : ℕ) → n ≤ i → imageOf images i ≡ unusedPlace
 
--- the rule is sound, its source outputs are these, and uses and demands are counted
-pub record SearchReady (graph rule used demanded : List ℕ) (outputs : List ℕ) : Type 0 where
+-- the rule is sound, its source outputs are these, and the demands are counted
+pub record SearchReady (graph rule demanded : List ℕ) (outputs : List ℕ) : Type 0 where
   pub sound : SoundRule rule
   pub listed : ruleOf rule .sourceOutputs ≡ outputs
-  pub setting : Setting graph rule used demanded
+  pub setting : Setting graph rule demanded

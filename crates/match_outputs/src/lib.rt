@@ -1,7 +1,6 @@
 // Images of a rule's outputs, tried in order. Output images fix the rest of a match, so the first that leads to a match leads to the least.
 // Here is the search for a rule with one output, and what every search comes to.
 use definitions::SIDE_CAPACITY;
-use definitions::SLOT_LIMIT;
 use definitions::UNUSED_PLACE;
 use graph_fields::slot_count;
 use match_candidates::next_candidate;
@@ -36,12 +35,11 @@ pub fn none_found() -> Found
 pub fn search_one(
     graph: &[u8],
     rule: &[u8],
-    uses: &[u16; SLOT_LIMIT],
     demands: &[u16; SIDE_CAPACITY],
     root: usize,
     start: usize,
 ) -> Found
-    requires { ⌜ SearchReady (now graph) (now rule) (now uses) (now demands) (root ∷ []) ⌝ }
+    requires { ⌜ SearchReady (now graph) (now rule) (now demands) (root ∷ []) ⌝ }
     ensures { λ r. ⌜ Finds (leastMatch (graphOf (now (graph .entry))) (ruleOf (now (rule .entry))) start)
         (sourceCount (now (rule .entry))) (r .ok) (r .images) ⌝ }
 {
@@ -50,7 +48,7 @@ pub fn search_one(
     let mut images = [UNUSED_PLACE; SIDE_CAPACITY];
     let mut slot = next_candidate(graph, head, start);
     while slot < slots {
-        if match_candidate(graph, rule, uses, demands, root, slot, 0, &mut images) {
+        if match_candidate(graph, rule, demands, root, slot, 0, &mut images) {
             return Found { ok: true, images };
         }
         slot = next_candidate(graph, head, slot + 1);

@@ -1,6 +1,5 @@
 // The least match of a rule with two outputs: images of the first output in order, and for each of these images of the second.
 use definitions::SIDE_CAPACITY;
-use definitions::SLOT_LIMIT;
 use definitions::UNUSED_PLACE;
 use fields::widened;
 use graph_fields::slot_count;
@@ -23,13 +22,12 @@ ghost use Rattle.match_outputs.specs.Finds.{SearchReady, Finds};
 pub fn search_pairs(
     graph: &[u8],
     rule: &[u8],
-    uses: &[u16; SLOT_LIMIT],
     demands: &[u16; SIDE_CAPACITY],
     root: usize,
     last: usize,
     start: usize,
 ) -> Found
-    requires { ⌜ SearchReady (now graph) (now rule) (now uses) (now demands) (root ∷ last ∷ []) ⌝ }
+    requires { ⌜ SearchReady (now graph) (now rule) (now demands) (root ∷ last ∷ []) ⌝ }
     ensures { λ r. ⌜ Finds (leastMatch (graphOf (now (graph .entry))) (ruleOf (now (rule .entry))) start)
         (sourceCount (now (rule .entry))) (r .ok) (r .images) ⌝ }
 {
@@ -44,11 +42,11 @@ pub fn search_pairs(
     let mut ok = false;
     let mut first = next_candidate(graph, head, start);
     'search: while first < slots {
-        if match_candidate(graph, rule, uses, demands, root, first, 0, &mut images) {
+        if match_candidate(graph, rule, demands, root, first, 0, &mut images) {
             let mut k = 0;
             while k < candidates.count {
                 let second = widened(candidates.slots[k]);
-                if match_candidate(graph, rule, uses, demands, last, second, next, &mut images) {
+                if match_candidate(graph, rule, demands, last, second, next, &mut images) {
                     ok = true;
                     break 'search;
                 }

@@ -14,16 +14,16 @@ use Rattle.match_look.specs.Setting.{Setting}
 use Rattle.match_images.specs.Partial.{Partial, Sends, Step}
 
 -- the first `next` source vertices have their images, and the traversal goes on with vertex j
-pub record VertexReady (graph rule used demanded : List ℕ) (j v next : ℕ) (images : List ℕ) : Type 0 where
-  pub setting : Setting graph rule used demanded
+pub record VertexReady (graph rule demanded : List ℕ) (j v next : ℕ) (images : List ℕ) : Type 0 where
+  pub setting : Setting graph rule demanded
   pub vertex : j < sourceCount rule
   pub slot : v < slotCount graph
   pub partial : Partial (graphOf graph) (ruleOf rule) next images
   pub order : InOrder (ruleOf rule) next (j ∷ [])
 
 -- the same, where j has no image yet and v is a candidate for it
-pub record CandidateReady (graph rule used demanded : List ℕ) (j v next : ℕ) (images : List ℕ) : Type 0 where
-  pub setting : Setting graph rule used demanded
+pub record CandidateReady (graph rule demanded : List ℕ) (j v next : ℕ) (images : List ℕ) : Type 0 where
+  pub setting : Setting graph rule demanded
   pub vertex : j < sourceCount rule
   pub slot : v < slotCount graph
   pub candidate : isCandidate (graphOf graph) (ruleOf rule) j v ≡ true
@@ -33,8 +33,8 @@ pub record CandidateReady (graph rule used demanded : List ℕ) (j v next : ℕ)
 
 -- The first `next` source vertices have their images, and the traversal goes on with the inputs of vertex j from place i on. Slot v is a
 -- candidate for j, so that no input is entered where the look said no.
-pub record InputsReady (graph rule used demanded : List ℕ) (j v i next : ℕ) (images : List ℕ) : Type 0 where
-  pub setting : Setting graph rule used demanded
+pub record InputsReady (graph rule demanded : List ℕ) (j v i next : ℕ) (images : List ℕ) : Type 0 where
+  pub setting : Setting graph rule demanded
   pub vertex : j < sourceCount rule
   pub slot : v < slotCount graph
   pub candidate : isCandidate (graphOf graph) (ruleOf rule) j v ≡ true

@@ -1,7 +1,6 @@
 // Matching a source vertex with a slot. The traversal that put the source vertices in order is followed: inputs first, left to right,
 // each vertex once, so the images found so far are those of the first `next` source vertices.
 use definitions::SIDE_CAPACITY;
-use definitions::SLOT_LIMIT;
 use fields::greater;
 use graph_fields::input_at;
 use match_images::is_image;
@@ -23,14 +22,13 @@ ghost use Rattle.matching.specs.Ready.{VertexReady, VertexDone, Candidat
 fn match_vertex(
     graph: &[u8],
     rule: &[u8],
-    uses: &[u16; SLOT_LIMIT],
     demands: &[u16; SIDE_CAPACITY],
     j: usize,
     v: usize,
     next: usize,
     images: &mut [u16; SIDE_CAPACITY],
 ) -> bool
-    requires { ⌜ VertexReady (now graph) (now rule) (now uses) (now demands) j v next (now images) ⌝ }
+    requires { ⌜ VertexReady (now graph) (now rule) (now demands) j v next (now images) ⌝ }
     ensures { λ r. ⌜ VertexDone (graphOf (now (graph .entry))) (ruleOf (now (rule .entry))) j v next (now (images .entry)) r
         (now (images .exit)) ⌝ }
 {
@@ -38,28 +36,27 @@ fn match_vertex(
         return is_image(images, j, v);
     }
     let head = pattern_head(rule, j);
-    if !suits(graph, uses, head, demands[j], v) {
+    if !suits(graph, head, demands[j], v) {
         return false;
     }
-    match_candidate(graph, rule, uses, demands, j, v, next, images)
+    match_candidate(graph, rule, demands, j, v, next, images)
 }
 
 // Matches source vertex j, which has no image yet, with slot v, a candidate for it: its inputs first, and then itself.
 pub fn match_candidate(
     graph: &[u8],
     rule: &[u8],
-    uses: &[u16; SLOT_LIMIT],
     demands: &[u16; SIDE_CAPACITY],
     j: usize,
     v: usize,
     next: usize,
     images: &mut [u16; SIDE_CAPACITY],
 ) -> bool
-    requires { ⌜ CandidateReady (now graph) (now rule) (now uses) (now demands) j v next (now images) ⌝ }
+    requires { ⌜ CandidateReady (now graph) (now rule) (now demands) j v next (now images) ⌝ }
     ensures { λ r. ⌜ Step (graphOf (now (graph .entry))) (ruleOf (now (rule .entry))) next (now (images .entry)) (Sends j v)
         (max next (suc j)) r (now (images .exit)) ⌝ }
 {
-    if !match_inputs(graph, rule, uses, demands, j, v, 0, next, images) {
+    if !match_inputs(graph, rule, demands, j, v, 0, next, images) {
         return false;
     }
     settle(graph, rule, j, v, images)
@@ -69,7 +66,6 @@ pub fn match_candidate(
 fn match_inputs(
     graph: &[u8],
     rule: &[u8],
-    uses: &[u16; SLOT_LIMIT],
     demands: &[u16; SIDE_CAPACITY],
     j: usize,
     v: usize,
@@ -77,7 +73,7 @@ fn match_inputs(
     next: usize,
     images: &mut [u16; SIDE_CAPACITY],
 ) -> bool
-    requires { ⌜ InputsReady (now graph) (now rule) (now uses) (now demands) j v i next (now images) ⌝ }
+    requires { ⌜ InputsReady (now graph) (now rule) (now demands) j v i next (now images) ⌝ }
     ensures { λ r. ⌜ Step (graphOf (now (graph .entry))) (ruleOf (now (rule .entry))) next (now (images .entry))
         (SendsInputs (graphOf (now (graph .entry))) (ruleOf (now (rule .entry))) j v i)
         (visitedAfter next (drop i (sourceInputs (ruleOf (now (rule .entry))) j))) r (now (images .exit)) ⌝ }
@@ -87,9 +83,9 @@ fn match_inputs(
     }
     let u = source_input(rule, j, i);
     let w = input_at(graph, v, i);
-    if !match_vertex(graph, rule, uses, demands, u, w, next, images) {
+    if !match_vertex(graph, rule, demands, u, w, next, images) {
         return false;
     }
     let reached = greater(next, u + 1);
-    match_inputs(graph, rule, uses, demands, j, v, i + 1, reached, images)
+    match_inputs(graph, rule, demands, j, v, i + 1, reached, images)
 }

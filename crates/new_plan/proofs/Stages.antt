@@ -20,7 +20,7 @@ use Rattle.laws.proofs.Match.{image-inside, match-inputs}
 use Rattle.laws.proofs.Rewriting.{rewritten-unfit, rewritten-full, rewritten-cyclic, rewritten-done}
 use Rattle.laws.proofs.Graph.{length-slots}
 use Rattle.laws.proofs.Rule.{length-source, length-target}
-use Rattle.graph_check.proofs.Readable.{graph-readable, graph-closed, graph-outputs}
+use Rattle.graph_check.proofs.Readable.{graph-readable}
 use Rattle.rule_check.proofs.Readable.{rule-readable, rule-layered, rule-plain}
 use Rattle.attributes.proofs.Sound.{rule-evaluable}
 use Rattle.encoding.specs.Tables.{Table}
@@ -66,11 +66,8 @@ module _ (graph rule images : List ℕ) (isMatched : Matched graph rule images) 
   removable =
       let inside : (j : ℕ) → j < sourceCount rule → j < length (r .source) = λ j l. rw (length-source rule) l in
       record {
-        table = record {
-          readable = graph-readable graph (isMatched .soundGraph);
-          closed = graph-closed graph (isMatched .soundGraph);
-          outputs = graph-outputs graph (isMatched .soundGraph);
-        };
+        table = graph-readable graph (isMatched .soundGraph) .whole;
+        counts = isMatched .soundGraph .counts;
         patterns = record { readable = rule-readable rule (isMatched .soundRule); layered = rule-layered rule (isMatched .soundRule) };
         plain = rule-plain rule (isMatched .soundRule);
         imageSize = isMatched .size;

@@ -2,6 +2,7 @@
 use acyclic::has_cycle;
 use definitions::Reply;
 use definitions::SIDE_CAPACITY;
+use graph_counts::store_counts;
 use graph_fields::slot_count;
 use new_slots::lowest_free;
 use new_table::write_table;
@@ -21,7 +22,8 @@ ghost use Rattle.definitions.specs.Operations as operation;
 ghost use Rattle.new_plan.specs.Planned.{Matched, Planned};
 
 // What a rewriting at this match comes to: refusal 5, 6 or 7, in that order, or done with the new table in `table`. The cycle is
-// looked for in the new table, and the room counted after the removal.
+// looked for in the new table, and the room counted after the removal. Counts are made last, once for the whole table: so they are true
+// also where a place was redirected away from a slot that stays, or to one.
 pub fn plan(graph: &[u8], rule: &[u8], images: &[u16; SIDE_CAPACITY], table: &mut [u8]) -> Reply
     requires { ⌜ Matched (now graph) (now rule) (now images) ⌝ }
     requires { ⌜ length (now table) ≡ length (now graph) ⌝ }
@@ -42,5 +44,6 @@ pub fn plan(graph: &[u8], rule: &[u8], images: &[u16; SIDE_CAPACITY], table: &mu
     if has_cycle(made) {
         return refuse(NEW_CYCLE);
     }
+    store_counts(table);
     Reply::Done(0)
 }

@@ -1,26 +1,23 @@
 -- The counts decide what the definition removes.
 -- Assumes nothing.
 use mathlib.Core.Path.{_≡_}
-use mathlib.Core.Bool.{true, false}
 use mathlib.Core.List.{List}
-use mathlib.Core.Logic.{⊎-elim}
 use Prim.Native.Nat.{ℕ, _<_}
 use native.Mathlib.Omega.{arith}
 use lib.Dec.{eqb}
 use lib.ListN.{length}
 use Rattle.definitions.specs.Paths.{Reads}
-use Rattle.definitions.specs.Graph.{Graph, graphOf, usesOf}
+use Rattle.definitions.specs.Graph.{storedCount, Graph, graphOf, trueCount}
 use Rattle.definitions.specs.Rule.{sourceCount, Rule, ruleOf, sourceInputs}
-use Rattle.definitions.specs.Match.{imageOf, isConst, placesOf, isPrivate}
+use Rattle.definitions.specs.Match.{imageOf, placesOf, isPrivate}
 use Rattle.definitions.specs.Rewriting.{goes}
-use Rattle.laws.proofs.Lists.{decided}
 use Rattle.laws.proofs.Tests.{same-test}
 use Rattle.laws.proofs.Members.{mem-place}
 use Rattle.laws.proofs.Graph.{length-slots}
 use Rattle.laws.proofs.Rule.{length-source, source-reader}
 use Rattle.theory.proofs.Match.{private-sound, private-complete}
 use Rattle.theory.proofs.Inside.{private-uses, uses-private}
-use Rattle.new_removal.specs.Removal.{Removable, CountedForConsts, goesBy}
+use Rattle.new_removal.specs.Removal.{Removable, goesBy}
 
 module _ (graph rule images : List ℕ) (removable : Removable graph rule images) (j : ℕ) (l : j < sourceCount rule) where
   abbrev g : Graph
@@ -40,7 +37,7 @@ module _ (graph rule images : List ℕ) (removable : Removable graph rule images
       rw (length-source rule) (omega arith)
 
   -- an image is private exactly where it is named as often as the rule's own source names its vertex
-  private-counted : eqb (usesOf g v) (placesOf r j) ≡ isPrivate g r images v
+  private-counted : eqb (trueCount g v) (placesOf r j) ≡ isPrivate g r images v
   private-counted =
       let below : (i : ℕ) → i < length (r .source) → i < sourceCount rule = λ i k. rw (length-source rule) at k in
       let slot : (i : ℕ) → i < length (r .source) → imageOf images i < length (g .slots) =
@@ -48,18 +45,13 @@ module _ (graph rule images : List ℕ) (removable : Removable graph rule images
       let apart : (i k : ℕ) → i < length (r .source) → k < length (r .source) → imageOf images i ≡ imageOf images k → i ≡ k =
       λ i k m n. removable .apart i k (below i m) (below k n) in
       let at : j < length (r .source) = rw (length-source rule) l in
-      same-test (usesOf g v) (placesOf r j)
+      same-test (trueCount g v) (placesOf r j)
       (λ e. private-complete g r images v
       (uses-private g r images (removable .plain) inside slot apart (λ i k. removable .inputs i (below i k)) j at e))
       (λ p. private-uses g r images (removable .plain) inside slot apart (λ i k. removable .inputs i (below i k)) j at
       (private-sound g r images v p))
 
-  pub goes-counted : (uses places : List ℕ) → CountedForConsts graph rule uses places → (image : ℕ) → image ≡ imageOf images j
-      → goesBy (ruleOf rule) uses places j image ≡ goes (graphOf graph) (ruleOf rule) images j
+  pub goes-counted : (image places : ℕ) → image ≡ imageOf images j → places ≡ placesOf r j
+      → goesBy r j (storedCount graph image) places ≡ goes g r images j
   unfolding goesBy goes
-  goes-counted uses places counted image e = ⊎-elim
-      (λ (c : isConst r j ≡ true).
-      let known = counted .counted j l c in
-      rw (e, known .0 v (removable .slots j l), known .1 j, private-counted))
-      (λ (c : isConst r j ≡ false). simp c)
-      (decided (isConst r j))
+  goes-counted image places e p = rw (e, p, removable .counts v (removable .slots j l), private-counted)

@@ -5,17 +5,18 @@ use mathlib.Core.Bool.{Bool, true, false, not, _&&_, _||_}
 use mathlib.Core.List.{List, [], map}
 use Prim.Native.Nat.{ℕ, _<_}
 use lib.Dec.{eqb}
-use lib.ListN.{length, getD}
-use Rattle.definitions.specs.Graph.{slotLimit, slotCount, graphOf, inputsOf, usesOf}
+use lib.ListN.{length}
+use Rattle.definitions.specs.Graph.{slotCount, graphOf, inputsOf, TrueCounts}
 use Rattle.definitions.specs.Rule.{sideCapacity, sourceCount, Rule, ruleOf, sourceInputs, isRuleInput}
-use Rattle.definitions.specs.Match.{imageOf, isConst, placesOf}
-use Rattle.graph_uses.specs.Countable.{CountableGraph}
+use Rattle.definitions.specs.Match.{imageOf, isConst}
+use Rattle.graph_fields.specs.Layout.{WholeGraph}
 use Rattle.rule_uses.specs.Countable.{CountableRule}
 
--- blocks whose places can be counted, and of a match what counting needs: images that are slots, no two the same, whose inputs are the
--- images of the pattern's inputs
+-- a graph block with true counts, a rule block whose places can be counted, and of a match what counting needs: images that are slots, no
+-- two the same, whose inputs are the images of the pattern's inputs
 pub record Removable (graph rule images : List ℕ) : Type 0 where
-  pub table : CountableGraph graph
+  pub table : WholeGraph graph
+  pub counts : TrueCounts graph
   pub patterns : CountableRule rule
   pub plain : (j : ℕ) → isRuleInput (ruleOf rule) j ≡ true → sourceInputs (ruleOf rule) j ≡ []
   pub imageSize : length images ≡ sideCapacity
@@ -24,15 +25,6 @@ pub record Removable (graph rule images : List ℕ) : Type 0 where
   pub inputs : (j : ℕ) → j < sourceCount rule → isRuleInput (ruleOf rule) j ≡ false
       → inputsOf (graphOf graph) (imageOf images j) ≡ map (imageOf images) (sourceInputs (ruleOf rule) j)
 
--- arrays that count, where the rule has a Const, the uses of every slot and the places of the source that name each source vertex
-pub record CountedForConsts (graph rule uses places : List ℕ) : Type 0 where
-  pub useSize : length uses ≡ slotLimit
-  pub placeSize : length places ≡ sideCapacity
-  pub counted : (c : ℕ) → c < sourceCount rule → isConst (ruleOf rule) c ≡ true
-      → ((v : ℕ) → v < slotCount graph → getD uses v 0 ≡ usesOf (graphOf graph) v)
-      × ((j : ℕ) → getD places j 0 ≡ placesOf (ruleOf rule) j)
-
--- whether the image of source vertex j goes, by counts
-unfoldable pub goesBy : Rule → List ℕ → List ℕ → ℕ → ℕ → Bool
-goesBy r uses places j image =
-    not (isRuleInput r j) && (not (isConst r j) || eqb (getD uses image 0) (getD places j 0))
+-- whether the image of source vertex j goes, by how often it is named, and how often the rule's own source names j
+unfoldable pub goesBy : Rule → ℕ → ℕ → ℕ → Bool
+goesBy r j uses places = not (isRuleInput r j) && (not (isConst r j) || eqb uses places)

@@ -1,5 +1,6 @@
 // The new table, written whole into a block of its own: the header and every slot, each from the old table, which is only read. So
-// nothing is read from a slot that was written before, and every place is redirected once.
+// nothing is read from a slot that was written before, and every place is redirected once. Counts are left 0: they are known when all places
+// are.
 use definitions::HEADER_BYTES;
 use definitions::SIDE_CAPACITY;
 use definitions::SLOT_LIMIT;
@@ -17,7 +18,7 @@ ghost use mathlib.Core.List.{_++_};
 ghost use Prim.Native.Nat.{_+_, _*_, _<_};
 ghost use lib.ListN.{length, take};
 ghost use Rattle.definitions.specs.Lists.{filter, range};
-ghost use Rattle.definitions.specs.Graph.{headerBytes, slotBytes, slotLimit, slotCount, graphOf, graphBlock, recordBlock, recordsBlock};
+ghost use Rattle.definitions.specs.Graph.{headerBytes, slotBytes, slotLimit, graphVersion, slotCount, graphOf, recordBlock, recordsBlock, blockAs};
 ghost use Rattle.definitions.specs.Rule.{ruleOutputCount, ruleOf};
 ghost use Rattle.definitions.specs.Rewriting.{stays};
 ghost use Rattle.laws.specs.Marked.{Marked};
@@ -56,7 +57,7 @@ fn write_slot(
     requires { ⌜ next ≡ length (filter (λ i. not (stays (graphOf (now graph)) (ruleOf (now rule)) (now images) i)) (range 0 k)) ⌝ }
     requires { ⌜ length (now table) ≡ length (now graph) ⌝ }
     ensures { λ r. ⌜ take (headerBytes + slotBytes * (k + 1)) (now (table .exit)) ≡ take (headerBytes + slotBytes * k) (now (table .entry))
-        ++ recordBlock (newTable (now (graph .entry)) (now (rule .entry)) (now (images .entry))) k ⌝ }
+        ++ recordBlock (λ i. 0) (newTable (now (graph .entry)) (now (rule .entry)) (now (images .entry))) k ⌝ }
 {
     let record = new_record(graph, rule, images, places, way, k, free, next);
     let tail = [0u8; TAIL_BYTES];
@@ -78,7 +79,7 @@ fn write_slots(
     requires { ⌜ Marked (λ k. not (stays (graphOf (now graph)) (ruleOf (now rule)) (now images) k)) (slotCount (now graph)) (now free) ⌝ }
     requires { ⌜ length (now table) ≡ length (now graph) ⌝ }
     ensures { λ r. ⌜ now (table .exit) ≡ take headerBytes (now (table .entry))
-        ++ recordsBlock (newTable (now (graph .entry)) (now (rule .entry)) (now (images .entry)))
+        ++ recordsBlock (λ i. 0) (newTable (now (graph .entry)) (now (rule .entry)) (now (images .entry)))
         (length (newTable (now (graph .entry)) (now (rule .entry)) (now (images .entry)) .slots)) ⌝ }
 {
     let slots = slot_count(graph);
@@ -105,7 +106,7 @@ pub fn write_table(
     requires { ⌜ 0 < ruleOutputCount (now rule) ⌝ }
     requires { ⌜ Marked (λ k. not (stays (graphOf (now graph)) (ruleOf (now rule)) (now images) k)) (slotCount (now graph)) (now free) ⌝ }
     requires { ⌜ length (now table) ≡ length (now graph) ⌝ }
-    ensures { λ r. ⌜ now (table .exit) ≡ graphBlock (newTable (now (graph .entry)) (now (rule .entry)) (now (images .entry))) ⌝ }
+    ensures { λ r. ⌜ now (table .exit) ≡ blockAs graphVersion (λ i. 0) (newTable (now (graph .entry)) (now (rule .entry)) (now (images .entry))) ⌝ }
 {
     let way = redirection_of(rule, images, places);
     let slots = slot_count(graph);

@@ -50,8 +50,8 @@ unfolding targetInputsFit
 site graph rule images soundGraph soundRule match room =
     let r : Rule = ruleOf rule in
     record {
-      layout = record { vertices = soundGraph .inputs; acyclic = soundGraph .acyclic };
-      outputs = soundGraph .outputs;
+      layout = record { vertices = soundGraph .form .inputs; acyclic = soundGraph .form .acyclic };
+      outputs = soundGraph .form .outputs;
       isMatch = match;
       constants = λ j l c.
           let inside : j < sourceCount rule = rw (length-source rule) at l in

@@ -9,7 +9,7 @@ use Prim.Native.Nat.{ℕ, _<_}
 use lib.IntN.{ℤ}
 use lib.ListN.{length, length-map}
 use Rattle.definitions.specs.Fields.{Bytes}
-use Rattle.definitions.specs.Graph.{slotCount, outputCount, Graph, graphOf, slotOf, SoundGraph}
+use Rattle.definitions.specs.Graph.{graphVersion, slotCount, outputCount, Graph, graphOf, slotOf, SoundGraph}
 use Rattle.definitions.specs.Rule.{ruleOf, SoundRule}
 use Rattle.definitions.specs.Match.{readAttribute, Match}
 use Rattle.definitions.specs.Rewriting.{targetResults, hasRoom, redirect, newSlot, newGraph}
@@ -40,8 +40,8 @@ module _ (graph rule images : List ℕ) (values : List (List ℤ)) (sound : Soun
 
   pub new-table : Table new
   new-table = record {
-    size = rw slots-size (slots-within graph (sound .header));
-    outputCount = rw outputs-size (outputs-within graph (sound .header));
+    size = rw slots-size (slots-within graph graphVersion (sound .form .header));
+    outputCount = rw outputs-size (outputs-within graph graphVersion (sound .form .header));
     shapes = λ k l. ap slotFits (slot-at k l) ∙ new-shapes graph rule images values sound soundRule found k (rw slots-size at l);
     inputs = new-inputs (graphOf graph) (ruleOf rule) images values (site graph rule images sound soundRule isMatch room);
     outputs = new-outputs (graphOf graph) (ruleOf rule) images values (site graph rule images sound soundRule isMatch room);

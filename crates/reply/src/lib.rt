@@ -19,6 +19,8 @@ pub const BAD_GRAPH_NAME: u8 = 22;
 
 pub const GRAPH_HAS_CYCLE: u8 = 23;
 
+pub const BAD_GRAPH_COUNT: u8 = 24;
+
 // What is wrong with a rule block.
 pub const BAD_RULE_HEADER: u8 = 30;
 

@@ -5,10 +5,11 @@ use mathlib.Core.List.{List}
 use Prim.Native.Nat.{ℕ, zero, suc, _+_, _-_, _*_, _<_}
 use native.Mathlib.Nat.{not-suc-le-zero, le-of-suc-le-suc}
 use native.Mathlib.Omega.{arith}
-use lib.Dec.{eqb}
+use borrow.Author.Tests.{ltb-true, lt-ltb}
+use lib.Dec.{eqb, ltb}
 use Rattle.definitions.specs.Fields.{byteAt, Bytes, filled}
 use Rattle.fields.specs.Words.{wordBytes, number, u64At}
-use Rattle.laws.proofs.Tests.{same-test}
+use Rattle.laws.proofs.Tests.{same-test, same-tests}
 use Rattle.fields.proofs.Laws.{filled-each, filled-place}
 
 -- ---- digits
@@ -48,3 +49,21 @@ module _ (block : List ℕ) (at : ℕ) where
       number-of wordBytes (λ i. byteAt block (at + i)) (λ i. value)
       (λ i l. filled-place block value at (at + wordBytes) h (at + i) (omega arith) (omega arith))
       ∙ ones)
+
+  -- it is a 16-bit number exactly where all its bytes but two are zero
+  pub word-ends : Bytes block → ltb (u64At block at) 65536 ≡ filled block (at + 2) (at + wordBytes) 0
+  unfolding u64At number
+  word-ends bytes =
+      let digit : ℕ → ℕ = λ i. byteAt block (at + suc (suc i)) in
+      same-tests
+      (λ t.
+      let none : number 6 digit ≡ number 6 (λ i. 0) = omega (arith, ltb-true (u64At block at) 65536 t) in
+      filled-each block 0 (at + 2) (at + wordBytes)
+      (λ k l m.
+      let i : at + suc (suc (k - (at + 2))) ≡ k = omega arith in
+      rw i at (digits-of 6 digit (λ i. 0) (λ i l. bytes (at + suc (suc i))) (λ i l. omega arith) none (k - (at + 2)) (omega arith))))
+      (λ h.
+      let none : number 6 digit ≡ number 6 (λ i. 0) =
+      number-of 6 digit (λ i. 0)
+      (λ i l. filled-place block 0 (at + 2) (at + wordBytes) h (at + suc (suc i)) (omega arith) (omega arith)) in
+      lt-ltb (u64At block at) 65536 (omega (arith, none, bytes (at + 0), bytes (at + 1))))

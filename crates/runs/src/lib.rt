@@ -45,6 +45,14 @@ pub fn word_filled(block: &[u8], at: usize, value: u8) -> bool
     u64_at(block, at) == WORD_OF_ONES * value as usize
 }
 
+// Whether the last six of the 8 bytes from `at` on are zero: then the word is a 16-bit number.
+pub fn word_ends_zero(block: &[u8], at: usize) -> bool
+    requires { ⌜ at + wordBytes ≤ length (now block) ⌝ }
+    ensures { λ r. ⌜ r ≡ filled (now (block .entry)) (at + 2) (at + wordBytes) 0 ⌝ }
+{
+    u64_at(block, at) < 65536
+}
+
 // Whether the bytes from `from` up to `to` all hold `value`, where they are one word to two words long: the first word and the last,
 // which may overlap.
 pub fn two_words_filled(block: &[u8], from: usize, to: usize, value: u8) -> bool

@@ -1,7 +1,6 @@
-// The least match from a start, by the number of a rule's outputs. The first output's candidates are looked for before anything is counted:
-// where no slot passes the look, there is no match.
+// The least match from a start, by the number of a rule's outputs. The first output's candidates are looked for before anything is counted in
+// the rule: where no slot passes the look, there is no match. In the graph nothing is counted: a slot stores how often it is named.
 use graph_fields::slot_count;
-use graph_uses::count_uses;
 use match_candidates::next_candidate;
 use match_look::pattern_head;
 use match_outputs::Found;
@@ -23,14 +22,13 @@ fn search(graph: &[u8], rule: &[u8], start: usize) -> Found
     ensures { λ r. ⌜ Finds (leastMatch (graphOf (now (graph .entry))) (ruleOf (now (rule .entry))) start)
         (sourceCount (now (rule .entry))) (r .ok) (r .images) ⌝ }
 {
-    let uses = count_uses(graph);
     let demands = count_demands(rule);
     let root = source_output(rule, 0);
     if output_count(rule) == 1 {
-        return search_one(graph, rule, &uses, &demands, root, start);
+        return search_one(graph, rule, &demands, root, start);
     }
     let last = source_output(rule, 1);
-    search_pairs(graph, rule, &uses, &demands, root, last, start)
+    search_pairs(graph, rule, &demands, root, last, start)
 }
 
 // The least match whose first output's image is at least `start`.

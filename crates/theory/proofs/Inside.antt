@@ -10,7 +10,7 @@ use native.Mathlib.Omega.{arith}
 use lib.ListN.{length}
 use Rattle.definitions.specs.Lists.{filter, member, range, count, total}
 use Rattle.definitions.specs.Paths.{Reads}
-use Rattle.definitions.specs.Graph.{Graph, inputsOf, readsOf, usesOf}
+use Rattle.definitions.specs.Graph.{Graph, inputsOf, readsOf, trueCount}
 use Rattle.definitions.specs.Rule.{Rule, sourceInputs, isRuleInput}
 use Rattle.definitions.specs.Match.{imageOf, placesOf, imagesWhere, innerImages, Private}
 use Rattle.laws.proofs.Lists.{decided, true-not-false}
@@ -70,8 +70,8 @@ module _ (g : Graph) (r : Rule) (images : List ℕ)
     places-reads = omega (arith, reads-parts)
 
     -- Where the image is private there are no others,
-    pub private-uses : Private g r images (imageOf images j) → usesOf g (imageOf images j) ≡ placesOf r j
-    unfolding usesOf
+    pub private-uses : Private g r images (imageOf images j) → trueCount g (imageOf images j) ≡ placesOf r j
+    unfolding trueCount
     private-uses p =
         let none : total (otherNames j) (length (g .slots)) ≡ 0 = total-none (otherNames j) (length (g .slots)) (λ w k. ⊎-elim
         (λ (t : member w (innerImages r images) ≡ true). simp t)
@@ -81,8 +81,8 @@ module _ (g : Graph) (r : Rule) (images : List ℕ)
         omega (arith, reads-parts, none, count-none (imageOf images j) (g .outputs) (p .noOutput))
 
     -- and where there are no others it is private.
-    pub uses-private : usesOf g (imageOf images j) ≡ placesOf r j → Private g r images (imageOf images j)
-    unfolding usesOf
+    pub uses-private : trueCount g (imageOf images j) ≡ placesOf r j → Private g r images (imageOf images j)
+    unfolding trueCount
     uses-private e = record {
       noOutput = λ m. omega (arith, reads-parts, e, count-some m);
       readers = λ w m. ⊎-elim

@@ -10,3 +10,4 @@ pub mod Choices
 pub mod Least
 pub mod Fields
 pub mod Inside
+pub mod Counts

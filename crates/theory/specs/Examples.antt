@@ -1,21 +1,23 @@
 -- Document 01's worked examples P1 to P10 as one list. What the paper leaves open is chosen here once: attributes of the Variables and
 -- of conv2d and mean, the targets of P5 and P6, the map's bytes before; for P10 a graph of one Variable and two gains, whose first
--- attributes are the paper's two numbers and whose others are 1, and a rule that multiplies each of the three with its like.
+-- attributes are the paper's two numbers and whose others are 1, and a rule that multiplies each of the three with its like. The paper's
+-- graphs are of version 1: the examples are of what the import makes of them.
 -- Assumes nothing.
 use mathlib.Core.Path.{_≡_}
 use mathlib.Core.List.{List, [], _∷_, _++_}
 use mathlib.Core.Option.{Option, none, some}
 use Prim.Native.Nat.{ℕ}
 use lib.IntN.{ℤ, pos, negsuc}
-use lib.ListN.{length, replicate}
+use lib.ListN.{length, replicate, set}
 use Rattle.definitions.specs.declared.Reply.the-variants.{Done}
 use Rattle.definitions.specs.Lists.{padded, concatMap}
 use Rattle.definitions.specs.Fields.{u32Bytes}
 use Rattle.definitions.specs.Reply.{refused}
-use Rattle.definitions.specs.Graph.{Slot, emptySlot, graphBlock}
+use Rattle.definitions.specs.Graph.{importVersion, Slot, emptySlot, blockAs, graphBlock}
 use Rattle.definitions.specs.Rule.{Operation, divide, remainder, Expression, constant, apply}
 use Rattle.definitions.specs.Attributes.{result}
 use Rattle.definitions.specs.Operations.{Outcome, mapBlock, findMatch, rewrite}
+use Rattle.definitions.specs.Import.{importGraph}
 
 -- ---- blocks
 
@@ -37,8 +39,16 @@ relu x = call 7 (x ∷ []) []
 
 -- the block of the graph with these slots and outputs
 unfoldable pub block : List Slot → List ℕ → List ℕ
-unfolding graphBlock
 block slots outputs = graphBlock (record { slots = slots; outputs = outputs })
+
+-- its block of version 1, which has no counts
+unfoldable pub oldBlock : List Slot → List ℕ → List ℕ
+oldBlock slots outputs = blockAs importVersion (λ k. 0) (record { slots = slots; outputs = outputs })
+
+-- and what the import makes of that
+unfoldable pub imported : List Slot → List ℕ → List ℕ
+unfolding oldBlock
+imported slots outputs = importGraph (oldBlock slots outputs)
 
 -- a vertex of a rule: kind, operator, input places, attribute nodes
 unfoldable pub vertex : ℕ → ℕ → List ℕ → List ℕ → List ℕ
@@ -72,9 +82,13 @@ e1Slots : List Slot
 unfolding variable call relu
 e1Slots = variable ∷ variable ∷ call 4 (0 ∷ 1 ∷ []) (1 ∷ 1 ∷ 1 ∷ 1 ∷ []) ∷ relu 2 ∷ relu 3 ∷ []
 
+e1Old : List ℕ
+unfolding e1Slots oldBlock
+e1Old = oldBlock (e1Slots ++ emptySlot ∷ []) (4 ∷ [])
+
 e1 : List ℕ
-unfolding e1Slots block
-e1 = block (e1Slots ++ emptySlot ∷ []) (4 ∷ [])
+unfolding e1Slots imported
+e1 = imported (e1Slots ++ emptySlot ∷ []) (4 ∷ [])
 
 -- what RR leaves of E1
 e1After : List ℕ
@@ -136,17 +150,17 @@ unfolding e1 e1After rr done
 p2From4 = rewriting e1 rr 4 (done e1After (2 ∷ 3 ∷ 4 ∷ []))
 
 p3Graph : List ℕ
-unfolding e1Slots block
-p3Graph = block (e1Slots ++ emptySlot ∷ []) (4 ∷ 3 ∷ [])
+unfolding e1Slots imported
+p3Graph = imported (e1Slots ++ emptySlot ∷ []) (4 ∷ 3 ∷ [])
 
 p3 : Example
 unfolding p3Graph rr refusal
 p3 = rewriting p3Graph rr 0 (refusal 4 p3Graph)
 
 p4 : Example
-unfolding e1Slots variable call relu block rr done
+unfolding e1Slots variable call relu block imported rr done
 p4 =
-    rewriting (block e1Slots (4 ∷ [])) rr 0
+    rewriting (imported e1Slots (4 ∷ [])) rr 0
     (done
     (block
     (variable ∷ variable ∷ call 4 (0 ∷ 1 ∷ []) (1 ∷ 1 ∷ 1 ∷ 1 ∷ []) ∷ relu 2 ∷ emptySlot ∷ [])
@@ -154,8 +168,8 @@ p4 =
     (2 ∷ 3 ∷ 4 ∷ []))
 
 p5Graph : List ℕ
-unfolding variable call block
-p5Graph = block (variable ∷ call 1 (0 ∷ 0 ∷ []) [] ∷ []) (1 ∷ [])
+unfolding variable call imported
+p5Graph = imported (variable ∷ call 1 (0 ∷ 0 ∷ []) [] ∷ []) (1 ∷ [])
 
 p5Apart : Example
 unfolding p5Graph wild calls rule refusal
@@ -170,8 +184,8 @@ p5Same =
     (done p5Graph (0 ∷ 1 ∷ []))
 
 p6Graph : List ℕ
-unfolding variable call relu block
-p6Graph = block (variable ∷ relu 0 ∷ call 12 (1 ∷ []) (1 ∷ []) ∷ call 1 (1 ∷ 2 ∷ []) [] ∷ []) (3 ∷ [])
+unfolding variable call relu imported
+p6Graph = imported (variable ∷ relu 0 ∷ call 12 (1 ∷ []) (1 ∷ []) ∷ call 1 (1 ∷ 2 ∷ []) [] ∷ []) (3 ∷ [])
 
 p6 : Example
 unfolding p6Graph wild calls rule refusal
@@ -182,8 +196,8 @@ p6 =
     (refusal 4 p6Graph)
 
 p7Graph : List ℕ
-unfolding variable call relu block
-p7Graph = block (variable ∷ relu 0 ∷ call 12 (1 ∷ []) (1 ∷ []) ∷ call 1 (0 ∷ 2 ∷ []) [] ∷ []) (3 ∷ [])
+unfolding variable call relu imported
+p7Graph = imported (variable ∷ relu 0 ∷ call 12 (1 ∷ []) (1 ∷ []) ∷ call 1 (0 ∷ 2 ∷ []) [] ∷ []) (3 ∷ [])
 
 p7Rule : List ℕ
 unfolding wild calls rule
@@ -197,9 +211,9 @@ unfolding p7Graph p7Rule refusal
 p7 = rewriting p7Graph p7Rule 0 (refusal 7 p7Graph)
 
 p8 : Example
-unfolding variable call relu block p7Rule done
+unfolding variable call relu block imported p7Rule done
 p8 =
-    rewriting (block (variable ∷ variable ∷ relu 0 ∷ relu 1 ∷ call 1 (1 ∷ 0 ∷ []) [] ∷ []) (4 ∷ [])) p7Rule 0
+    rewriting (imported (variable ∷ variable ∷ relu 0 ∷ relu 1 ∷ call 1 (1 ∷ 0 ∷ []) [] ∷ []) (4 ∷ [])) p7Rule 0
     (done (block (variable ∷ variable ∷ relu 0 ∷ call 3 (1 ∷ 0 ∷ []) [] ∷ emptySlot ∷ []) (3 ∷ [])) (1 ∷ 3 ∷ 0 ∷ 4 ∷ []))
 
 -- P9: six values
@@ -208,8 +222,8 @@ p9 operation x y expected = evaluating (apply operation (constant x) (constant y
 
 -- P10: gain over gain, each of the three attributes multiplied with its like
 p10Graph : List ℕ
-unfolding variable call block
-p10Graph = block (variable ∷ call 10 (0 ∷ []) (65536 ∷ 1 ∷ 1 ∷ []) ∷ call 10 (1 ∷ []) (65536 ∷ 1 ∷ 1 ∷ []) ∷ []) (2 ∷ [])
+unfolding variable call imported
+p10Graph = imported (variable ∷ call 10 (0 ∷ []) (65536 ∷ 1 ∷ 1 ∷ []) ∷ call 10 (1 ∷ []) (65536 ∷ 1 ∷ 1 ∷ []) ∷ []) (2 ∷ [])
 
 p10Rule : List ℕ
 unfolding wild calls rule node
@@ -225,7 +239,7 @@ p10 : Example
 unfolding p10Graph p10Rule refusal
 p10 = rewriting p10Graph p10Rule 0 (refusal 5 p10Graph)
 
--- E1's block and RR's, byte by byte
+-- E1's block of version 1 and RR's, byte by byte
 e1Bytes : List ℕ
 e1Bytes =
     (76 ∷ 71 ∷ 84 ∷ 0 ∷ 1 ∷ 0 ∷ 6 ∷ 0 ∷ 1 ∷ 0 ∷ 4 ∷ 0 ∷ 255 ∷ 255 ∷ 255 ∷ 255 ∷ 255 ∷ 255 ∷ 0 ∷ 0 ∷ 0 ∷ 0 ∷ 0 ∷ 0 ∷ [])
@@ -239,6 +253,11 @@ e1Bytes =
     ++ (3 ∷ 7 ∷ 1 ∷ 0 ∷ 3 ∷ 0 ∷ []) ++ replicate 10 255 ++ replicate 32 0
     ++ (0 ∷ 0 ∷ 0 ∷ 0 ∷ []) ++ replicate 12 255 ++ replicate 32 0
 
+-- E1 as the import leaves it: the version, and a count of 1 in each slot but the last, which is Empty
+e1Imported : List ℕ
+unfolding e1Bytes
+e1Imported = set (set (set (set (set (set e1Bytes 4 2) 64 1) 112 1) 160 1) 208 1) 256 1
+
 rrBytes : List ℕ
 rrBytes =
     (76 ∷ 71 ∷ 82 ∷ 0 ∷ 1 ∷ 0 ∷ 3 ∷ 1 ∷ 1 ∷ 0 ∷ 2 ∷ 255 ∷ 16 ∷ 255 ∷ 0 ∷ 0 ∷ [])
@@ -248,7 +267,7 @@ rrBytes =
     ++ (3 ∷ 7 ∷ 1 ∷ 0 ∷ 0 ∷ []) ++ replicate 11 255
 
 unfoldable pub examples : List Example
-unfolding e1 rr e1Bytes rrBytes p1 p2From5 p2From4 p3 p4 p5Apart p5Same p6 p7 p8 p9 p10
+unfolding e1 e1Old rr e1Bytes e1Imported rrBytes p1 p2From5 p2From4 p3 p4 p5Apart p5Same p6 p7 p8 p9 p10
 examples =
     p1 ∷ p2From5 ∷ p2From4 ∷ p3 ∷ p4 ∷ p5Apart ∷ p5Same ∷ p6 ∷ p7 ∷ p8
     ∷ p9 divide (negsuc 6) (pos 2) (some (negsuc 3))
@@ -258,6 +277,7 @@ examples =
     ∷ p9 divide (negsuc 2147483647) (negsuc 0) none
     ∷ p9 remainder (negsuc 2147483647) (negsuc 0) (some (pos 0))
     ∷ p10
-    ∷ writing e1 e1Bytes
+    ∷ writing e1Old e1Bytes
+    ∷ writing e1 e1Imported
     ∷ writing rr rrBytes
     ∷ []

@@ -2,3 +2,4 @@ pub mod Examples
 pub mod SharedConstants
 pub mod Faults
 pub mod Tidying
+pub mod Counts

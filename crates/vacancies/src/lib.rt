@@ -5,9 +5,9 @@ use definitions::SLOT_LIMIT;
 use fields::widened;
 use graph_fields::kind_of;
 use graph_fields::slot_count;
-use new_removal::count_for_consts;
 use new_removal::image_goes;
 use rule_fields::source_count;
+use rule_uses::count_places;
 ghost use mathlib.Core.Bool.{not};
 ghost use Rattle.definitions.specs.Graph.{slotCount, graphOf, isVertex};
 ghost use Rattle.definitions.specs.Rule.{ruleOf};
@@ -40,14 +40,12 @@ pub fn find_free(graph: &[u8], rule: &[u8], images: &[u16; SIDE_CAPACITY]) -> [b
         (slotCount (now (graph .entry))) r ⌝ }
 {
     let vertices = source_count(rule);
-    let counts = count_for_consts(graph, rule);
-    let uses = counts.uses;
-    let places = counts.places;
+    let places = count_places(rule);
     let mut free = mark_empty(graph);
     let mut j = 0;
     while j < vertices {
         let image = widened(images[j]);
-        if image_goes(rule, &uses, &places, j, image) {
+        if image_goes(graph, rule, &places, j, image) {
             free[image] = true;
         }
         j += 1;

@@ -1,172 +1,118 @@
--- Each kind of fault refuses once those before it do not hold; what a passed test says of the block is what the next one asks.
+-- A refusal for header, records or names is the reply. Where there is none a cycle is told, and where there is no cycle a wrong count.
 -- Assumes nothing.
-use borrow.Author.Needs.{needs}
-use borrow.Author.Tests.{not-true, not-false}
 use mathlib.Core.Path.{_≡_, sym, ap, _∙_}
-use mathlib.Core.Bool.{true}
 use mathlib.Core.List.{List}
-use Prim.Native.Nat.{ℕ, _≤_}
+use Prim.Native.Nat.{ℕ}
 use native.Mathlib.Omega.{arith}
-use Rattle.definitions.specs.Lists.{lowest}
-use Rattle.definitions.specs.Reply.{badGraphRecord, badGraphName, graphHasCycle, refusedAt}
-use Rattle.definitions.specs.Graph.{slotCount, outputCount, graphOf, headerFits, badRecord, badInputs, badOutput}
-use Rattle.graph_fields.specs.Layout.{WholeGraph}
-use Rattle.graph_check.proofs.Laws.{whole, readable, closed, refused-header, refused-record, refused-input, refused-output, refused-cycle, sound}
+use Rattle.definitions.specs.Reply.{graphHasCycle, badGraphCount, done, refusedAt}
+use Rattle.definitions.specs.Graph.{graphVersion, replyAs}
+use Rattle.laws.proofs.Reply.{done-plain, judged-valueless}
+use Rattle.graph_check.specs.Stages.{earlyFaults, earlyReply, Passed}
+use Rattle.graph_check.proofs.Laws.{passed, early-refused, refused-cycle, sound, passed-readable, passed-closed, passed-countable, refused-form, refused-count, counted}
+use borrow.Author.Needs.{needs}
 use Rattle.graph_check.proofs.check.Statement.{statement}
 use Rattle.graph_check.proofs.check.Tie as tie
 
--- ---- what is known once a test has passed, and of which block
+check-names-requires : tie.Need-check-names-requires
+check-names-requires c κs = search needs
 
-abbrev block₁ : tie.Else1 → List ℕ
-block₁ c = c .before .before .before .args .graph .now
-
-header : (c : tie.Else1) → headerFits (block₁ c) ≡ true
-header c = sym (c .before .header-fits .ensures) ∙ not-false (c .before .header-fits .result) (c .if1 .left)
-
-laid-out : (c : tie.Else1) → WholeGraph (block₁ c)
-laid-out c = whole (block₁ c) (header c)
-
-abbrev to₁ : tie.Else2 → tie.Else1
-to₁ c = c .before .before .before
-
-records : (c : tie.Else2) → let block = block₁ (to₁ c) in slotCount block ≤ lowest (badRecord block) (slotCount block)
-records c = omega (arith, c .before .bad-record .ensures, c .before .before .slot-count .ensures .0)
-
-abbrev to₂ : tie.Else3 → tie.Else2
-to₂ c = c .before .before .before .before
-
-inputs : (c : tie.Else3) → let block = block₁ (to₁ (to₂ c)) in slotCount block ≤ lowest (badInputs (graphOf block)) (slotCount block)
-inputs c = omega (arith, c .before .before .before .bad-inputs .ensures, to₂ c .before .before .slot-count .ensures .0)
-
-abbrev to₃ : tie.Else4 → tie.Else3
-to₃ c = c .before
-
-outputs : (c : tie.Else4)
-    → let block = block₁ (to₁ (to₂ (to₃ c))) in outputCount block ≤ lowest (badOutput (graphOf block)) (outputCount block)
-outputs c = omega (arith, to₃ c .before .bad-output .ensures, to₃ c .before .before .output-count .ensures .0)
-
--- ---- the needs, in the code's order
-
-header-fits-requires : tie.Need-header-fits-requires
-header-fits-requires c κs = search needs
-
-refuse-requires : tie.Need-refuse-requires
-refuse-requires c κs = search needs
+enum-known-refusal : tie.Need-enum-known-refusal
+enum-known-refusal c = search needs
 
 returns : tie.Need-returns
 returns c =
-    let call = c .before .before in
-    c .refuse .ensures
-    ∙ refused-header _ (sym (call .header-fits .ensures) ∙ not-true (call .header-fits .result) (c .before .if1 .taken))
+    let r = c .before in
+    let k = r .before .before in
+    let graph = k .before .before .args .graph .now in
+    sym (refused-form graph (early-refused graphVersion graph (sym (k .check-names .ensures) ∙ r .refusal .given .1)))
+
+enum-told : tie.Need-enum-told
+enum-told c = search needs
+
+module _ (c : tie.After-enum-told) where
+  abbrev graph : List ℕ
+  graph = c .before .before .before .before .args .graph .now
+
+  early : earlyReply graphVersion graph ≡ done
+  early = done-plain (judged-valueless (earlyFaults graphVersion graph)) (sym (c .before .before .check-names .ensures) ∙ c .enum-told .given .1)
+
+  known : Passed graphVersion graph
+  known = passed graphVersion graph early
 
 slot-count-requires : tie.Need-slot-count-requires
-slot-count-requires c κs = omega (arith, laid-out c .size)
+slot-count-requires c κs = omega (arith, passed-readable graphVersion (graph c) (known c) .whole .size)
 
-bad-record-requires : tie.Need-bad-record-requires
-bad-record-requires c κs = laid-out (c .before)
+lowest-on-cycle-requires : tie.Need-lowest-on-cycle-requires
+lowest-on-cycle-requires c κs =
+    let t = c .before in
+    (passed-readable graphVersion (graph t) (known t), passed-closed graphVersion (graph t) (known t))
+
+bad-count-requires : tie.Need-bad-count-requires
+bad-count-requires c κs = let t = c .before .before in passed-countable graphVersion (graph t) (known t)
 
 cast-refuse-at : tie.Need-cast-refuse-at
-cast-refuse-at c = omega (arith, c .if2 .taken, c .before .before .slot-count .ensures .1)
+cast-refuse-at c = search needs
 
 refuse-at-requires : tie.Need-refuse-at-requires
 refuse-at-requires c κs = search needs
 
 returns-2 : tie.Need-returns-2
 returns-2 c =
-    let call = c .before .before in
-    c .refuse-at .ensures ∙ ap (refusedAt badGraphRecord) (call .bad-record .ensures)
-    ∙ refused-record _ (header (call .before .before)) (omega (arith, call .bad-record .ensures, call .before .slot-count .ensures .0))
+    let l = c .before .before .before in
+    let n = l .before in
+    let t = n .before in
+    let cyclic = refused-cycle graphVersion (graph t) (sym (early t))
+    (omega (arith, c .before .if1 .taken, l .lowest-on-cycle .ensures, n .slot-count .ensures .0)) in
+    c .refuse-at .ensures ∙ ap (refusedAt graphHasCycle) (l .lowest-on-cycle .ensures) ∙ sym (refused-form (graph t) (sym cyclic))
 
-bad-inputs-requires : tie.Need-bad-inputs-requires
-bad-inputs-requires c κs = readable _ (laid-out (to₁ c)) (records c)
+-- past a cycle
+module _ (e : tie.Else1) where
+  abbrev looked : tie.After-lowest-on-cycle
+  looked = e .before .before
 
-output-count-requires : tie.Need-output-count-requires
-output-count-requires c κs = omega (arith, laid-out (to₁ (c .before)) .size)
+  abbrev begun : tie.After-enum-told
+  begun = looked .before .before
 
-bad-output-requires : tie.Need-bad-output-requires
-bad-output-requires c κs = laid-out (to₁ (c .before .before))
+  formed : replyAs graphVersion (graph begun) ≡ done
+  formed = sym (sound graphVersion (graph begun) (sym (early begun))
+      (omega (arith, e .if1 .left, looked .lowest-on-cycle .ensures, looked .before .slot-count .ensures .0)))
 
 cast-refuse-at-2 : tie.Need-cast-refuse-at-2
-cast-refuse-at-2 c =
-    let counted = c .before .before in
-    omega (arith, c .if3 .taken, counted .output-count .ensures .1, counted .before .before .before .before .slot-count .ensures .1)
+cast-refuse-at-2 c = search needs
 
 refuse-at-requires-2 : tie.Need-refuse-at-requires-2
 refuse-at-requires-2 c κs = search needs
 
 returns-3 : tie.Need-returns-3
 returns-3 c =
-    let call = c .before .before .before .before in
-    let e = call .before in
-    c .refuse-at2 .ensures ∙ ap (refusedAt badGraphName) (call .bad-inputs .ensures)
-    ∙ refused-input _ (header (to₁ e)) (records e)
-    (omega (arith, c .before .if3 .taken, call .bad-inputs .ensures, e .before .before .slot-count .ensures .0))
-
-cast-refuse-at-3 : tie.Need-cast-refuse-at-3
-cast-refuse-at-3 c =
-    let counted = c .before .before .before in
-    omega (arith, c .if4 .taken, counted .output-count .ensures .1, counted .before .before .before .before .slot-count .ensures .1)
-
-refuse-at-requires-3 : tie.Need-refuse-at-requires-3
-refuse-at-requires-3 c κs = search needs
+    let e = c .before .before in
+    let b = e .before in
+    let n = b .before .before in
+    c .refuse-at2 .ensures ∙ ap (refusedAt badGraphCount) (b .bad-count .ensures)
+    ∙ refused-count (graph (begun e)) (formed e) (omega (arith, c .before .if2 .taken, b .bad-count .ensures, n .slot-count .ensures .0))
 
 returns-4 : tie.Need-returns-4
 returns-4 c =
-    let e = c .before .before in
-    c .refuse-at3 .ensures ∙ ap (refusedAt badGraphName) (e .before .bad-output .ensures)
-    ∙ refused-output _ (header (to₁ (to₂ e))) (records (to₂ e)) (inputs e)
-    (omega (arith, c .before .if4 .taken, e .before .bad-output .ensures, e .before .before .output-count .ensures .0))
-
-lowest-on-cycle-requires : tie.Need-lowest-on-cycle-requires
-lowest-on-cycle-requires c κs =
-    let e = to₃ c in
-    let r = readable _ (laid-out (to₁ (to₂ e))) (records (to₂ e)) in
-    (r, closed _ r (inputs e))
-
-cast-refuse-at-4 : tie.Need-cast-refuse-at-4
-cast-refuse-at-4 c = omega (arith, c .if5 .taken, to₂ (to₃ (c .before .before)) .before .before .slot-count .ensures .1)
-
-refuse-at-requires-4 : tie.Need-refuse-at-requires-4
-refuse-at-requires-4 c κs = search needs
-
-returns-5 : tie.Need-returns-5
-returns-5 c =
-    let call = c .before .before in
-    let e = to₃ (call .before) in
-    c .refuse-at4 .ensures ∙ ap (refusedAt graphHasCycle) (call .lowest-on-cycle .ensures)
-    ∙ refused-cycle _ (header (to₁ (to₂ e))) (records (to₂ e)) (inputs e) (outputs (call .before))
-    (omega (arith, c .before .if5 .taken, call .lowest-on-cycle .ensures, to₂ e .before .before .slot-count .ensures .0))
-
-returns-6 : tie.Need-returns-6
-returns-6 c =
-    let call = c .before in
-    let e = to₃ (call .before) in
-    sound _ (header (to₁ (to₂ e))) (records (to₂ e)) (inputs e) (outputs (call .before))
-    (omega (arith, c .if5 .left, call .lowest-on-cycle .ensures, to₂ e .before .before .slot-count .ensures .0))
+    let e = c .before in
+    let b = e .before in
+    let n = b .before .before in
+    counted (graph (begun e)) (formed e) (omega (arith, c .if2 .left, b .bad-count .ensures, n .slot-count .ensures .0))
 
 pub check-spec : {M : Type 1} → statement M
 check-spec =
     tie.close
     (tie.spec
-    header-fits-requires
-    refuse-requires
+    check-names-requires
+    enum-known-refusal
     returns
+    enum-told
     slot-count-requires
-    bad-record-requires
+    lowest-on-cycle-requires
+    bad-count-requires
     cast-refuse-at
     refuse-at-requires
     returns-2
-    bad-inputs-requires
-    output-count-requires
-    bad-output-requires
     cast-refuse-at-2
     refuse-at-requires-2
     returns-3
-    cast-refuse-at-3
-    refuse-at-requires-3
-    returns-4
-    lowest-on-cycle-requires
-    cast-refuse-at-4
-    refuse-at-requires-4
-    returns-5
-    returns-6)
+    returns-4)

@@ -12,16 +12,18 @@ use Rattle.graph_faults.proofs.bad_record.Statement.{statement}
 use Rattle.graph_faults.proofs.bad_record.Tie as tie
 
 abbrev Inv-loop : tie.InvT-loop
-Inv-loop graph slots k₀ k = (k ≤ slots) × ((j : ℕ) → j < k → badRecord graph j ≡ false)
+Inv-loop graph version slots k₀ k = (k ≤ slots) × ((j : ℕ) → j < k → badRecord version graph j ≡ false)
 
 abbrev μ-loop : tie.MeasureT-loop
-μ-loop graph slots k₀ k = slots - k
+μ-loop graph version slots k₀ k = slots - k
 
 slot-count-requires : tie.Need-slot-count-requires Inv-loop μ-loop
 slot-count-requires c κs = omega arith
 
 loop-holds : tie.Need-loop-holds Inv-loop μ-loop
-loop-holds c = (omega arith, below-none (λ j. badRecord (c .before .before .args .graph .now) j ≡ false))
+loop-holds c =
+    let a = c .before .before .args in
+    (omega arith, below-none (λ j. badRecord (a .version) (a .graph .now) j ≡ false))
 
 mul-record-fits : tie.Need-mul-record-fits Inv-loop μ-loop
 mul-record-fits c = omega arith
@@ -37,9 +39,10 @@ unfolding badRecord
 returns c =
     let s = c .before .before .before in
     let block = s .before .before .before .args .graph .now in
+    let version = s .before .before .before .args .version in
     let k = s .loop .k in
-    let bad : badRecord block k ≡ true = rw (← c .before .record-fits .ensures, not-true (c .before .record-fits .result) (c .if1 .taken)) in
-    sym (lowest-found (badRecord block) (slotCount block) k (omega arith) (s .loop .inv .1) bad)
+    let bad : badRecord version block k ≡ true = rw (← c .before .record-fits .ensures, not-true (c .before .record-fits .result) (c .if1 .taken)) in
+    sym (lowest-found (badRecord version block) (slotCount block) k (omega arith) (s .loop .inv .1) bad)
 
 add-k : tie.Need-add-k Inv-loop μ-loop
 add-k c = omega arith
@@ -52,16 +55,18 @@ unfolding badRecord
 loop-again c =
     let s = c .before .before .before in
     let block = s .before .before .before .args .graph .now in
-    let good : badRecord block (s .loop .k) ≡ false = rw (← c .before .record-fits .ensures, not-false (c .before .record-fits .result) (c .if1 .left)) in
-    (omega arith, below-more (λ j. badRecord block j ≡ false) (s .loop .k) (s .loop .inv .1) good)
+    let version = s .before .before .before .args .version in
+    let good : badRecord version block (s .loop .k) ≡ false = rw (← c .before .record-fits .ensures, not-false (c .before .record-fits .result) (c .if1 .left)) in
+    (omega arith, below-more (λ j. badRecord version block j ≡ false) (s .loop .k) (s .loop .inv .1) good)
 
 returns-2 : tie.Need-returns-2 Inv-loop μ-loop
 returns-2 c =
     let s = c .before in
     let block = s .before .before .before .args .graph .now in
+    let version = s .before .before .before .args .version in
     let e = s .before .slot-count .ensures .0 in
-    let passed : (j : ℕ) → j < slotCount block → badRecord block j ≡ false = λ j h. s .loop .inv .1 j (omega arith) in
-    e ∙ sym (lowest-none (badRecord block) (slotCount block) passed)
+    let passed : (j : ℕ) → j < slotCount block → badRecord version block j ≡ false = λ j h. s .loop .inv .1 j (omega arith) in
+    e ∙ sym (lowest-none (badRecord version block) (slotCount block) passed)
 
 pub bad-record-spec : {M : Type 1} → statement M
 bad-record-spec =

@@ -1,55 +1,48 @@
--- The tests are the definition's, in order, but for the last: the zero bytes at the end are tested with the unused attributes, as one run.
+-- The tests are the definition's, in order.
 -- Assumes nothing.
-use mathlib.Core.Path.{_≡_, refl, sym, ap, _∙_}
-use mathlib.Core.Bool.{Bool, true, false, not, _&&_, _||_, and-comm}
+use mathlib.Core.Path.{_≡_, refl, sym, _∙_}
+use mathlib.Core.Bool.{Bool, not, _||_}
 use mathlib.Core.List.{List, [], _∷_}
 use Prim.Native.Nat.{ℕ, _+_, _*_, _≤_}
-use native.Mathlib.Omega.{arith}
 use borrow.Author.Tests.{not-false}
 use lib.Dec.{eqb}
 use lib.ListN.{drop}
 use Rattle.definitions.specs.Fields.{byteAt, u32At, filled, signed}
 use Rattle.definitions.specs.Operators.{kindProj, shapeFits}
-use Rattle.definitions.specs.Graph.{slotBytes, inputLimit, attributeLimit, atLeastOne, recordFits}
+use Rattle.definitions.specs.Graph.{slotBytes, inputLimit, attributeLimit, atLeastOne, zerosOffset, recordFits}
 use Rattle.laws.proofs.Operators.{few-inputs, few-attributes}
 use Rattle.laws.proofs.Tests.{allOf, conjunction, Remains, refused, passed, answered}
-use Rattle.fields.proofs.Laws.{filled-parts}
 use borrow.Author.Needs.{needs}
 use Rattle.graph_faults.proofs.record_fits.Statement.{statement}
 use Rattle.graph_faults.proofs.record_fits.Tie as tie
 
 -- ---- the definition's tests
 
-abbrev tests : List ℕ → ℕ → List Bool
-tests block at =
+abbrev tests : ℕ → List ℕ → ℕ → List Bool
+tests version block at =
     shapeFits (byteAt block at) (byteAt block (at + 1)) (byteAt block (at + 2)) (byteAt block (at + 3))
     ∷ filled block (at + 4 + 2 * byteAt block (at + 2)) (at + 16) 255
     ∷ filled block (at + 16 + 4 * byteAt block (at + 3)) (at + 40) 0
     ∷ (not (eqb (byteAt block at) kindProj) || atLeastOne (signed (u32At block (at + 16))))
-    ∷ filled block (at + 40) (at + 48) 0
+    ∷ filled block (at + zerosOffset version) (at + slotBytes) 0
     ∷ []
-
-begun : (block : List ℕ) (at : ℕ) → Remains (recordFits block at) (tests block at)
-unfolding recordFits conjunction allOf
-begun block at = record { same = refl }
-
--- the first and the last of three tests, as one
-last-first : (a b c : Bool) → (a && b && c) ≡ (a && c && b)
-last-first true b c = and-comm b c
-last-first false b c = refl
-
-joined : {whole a b c both : Bool} → Remains both (a ∷ c ∷ []) → Remains whole (a ∷ b ∷ c ∷ []) → Remains whole (both ∷ b ∷ [])
-unfolding conjunction allOf
-joined {whole} {a} {b} {c} two left =
-    record { same = left .same ∙ last-first a b c ∙ ap (λ (t : Bool). t && b) (sym (two .same)) }
 
 -- ---- what is left after each test
 
 abbrev start : tie.After-shape-fits → tie.Start
 start c = c .before .before .before .before .before .before
 
-abbrev Left : tie.Start → List Bool → Type 0
-Left s = Remains (recordFits (s .args .graph .now) (s .args .at))
+-- all but the first k tests
+abbrev Left : tie.Start → ℕ → Type 0
+Left s k =
+    let version = s .args .version in
+    let block = s .args .graph .now in
+    let at = s .args .at in
+    Remains (recordFits version block at) (drop k (tests version block at))
+
+begun : (s : tie.Start) → Left s 0
+unfolding recordFits conjunction allOf
+begun s = record { same = refl }
 
 shape : (c : tie.After-shape-fits)
     → let a = start c .args in let b = a .graph .now in
@@ -61,10 +54,8 @@ shape c =
     let k = o .before in
     rw (m .byte-at4 .ensures .0, n .byte-at3 .ensures .0, o .byte-at2 .ensures .0, k .byte-at .ensures .0) at (c .shape-fits .ensures)
 
-after-shape : (c : tie.Else1) → let s = start (c .before) in Left s (drop 1 (tests (s .args .graph .now) (s .args .at)))
-after-shape c =
-    let s = start (c .before) in
-    passed (begun (s .args .graph .now) (s .args .at)) (shape (c .before)) (c .if1 .left)
+after-shape : (c : tie.Else1) → Left (start (c .before)) 1
+after-shape c = passed (begun (start (c .before))) (shape (c .before)) (c .if1 .left)
 
 -- the counts that the tables allow
 few : (c : tie.Else1) → let call = c .before in
@@ -85,28 +76,23 @@ unused : (c : tie.After-unused-inputs-fit)
     c .unused-inputs-fit .result ≡ filled b (a .at + 4 + 2 * byteAt b (a .at + 2)) (a .at + 16) 255
 unused c = rw (c .before .before .before .before .byte-at3 .ensures .0) at (c .unused-inputs-fit .ensures)
 
--- the run up to the record's end
-abbrev run : tie.Start → Bool
-run s = let b = s .args .graph .now in let at = s .args .at in filled b (at + 16 + 4 * byteAt b (at + 3)) (at + slotBytes) 0
+after-inputs : (c : tie.Else2) → Left (start (c .before .before .before)) 2
+after-inputs c = passed (after-shape (c .before .before)) (unused (c .before)) (c .if2 .left)
 
-abbrev index : tie.Start → Bool
-index s =
-    let b = s .args .graph .now in
-    let at = s .args .at in
-    not (eqb (byteAt b at) kindProj) || atLeastOne (signed (u32At b (at + 16)))
+unused-attributes : (c : tie.After-unused-attributes-fit)
+    → let a = start (c .before .before .before .before) .args in let b = a .graph .now in
+    c .unused-attributes-fit .result ≡ filled b (a .at + 16 + 4 * byteAt b (a .at + 3)) (a .at + 40) 0
+unused-attributes c = rw (c .before .before .before .before .before .byte-at4 .ensures .0) at (c .unused-attributes-fit .ensures)
 
-after-inputs : (c : tie.Else2) → let s = start (c .before .before .before) in Left s (run s ∷ index s ∷ [])
-after-inputs c =
-    let e = c .before .before in
-    let a = start (e .before) .args in
-    let count = e .before .before .byte-at4 .ensures .0 in
-    joined
-    (filled-parts (a .graph .now) 0 (a .at + 16 + 4 * byteAt (a .graph .now) (a .at + 3)) (a .at + 40) (a .at + 40) (a .at + slotBytes)
-    (omega (arith, few e .1, count)) (omega arith) (omega arith))
-    (passed (after-shape e) (unused (c .before)) (c .if2 .left))
+after-attributes : (c : tie.Else3) → Left (start (c .before .before .before .before .before)) 3
+after-attributes c = passed (after-inputs (c .before .before)) (unused-attributes (c .before)) (c .if3 .left)
 
-filled-run : (c : tie.After-four-words-filled) → let s = start (c .before .before .before .before) in c .four-words-filled .result ≡ run s
-filled-run c = rw (c .before .before .before .before .before .byte-at4 .ensures .0) at (c .four-words-filled .ensures)
+index : (c : tie.After-index-fits)
+    → let a = start (c .before .before .before .before .before .before) .args in let b = a .graph .now in
+    c .index-fits .result ≡ (not (eqb (byteAt b (a .at)) kindProj) || atLeastOne (signed (u32At b (a .at + 16))))
+index c =
+    let k = c .before .before .before .before .before .before .before .before .before .before in
+    rw (k .byte-at .ensures .0) at (c .index-fits .ensures)
 
 -- ---- the needs
 
@@ -135,7 +121,7 @@ shape-fits-requires : tie.Need-shape-fits-requires
 shape-fits-requires c κs = search needs
 
 returns : tie.Need-returns
-returns c = let s = start (c .before) in refused (begun (s .args .graph .now) (s .args .at)) (shape (c .before)) (c .if1 .taken)
+returns c = refused (begun (start (c .before))) (shape (c .before)) (c .if1 .taken)
 
 unused-inputs-fit-requires : tie.Need-unused-inputs-fit-requires
 unused-inputs-fit-requires c κs = (start (c .before) .pre, few c .0)
@@ -143,33 +129,25 @@ unused-inputs-fit-requires c κs = (start (c .before) .pre, few c .0)
 returns-2 : tie.Need-returns-2
 returns-2 c = refused (after-shape (c .before .before)) (unused (c .before)) (c .if2 .taken)
 
-add-four-words-filled : tie.Need-add-four-words-filled
-add-four-words-filled c = search needs
-
-mul-four-words-filled : tie.Need-mul-four-words-filled
-mul-four-words-filled c = search needs
-
-add-four-words-filled-2 : tie.Need-add-four-words-filled-2
-add-four-words-filled-2 c = search needs
-
-add-four-words-filled-3 : tie.Need-add-four-words-filled-3
-add-four-words-filled-3 c = search needs
-
-four-words-filled-requires : tie.Need-four-words-filled-requires
-four-words-filled-requires c κs = let m = few (c .before .before) .1 in (omega arith, (omega arith, omega arith))
+unused-attributes-fit-requires : tie.Need-unused-attributes-fit-requires
+unused-attributes-fit-requires c κs = (start (c .before .before .before) .pre, few (c .before .before) .1)
 
 returns-3 : tie.Need-returns-3
-returns-3 c = refused (after-inputs (c .before .before)) (filled-run (c .before)) (c .if3 .taken)
+returns-3 c = refused (after-inputs (c .before .before)) (unused-attributes (c .before)) (c .if3 .taken)
 
 index-fits-requires : tie.Need-index-fits-requires
 index-fits-requires c κs = search needs
 
 returns-4 : tie.Need-returns-4
-returns-4 c =
+returns-4 c = refused (after-attributes (c .before .before)) (index (c .before)) (c .if4 .taken)
+
+end-fits-requires : tie.Need-end-fits-requires
+end-fits-requires c κs = search needs
+
+returns-5 : tie.Need-returns-5
+returns-5 c =
     let e = c .before in
-    let k = e .before .before .before .before .before .before .before .before .before in
-    answered (passed (after-inputs (e .before .before)) (filled-run (e .before)) (e .if3 .left))
-    (rw (k .byte-at .ensures .0) at (c .index-fits .ensures))
+    answered (passed (after-attributes (e .before .before)) (index (e .before)) (e .if4 .left)) (c .end-fits .ensures)
 
 pub record-fits-spec : {M : Type 1} → statement M
 record-fits-spec =
@@ -186,11 +164,9 @@ record-fits-spec =
     returns
     unused-inputs-fit-requires
     returns-2
-    add-four-words-filled
-    mul-four-words-filled
-    add-four-words-filled-2
-    add-four-words-filled-3
-    four-words-filled-requires
+    unused-attributes-fit-requires
     returns-3
     index-fits-requires
-    returns-4)
+    returns-4
+    end-fits-requires
+    returns-5)

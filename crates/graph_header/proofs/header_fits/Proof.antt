@@ -11,25 +11,28 @@ use lib.Dec.{eqb}
 use lib.ListN.{length, drop}
 use Rattle.definitions.specs.Lists.{within}
 use Rattle.definitions.specs.Fields.{u16At, filled, markFits}
-use Rattle.definitions.specs.Graph.{headerBytes, slotLimit, graphLetter, graphVersion, slotCount, recordAt, outputPlacesFit, headerFits}
+use Rattle.definitions.specs.Graph.{headerBytes, slotLimit, graphLetter, slotCount, recordAt, outputPlacesFit, headerFits}
 use Rattle.laws.proofs.Tests.{allOf, conjunction, Remains, failed, held, refused, passed, answered, within-below, within-above, within-both}
 use Rattle.graph_header.proofs.header_fits.Statement.{statement}
 use Rattle.graph_header.proofs.header_fits.Tie as tie
 
 -- ---- what is left after each test
 
-abbrev tests : List ℕ → List Bool
-tests block =
+abbrev tests : ℕ → List ℕ → List Bool
+tests version block =
     eqb (length block) (recordAt (slotCount block))
     ∷ markFits block graphLetter
-    ∷ eqb (u16At block 4) graphVersion
+    ∷ eqb (u16At block 4) version
     ∷ within 1 (slotCount block) slotLimit
     ∷ outputPlacesFit block
     ∷ filled block 18 headerBytes 0
     ∷ []
 
 abbrev Left : tie.Start → ℕ → Type 0
-Left s k = Remains (headerFits (s .args .graph .now)) (drop k (tests (s .args .graph .now)))
+Left s k =
+    let version = s .args .version in
+    let block = s .args .graph .now in
+    Remains (headerFits version block) (drop k (tests version block))
 
 begun : (s : tie.Start) → Left s 0
 unfolding headerFits conjunction allOf

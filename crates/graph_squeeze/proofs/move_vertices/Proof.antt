@@ -9,7 +9,7 @@ use lib.ListN.{length, take, drop, length-map}
 use lib.Seq.{length-take-le}
 use Rattle.definitions.specs.Lists.{padded}
 use Rattle.definitions.specs.Fields.{Bytes}
-use Rattle.definitions.specs.Graph.{headerBytes, slotLimit, outputLimit, unusedPlace, slotCount, recordAt, graphOf, graphBlock}
+use Rattle.definitions.specs.Graph.{headerBytes, slotLimit, outputLimit, unusedPlace, graphVersion, slotCount, recordAt, graphOf, blockAs}
 use Rattle.definitions.specs.Squeeze.{squeeze}
 use Rattle.laws.proofs.Lists.{getD-any}
 use Rattle.laws.proofs.Padded.{length-padded}
@@ -28,7 +28,7 @@ use Rattle.graph_squeeze.proofs.move_vertices.Tie as tie
 
 abbrev Inv-loop : tie.InvT-loop
 Inv-loop graph₀ count from to slots outputs names k₀ graph k =
-    (k ≤ slots) × Halfway k graph (take headerBytes graph₀ ++ drop headerBytes (graphBlock (squeeze (graphOf graph₀)))) graph₀
+    (k ≤ slots) × Halfway k graph (take headerBytes graph₀ ++ drop headerBytes (blockAs graphVersion (λ i. 0) (squeeze (graphOf graph₀)))) graph₀
 
 abbrev μ-loop : tie.MeasureT-loop
 μ-loop graph₀ count from to slots outputs names k₀ graph k = slots - k
@@ -186,7 +186,7 @@ returns c =
     let after = map (nameIn (to a)) (graphOf (old a) .outputs) in
     let number : a .before .before .before .output-count .result ≡ length after =
     a .before .before .before .output-count .ensures .0 ∙ sym (length-outputs (old a)) ∙ sym (length-map (graphOf (old a) .outputs) (nameIn (to a))) in
-    let written : header ≡ take headerBytes (graphBlock (squeeze (graphOf (old a)))) =
+    let written : header ≡ take headerBytes (blockAs graphVersion (λ i. 0) (squeeze (graphOf (old a)))) =
     w .write-header .ensures
     ∙ ap (λ n. headerWith n (a .before .before .before .output-count .result) (a .before .renamed-outputs .result)) (a .before .before .before .before .before .slot-count .ensures .0)
     ∙ ap₂ (headerWith (slotCount (old a))) number (a .before .renamed-outputs .ensures)

@@ -1,6 +1,6 @@
 -- A refusal leaves both blocks as they came. Where the graph is sound and the list is as long as it has to be, both are written.
 -- Assumes nothing.
-use mathlib.Core.Path.{_≡_, sym, ap, _∙_}
+use mathlib.Core.Path.{_≡_, sym, ap, _∙_, subst}
 use mathlib.Core.List.{List}
 use Prim.Native.Nat.{ℕ, _-_, _*_, _≤_}
 use native.Mathlib.Nat.{sub-zero}
@@ -12,12 +12,18 @@ use Rattle.definitions.specs.declared.Reply.the-variants.{Refused}
 use Rattle.definitions.specs.Lists.{concatMap}
 use Rattle.definitions.specs.Fields.{u16Bytes}
 use Rattle.definitions.specs.Reply.{done}
-use Rattle.definitions.specs.Graph.{slotLimit, graphOf, graphBlock, SoundGraph}
+use Rattle.definitions.specs.Graph.{slotLimit, graphVersion, graphOf, graphBlock, SoundGraph}
 use Rattle.definitions.specs.Squeeze.{squeeze, movesBlock, squeezeReply, squeezeGraph, squeezeMoves}
 use Rattle.laws.proofs.Reply.{done-plain, where-done, where-refused}
 use Rattle.laws.proofs.Operations.{squeeze-valueless}
 use Rattle.graph_fields.specs.Layout.{WholeGraph}
 use Rattle.graph_check.proofs.Readable.{graph-readable}
+use Rattle.encoding.specs.Tables.{Table}
+use Rattle.encoding.proofs.Graphs.{table-of}
+use Rattle.graph_uses.specs.Countable.{CountableGraph}
+use Rattle.graph_counts.specs.Recounted.{recounted}
+use Rattle.graph_counts.proofs.Laws.{made-countable, made-recounted}
+use Rattle.tidying.proofs.Squeezed.{squeezed-table}
 use Rattle.graph_squeeze.proofs.Outcome.{squeeze-good, moves-bytes}
 use borrow.Author.Needs.{needs}
 use Rattle.graph_squeeze.proofs.squeeze.Statement.{statement}
@@ -89,6 +95,9 @@ module _ (c : tie.After-enum-told) where
   whole : WholeGraph graph
   whole = graph-readable graph sound .whole
 
+  after : Table (squeeze (graphOf graph))
+  after = squeezed-table (graphOf graph) (table-of graph sound)
+
 slot-count-requires : tie.Need-slot-count-requires
 slot-count-requires c κs = omega (arith, whole (c .before) .size)
 
@@ -98,6 +107,12 @@ moves-of-requires c κs = whole (c .before .before .before)
 move-vertices-requires : tie.Need-move-vertices-requires
 move-vertices-requires c κs = (sound (c .before .before .before .before .before .before .before .before .before), c .before .before .before .before .before .moves-of .ensures)
 
+store-counts-requires : tie.Need-store-counts-requires
+store-counts-requires c κs =
+    let v = c .before .before .before in
+    let b = v .before .before .before .before .before .before .before .before .before .before in
+    subst CountableGraph (sym (v .move-vertices .ensures)) (made-countable graphVersion (λ i. 0) (squeeze (graphOf (graph b))) (after b))
+
 sub-put-u16s : tie.Need-sub-put-u16s
 sub-put-u16s c = search needs
 
@@ -106,13 +121,13 @@ part-put-u16s-start c = search needs
 
 part-put-u16s-end : tie.Need-part-put-u16s-end
 part-put-u16s-end c =
-    let m = c .before .before .before .before .before .before .before .before .before .before in
+    let m = c .before .before .before .before .before .before .before .before .before .before .before .before .before .before in
     let b = m .before .before .before .before in
     omega (arith, m .moves-of .ensures .toSize, m .moves-of .ensures .fromSize, m .before .before .slot-count .ensures .0, whole b .slots)
 
 put-u16s-requires : tie.Need-put-u16s-requires
 put-u16s-requires c κs =
-    let m = c .before .before .before .before .before .before .before .before .before .before .before in
+    let m = c .before .before .before .before .before .before .before .before .before .before .before .before .before .before .before in
     let n = m .before .before in
     let b = n .before .before in
     let sizes = m .moves-of .ensures in
@@ -130,14 +145,16 @@ same-length-4 c = search needs
 returns-2 : tie.Need-returns-2
 returns-2 c =
     let p = c .before .before in
-    let v = p .before .before .before .before .before .before in
+    let t = p .before .before .before .before .before .before in
+    let v = t .before .before .before .before in
     let m = v .before .before .before .before .before .before in
     let n = m .before .before in
     let b = n .before .before in
+    let g = graphOf (graph b) in
     let left = after-done (graph b) (moves b) (good b) in (
       sym (good b),
       (
-        v .move-vertices .ensures ∙ left .0,
+        t .store-counts .ensures ∙ ap recounted (v .move-vertices .ensures) ∙ made-recounted graphVersion (λ i. 0) (squeeze g) (after b) ∙ left .0,
         p .put-u16s .ensures
             ∙ ap (λ k. concatMap u16Bytes (take k (m .moves-of .result .to))) (sub-zero (n .slot-count .result) ∙ n .slot-count .ensures .0)
             ∙ moves-bytes (graph b) (m .moves-of .result .count) (m .moves-of .result .from) (m .moves-of .result .to) (whole b .slots) (m .moves-of .ensures)
@@ -158,6 +175,7 @@ squeeze-spec =
     slot-count-requires
     moves-of-requires
     move-vertices-requires
+    store-counts-requires
     sub-put-u16s
     part-put-u16s-start
     part-put-u16s-end

@@ -1,4 +1,4 @@
--- The loop's invariant: the block is the swept one below slot v, and still the old one from there on.
+-- The loop's invariant: below slot v the slots that go are Empty, and from there on the block is as it came.
 -- Assumes nothing.
 use mathlib.Core.Path.{sym, _∙_}
 use mathlib.Core.List.{List}
@@ -7,19 +7,19 @@ use Prim.Native.Nat.{ℕ, _+_, _-_, _<_, _≤_}
 use native.Mathlib.Omega.{arith}
 use lib.ListN.{length}
 use Rattle.definitions.specs.Fields.{Bytes}
-use Rattle.definitions.specs.Graph.{slotCount, recordAt, graphOf, graphBlock}
-use Rattle.definitions.specs.Sweep.{sweep}
+use Rattle.definitions.specs.Graph.{slotCount, recordAt, graphOf}
 use Rattle.graph_fields.specs.Layout.{WholeGraph}
 use Rattle.graph_check.proofs.Readable.{graph-readable}
 use Rattle.graph_slots.specs.Written.{Halfway}
 use Rattle.graph_slots.proofs.Laws.{empty-length, halfway-write, halfway-keep, halfway-all}
+use Rattle.graph_sweep.specs.Emptied.{emptied}
 use Rattle.graph_sweep.proofs.Laws.{swept-start, swept-keep, swept-clear, swept-end}
 use Rattle.graph_sweep.proofs.empty_slots.Statement.{statement}
 use Rattle.graph_sweep.proofs.empty_slots.Tie as tie
 
 abbrev Inv-loop : tie.InvT-loop
 Inv-loop graph₀ unneeded slots v₀ graph v =
-    (v ≤ slots) × Halfway v graph (graphBlock (sweep (graphOf graph₀))) graph₀
+    (v ≤ slots) × Halfway v graph (emptied (graphOf graph₀)) graph₀
 
 abbrev μ-loop : tie.MeasureT-loop
 μ-loop graph₀ unneeded slots v₀ graph v = slots - v

@@ -1,4 +1,4 @@
--- The loop's invariant: once the input places from i on are counted too, those of the slots up to k are.
+-- The loop's invariant: once the input places from `place` on are counted too, those of the slots up to k are.
 -- Assumes nothing.
 use mathlib.Core.Path.{sym}
 use mathlib.Core.List.{List}
@@ -16,11 +16,11 @@ use Rattle.graph_uses.proofs.add_inputs.Statement.{statement}
 use Rattle.graph_uses.proofs.add_inputs.Tie as tie
 
 abbrev Inv-loop : tie.InvT-loop
-Inv-loop graph k uses₀ places i₀ uses i =
-    Counting slotLimit (readsBelow (graphOf graph) (k + 1)) (drop i (inputsOf (graphOf graph) k)) uses
+Inv-loop graph k uses₀ places place₀ uses place =
+    Counting slotLimit (readsBelow (graphOf graph) (k + 1)) (drop place (inputsOf (graphOf graph) k)) uses
 
 abbrev μ-loop : tie.MeasureT-loop
-μ-loop graph k uses₀ places i₀ uses i = places - i
+μ-loop graph k uses₀ places place₀ uses place = places - place
 
 abbrev start : tie.At-loop Inv-loop μ-loop → tie.Start Inv-loop μ-loop
 start a = a .before .before .before
@@ -28,7 +28,7 @@ start a = a .before .before .before
 abbrev inputs : tie.Start Inv-loop μ-loop → List ℕ
 inputs s = inputsOf (graphOf (s .args .graph .now)) (s .args .k)
 
-left : (c : tie.In-loop Inv-loop μ-loop) → c .before .loop .i < length (inputs (start (c .before)))
+left : (c : tie.In-loop Inv-loop μ-loop) → c .before .loop .place < length (inputs (start (c .before)))
 left c = omega (arith, c .loop-test .taken, c .before .before .input-count .ensures .0)
 
 input-below : (c : tie.After-input-at Inv-loop μ-loop) → c .input-at .result < slotLimit
@@ -37,7 +37,7 @@ input-below c =
     let s = start a in
     omega (
       arith,
-      s .pre .closed .named (s .args .k) (a .loop .i) (s .pre .slot) (left (c .before)),
+      s .pre .closed .named (s .args .k) (a .loop .place) (s .pre .slot) (left (c .before)),
       c .input-at .ensures .0,
       s .pre .readable .whole .slots,
     )
@@ -67,7 +67,7 @@ add-uses c =
     let s = start a in
     omega (
       arith,
-      counting-room (inputs s) (a .loop .i) unusedPlace (n .input-at .result) (left (n .before)) (n .input-at .ensures .0) (a .loop .inv),
+      counting-room (inputs s) (a .loop .place) unusedPlace (n .input-at .result) (left (n .before)) (n .input-at .ensures .0) (a .loop .inv),
       reads-below-most (s .pre .readable) (s .args .k + 1) (n .input-at .result) (omega (arith, s .pre .slot)),
       s .pre .slot,
       s .pre .readable .whole .slots,
@@ -76,8 +76,8 @@ add-uses c =
 element-write-uses : tie.Need-element-write-uses Inv-loop μ-loop
 element-write-uses c = input-below (c .before)
 
-add-i : tie.Need-add-i Inv-loop μ-loop
-add-i c = omega arith
+add-place : tie.Need-add-place Inv-loop μ-loop
+add-place c = omega arith
 
 loop-less : tie.Need-loop-less Inv-loop μ-loop
 loop-less c = omega arith
@@ -86,13 +86,13 @@ loop-again : tie.Need-loop-again Inv-loop μ-loop
 loop-again c =
     let n = c .before in
     let a = n .before .before in
-    counting-turn (inputs (start a)) (a .loop .i) unusedPlace (n .input-at .result) (left (n .before)) (n .input-at .ensures .0)
+    counting-turn (inputs (start a)) (a .loop .place) unusedPlace (n .input-at .result) (left (n .before)) (n .input-at .ensures .0)
     (input-below n) (a .loop .inv)
 
 returns : tie.Need-returns Inv-loop μ-loop
 returns c =
     let a = c .before in
-    counting-ends (inputs (start a)) (a .loop .i) (omega (arith, c .loop-test .left, a .before .input-count .ensures .0)) (a .loop .inv)
+    counting-ends (inputs (start a)) (a .loop .place) (omega (arith, c .loop-test .left, a .before .input-count .ensures .0)) (a .loop .inv)
 
 pub add-inputs-spec : {M : Type 1} → statement M
 add-inputs-spec =
@@ -107,7 +107,7 @@ add-inputs-spec =
     element-copy-out-uses
     add-uses
     element-write-uses
-    add-i
+    add-place
     loop-less
     loop-again
     returns)

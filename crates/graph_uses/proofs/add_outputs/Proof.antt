@@ -5,7 +5,7 @@ use mathlib.Core.List.{List}
 use Prim.Native.Nat.{ℕ, _-_, _<_}
 use native.Mathlib.Omega.{arith}
 use lib.ListN.{length, drop}
-use Rattle.definitions.specs.Graph.{slotLimit, unusedPlace, graphOf, usesOf}
+use Rattle.definitions.specs.Graph.{slotLimit, unusedPlace, graphOf, trueCount}
 use Rattle.laws.proofs.Graph.{length-outputs}
 use Rattle.laws.proofs.Counts.{Counting, counting-starts, counting-turn, counting-room, counting-ends}
 use Rattle.graph_uses.proofs.Laws.{uses-most}
@@ -13,7 +13,7 @@ use Rattle.graph_uses.proofs.add_outputs.Statement.{statement}
 use Rattle.graph_uses.proofs.add_outputs.Tie as tie
 
 abbrev Inv-loop : tie.InvT-loop
-Inv-loop graph uses₀ number i₀ uses i = Counting slotLimit (usesOf (graphOf graph)) (drop i (graphOf graph .outputs)) uses
+Inv-loop graph uses₀ number i₀ uses i = Counting slotLimit (trueCount (graphOf graph)) (drop i (graphOf graph .outputs)) uses
 
 abbrev μ-loop : tie.MeasureT-loop
 μ-loop graph uses₀ number i₀ uses i = number - i
@@ -47,7 +47,7 @@ output-count-requires : tie.Need-output-count-requires Inv-loop μ-loop
 output-count-requires c κs = omega (arith, c .before .pre .readable .whole .size)
 
 loop-holds : tie.Need-loop-holds Inv-loop μ-loop
-unfolding usesOf
+unfolding trueCount
 loop-holds c = let s = c .before .before in counting-starts (outputs s) (λ v. refl) (s .pre .counted)
 
 output-at-requires : tie.Need-output-at-requires Inv-loop μ-loop

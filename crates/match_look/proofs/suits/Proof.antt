@@ -1,10 +1,12 @@
--- The look, and then the uses.
+-- The look, and then the uses: the count that the slot stores is the true one.
 -- Assumes nothing.
+use mathlib.Core.Path.{ap, _∙_}
+use Prim.Native.Nat.{ℕ}
 use borrow.Author.Needs.{needs}
 use borrow.Author.Tests.{not-true, not-false}
-use lib.ListN.{getD}
 use Rattle.definitions.specs.Graph.{graphOf}
 use Rattle.match_look.specs.Head.{headIn}
+use Rattle.match_look.specs.Candidate.{usesFit}
 use Rattle.match_look.proofs.Candidates.{look-fails, look-passes}
 use Rattle.match_look.proofs.suits.Statement.{statement}
 use Rattle.match_look.proofs.suits.Tie as tie
@@ -19,23 +21,27 @@ returns c =
     look-fails (graphOf (s .args .graph .now)) (s .args .v) (headIn (s .args .head)) (s .args .demand) (p .passes-look .result)
     (p .passes-look .ensures) (not-true _ (c .if1 .taken))
 
-mul-uses-fit : tie.Need-mul-uses-fit
-mul-uses-fit c = search needs
+widened-requires : tie.Need-widened-requires
+widened-requires c κs = search needs
 
-element-copy-out-uses-fit : tie.Need-element-copy-out-uses-fit
-element-copy-out-uses-fit c = search needs
+stored-count-requires : tie.Need-stored-count-requires
+stored-count-requires c κs = search needs
 
 uses-fit-requires : tie.Need-uses-fit-requires
 uses-fit-requires c κs = search needs
 
 returns-2 : tie.Need-returns-2
 returns-2 c =
-    let e = c .before .before in
+    let n = c .before in
+    let w = n .before in
+    let e = w .before in
     let p = e .before in
     let s = p .before .before in
+    let stored = n .stored-count .ensures .0 in
     look-passes (graphOf (s .args .graph .now)) (s .args .v) (headIn (s .args .head)) (s .args .demand) (p .passes-look .result)
-    (p .passes-look .ensures) (not-false _ (e .if1 .left)) (c .uses-fit .result) (getD (s .args .uses .now) (s .args .v) 0)
-    (c .uses-fit .ensures) (s .pre .uses .1 (s .args .v) (s .pre .slot))
+    (p .passes-look .ensures) (not-false _ (e .if1 .left)) (c .uses-fit .result) (n .stored-count .result)
+    (c .uses-fit .ensures ∙ ap (λ (d : ℕ). usesFit d (n .stored-count .result)) (w .widened .ensures))
+    (stored ∙ s .pre .counts (s .args .v) (s .pre .slot))
 
 pub suits-spec : {M : Type 1} → statement M
 suits-spec =
@@ -43,7 +49,7 @@ suits-spec =
     (tie.spec
     passes-look-requires
     returns
-    mul-uses-fit
-    element-copy-out-uses-fit
+    widened-requires
+    stored-count-requires
     uses-fit-requires
     returns-2)

@@ -14,11 +14,11 @@ use Rattle.match_outputs.proofs.search_one.Statement.{statement}
 use Rattle.match_outputs.proofs.search_one.Tie as tie
 
 abbrev Inv-loop : tie.InvT-loop
-Inv-loop graph rule uses demands root start slots head images₀ slot₀ images slot =
+Inv-loop graph rule demands root start slots head images₀ slot₀ images slot =
     AtCandidate (graphOf graph) (ruleOf rule) root start (headIn head) slots slot × Blank (ruleOf rule) images
 
 abbrev μ-loop : tie.MeasureT-loop
-μ-loop graph rule uses demands root start slots head images₀ slot₀ images slot = slots - slot
+μ-loop graph rule demands root start slots head images₀ slot₀ images slot = slots - slot
 
 -- ---- before the loop
 

@@ -23,19 +23,19 @@ use Rattle.match_pairs.proofs.search_pairs.Statement.{statement}
 use Rattle.match_pairs.proofs.search_pairs.Tie as tie
 
 abbrev Inv-loop : tie.InvT-loop
-Inv-loop graph rule uses demands root last start slots head candidates next images₀ ok₀ first k₀ images ok k =
+Inv-loop graph rule demands root last start slots head candidates next images₀ ok₀ first k₀ images ok k =
     Left (graphOf graph) (ruleOf rule) root last first (candidates .slots) (candidates .count) k
     × Rooted (graphOf graph) (ruleOf rule) root first images × Blank (ruleOf rule) images × (ok ≡ false)
 
 abbrev μ-loop : tie.MeasureT-loop
-μ-loop graph rule uses demands root last start slots head candidates next images₀ ok₀ first k₀ images ok k = candidates .count - k
+μ-loop graph rule demands root last start slots head candidates next images₀ ok₀ first k₀ images ok k = candidates .count - k
 
 abbrev Inv-search : tie.InvT-search
-Inv-search graph rule uses demands root last start slots head candidates next images₀ ok₀ first₀ images ok first =
+Inv-search graph rule demands root last start slots head candidates next images₀ ok₀ first₀ images ok first =
     AtCandidate (graphOf graph) (ruleOf rule) root start (headIn head) slots first × Blank (ruleOf rule) images × (ok ≡ false)
 
 abbrev μ-search : tie.MeasureT-search
-μ-search graph rule uses demands root last start slots head candidates next images₀ ok₀ first₀ images ok first = slots - first
+μ-search graph rule demands root last start slots head candidates next images₀ ok₀ first₀ images ok first = slots - first
 
 -- ---- before the loops
 
@@ -218,7 +218,7 @@ stepped : (w : Tried)
     let l = ready (outer b) in
     let k = counted l in
     Step (g k) (r k) (o k + 1) (b .loop .images) (Sends (q k) (getD (l .all-candidates .result .slots) (b .loop .k) 0))
-    (max (o k + 1) (suc (q k))) (w .match-candidate2 .result) (w .match-candidate2 .last .1 .1 .1 .1 .1 .1 .1 .0)
+    (max (o k + 1) (suc (q k))) (w .match-candidate2 .result) (w .match-candidate2 .last .1 .1 .1 .1 .1 .1 .0)
 stepped w = rw (← w .before .before .widened .ensures) (w .match-candidate2 .ensures)
 
 add-k : tie.Need-add-k Inv-loop μ-loop Inv-search μ-search

@@ -41,50 +41,50 @@ use Rattle.rule_fields.proofs.source_input_count.Reads as source-input-count-re
 use Rattle.matching.proofs.+match_candidate+match_inputs+match_vertex.{statement}
 use Rattle.matching.proofs.+match_candidate+match_inputs+match_vertex.Tie.{close}
 
-abbrev μ-match-candidate : Measures 5 match-candidate-kinds.ps ℕ
-μ-match-candidate κs a = a .1 .1 .1 .1 .0 * 9 + 7
+abbrev μ-match-candidate : Measures 4 match-candidate-kinds.ps ℕ
+μ-match-candidate κs a = a .1 .1 .1 .0 * 9 + 7
 
-abbrev μ-match-inputs : Measures 5 match-inputs-kinds.ps ℕ
-μ-match-inputs κs a = a .1 .1 .1 .1 .0 * 9 + (6 - a .1 .1 .1 .1 .1 .1 .0)
+abbrev μ-match-inputs : Measures 4 match-inputs-kinds.ps ℕ
+μ-match-inputs κs a = a .1 .1 .1 .0 * 9 + (6 - a .1 .1 .1 .1 .1 .0)
 
-abbrev μ-match-vertex : Measures 5 match-vertex-kinds.ps ℕ
-μ-match-vertex κs a = a .1 .1 .1 .1 .0 * 9 + 8
+abbrev μ-match-vertex : Measures 4 match-vertex-kinds.ps ℕ
+μ-match-vertex κs a = a .1 .1 .1 .0 * 9 + 8
 
 -- what each is given at the measure t, and what a call of it asks below t
-abbrev match-candidate-at : ℕ → In 5 match-candidate-kinds.ps
+abbrev match-candidate-at : ℕ → In 4 match-candidate-kinds.ps
 match-candidate-at t =
-    and 5 match-candidate-kinds.ps (is 5 match-candidate-kinds.ps μ-match-candidate t) match-candidate.Pre
+    and 4 match-candidate-kinds.ps (is 4 match-candidate-kinds.ps μ-match-candidate t) match-candidate.Pre
 
-abbrev match-candidate-below : ℕ → In 5 match-candidate-kinds.ps
+abbrev match-candidate-below : ℕ → In 4 match-candidate-kinds.ps
 match-candidate-below t =
     and
-    5
+    4
     match-candidate-kinds.ps
-    (falls 5 match-candidate-kinds.ps _<_ μ-match-candidate t)
+    (falls 4 match-candidate-kinds.ps _<_ μ-match-candidate t)
     match-candidate.Pre
 
-abbrev match-inputs-at : ℕ → In 5 match-inputs-kinds.ps
+abbrev match-inputs-at : ℕ → In 4 match-inputs-kinds.ps
 match-inputs-at t =
-    and 5 match-inputs-kinds.ps (is 5 match-inputs-kinds.ps μ-match-inputs t) match-inputs.Pre
+    and 4 match-inputs-kinds.ps (is 4 match-inputs-kinds.ps μ-match-inputs t) match-inputs.Pre
 
-abbrev match-inputs-below : ℕ → In 5 match-inputs-kinds.ps
+abbrev match-inputs-below : ℕ → In 4 match-inputs-kinds.ps
 match-inputs-below t =
     and
-    5
+    4
     match-inputs-kinds.ps
-    (falls 5 match-inputs-kinds.ps _<_ μ-match-inputs t)
+    (falls 4 match-inputs-kinds.ps _<_ μ-match-inputs t)
     match-inputs.Pre
 
-abbrev match-vertex-at : ℕ → In 5 match-vertex-kinds.ps
+abbrev match-vertex-at : ℕ → In 4 match-vertex-kinds.ps
 match-vertex-at t =
-    and 5 match-vertex-kinds.ps (is 5 match-vertex-kinds.ps μ-match-vertex t) match-vertex.Pre
+    and 4 match-vertex-kinds.ps (is 4 match-vertex-kinds.ps μ-match-vertex t) match-vertex.Pre
 
-abbrev match-vertex-below : ℕ → In 5 match-vertex-kinds.ps
+abbrev match-vertex-below : ℕ → In 4 match-vertex-kinds.ps
 match-vertex-below t =
     and
-    5
+    4
     match-vertex-kinds.ps
-    (falls 5 match-vertex-kinds.ps _<_ μ-match-vertex t)
+    (falls 4 match-vertex-kinds.ps _<_ μ-match-vertex t)
     match-vertex.Pre
 
 -- the contracts of what each calls
@@ -406,7 +406,7 @@ match-vertex-suits-requires : (t : ℕ)
     → match-vertex-lts.Need-suits-requires (match-vertex-calls t) (match-vertex-at t) match-vertex.Post
 match-vertex-suits-requires t c κs =
     let s = c .before .before .before .before .before in
-    record { readable = s .pre .1 .setting .readable; uses = s .pre .1 .setting .uses; slot = s .pre .1 .slot }
+    record { readable = s .pre .1 .setting .readable; counts = s .pre .1 .setting .counts; slot = s .pre .1 .slot }
 
 match-vertex-returns-2 : (t : ℕ) → match-vertex-lts.Need-returns-2 (match-vertex-calls t) (match-vertex-at t) match-vertex.Post
 match-vertex-returns-2 t c =

@@ -8,7 +8,7 @@ use Prim.Native.Nat.{ℕ, _≤_}
 use native.Mathlib.Omega.{arith}
 use Rattle.definitions.specs.declared.Reply.the-variants.{Done}
 use Rattle.definitions.specs.Reply.{noResult, noRoom, newCycle, refusal}
-use Rattle.definitions.specs.Graph.{Graph, graphOf, hasCycle}
+use Rattle.definitions.specs.Graph.{graphVersion, Graph, graphOf, hasCycle}
 use Rattle.definitions.specs.Rule.{sideLimit, targetCount, ruleOf}
 use Rattle.definitions.specs.Rewriting.{freeSlots}
 use Rattle.laws.proofs.Graph.{length-slots}
@@ -19,6 +19,9 @@ use Rattle.attributes.proofs.Sound.{rule-evaluable}
 use Rattle.encoding.specs.Tables.{Table}
 use Rattle.encoding.proofs.Blocks.{block-readable, block-closed, block-cycle}
 use Rattle.graph_fields.specs.Layout.{ReadableGraph, Closed}
+use Rattle.graph_uses.specs.Countable.{CountableGraph}
+use Rattle.graph_counts.specs.Recounted.{recounted}
+use Rattle.graph_counts.proofs.Laws.{made-countable, made-recounted}
 use Rattle.target_attributes.specs.Words.{isGiven}
 use Rattle.target_attributes.proofs.Laws.{unfit-lacks, fit-found}
 use Rattle.new_slots.specs.Vacant.{marked, Lowest}
@@ -161,13 +164,15 @@ module _ (c : tie.After-write-table) where
 judged : (c : tie.After-has-cycle) → c .has-cycle .result ≡ hasCycle (new (c .before .before .before .before))
 judged c =
     let w = c .before .before .before .before in
-    c .has-cycle .ensures ∙ ap (λ block. hasCycle (graphOf block)) (w .write-table .ensures) ∙ block-cycle (new w) (table w)
+    c .has-cycle .ensures ∙ ap (λ block. hasCycle (graphOf block)) (w .write-table .ensures) ∙ block-cycle (new w) (table w) graphVersion (λ i. 0)
 
 has-cycle-requires : tie.Need-has-cycle-requires
 has-cycle-requires c κs =
     let w = c .before .before .before in
-    let written = sym (w .write-table .ensures) in
-    (subst ReadableGraph written (block-readable (new w) (table w)), subst Closed written (block-closed (new w) (table w)))
+    let written = sym (w .write-table .ensures) in (
+      subst ReadableGraph written (block-readable (new w) (table w) graphVersion (λ i. 0)),
+      subst Closed written (block-closed (new w) (table w) graphVersion (λ i. 0)),
+    )
 
 refuse-requires-3 : tie.Need-refuse-requires-3
 refuse-requires-3 c κs = search needs
@@ -186,19 +191,26 @@ returns-3 c =
     (cyclic (graph s) (rule s) (images s) (s .pre .0) (fit l)
     (l .lowest-free .result .count) (l .lowest-free .result .slots) (places l) (enough w) (sym (judged h) ∙ t .if2 .taken))
 
+store-counts-requires : tie.Need-store-counts-requires
+store-counts-requires c κs =
+    let w = c .before .before .before .before .before .before in
+    subst CountableGraph (sym (w .write-table .ensures)) (made-countable graphVersion (λ i. 0) (new w) (table w))
+
 same-length-2 : tie.Need-same-length-2
 same-length-2 c = search needs
 
 returns-4 : tie.Need-returns-4
 returns-4 c =
-    let h = c .before in
+    let m = c .before .before in
+    let e = m .before .before in
+    let h = e .before in
     let w = h .before .before .before .before in
     let l = listed w in
     let s = begun l in
     planned-done _ (Done 0) _ (new w) (table w) refl
     (done (graph s) (rule s) (images s) (s .pre .0) (fit l)
-    (l .lowest-free .result .count) (l .lowest-free .result .slots) (places l) (enough w) (sym (judged h) ∙ c .if2 .left))
-    (w .write-table .ensures)
+    (l .lowest-free .result .count) (l .lowest-free .result .slots) (places l) (enough w) (sym (judged h) ∙ e .if2 .left))
+    (m .store-counts .ensures ∙ ap recounted (w .write-table .ensures) ∙ made-recounted graphVersion (λ i. 0) (new w) (table w))
 
 pub plan-spec : {M : Type 1} → statement M
 plan-spec =
@@ -220,5 +232,6 @@ plan-spec =
     refuse-requires-3
     same-length
     returns-3
+    store-counts-requires
     same-length-2
     returns-4)

@@ -15,24 +15,32 @@ returns c = simp (← c .before .is-rule-input .ensures, c .if1 .taken)
 is-const-requires : tie.Need-is-const-requires
 is-const-requires c κs = search needs
 
-mul-result : tie.Need-mul-result
-mul-result c = search needs
+stored-count-requires : tie.Need-stored-count-requires
+stored-count-requires c κs = search needs
 
-element-copy-out-result : tie.Need-element-copy-out-result
-element-copy-out-result c = search needs
+mul-widened : tie.Need-mul-widened
+mul-widened c = search needs
 
-mul-result-2 : tie.Need-mul-result-2
-mul-result-2 c = search needs
+element-copy-out-widened : tie.Need-element-copy-out-widened
+element-copy-out-widened c = search needs
 
-element-copy-out-result-2 : tie.Need-element-copy-out-result-2
-element-copy-out-result-2 c = search needs
+widened-requires : tie.Need-widened-requires
+widened-requires c κs = search needs
 
 returns-2 : tie.Need-returns-2
 unfolding goesBy
 returns-2 c =
-    let d = c .before .before in
+    let n = c .before .before in
+    let d = n .before in
     let a = d .before .before in
-    simp (← a .before .is-rule-input .ensures, a .if1 .left, ← d .before .is-const .ensures, d .if2 .taken)
+    simp (
+      ← a .before .is-rule-input .ensures,
+      a .if1 .left,
+      ← d .before .is-const .ensures,
+      d .if2 .taken,
+      n .stored-count .ensures .0,
+      c .widened .ensures,
+    )
 
 returns-3 : tie.Need-returns-3
 unfolding goesBy
@@ -47,9 +55,9 @@ image-goes-spec =
     is-rule-input-requires
     returns
     is-const-requires
-    mul-result
-    element-copy-out-result
-    mul-result-2
-    element-copy-out-result-2
+    stored-count-requires
+    mul-widened
+    element-copy-out-widened
+    widened-requires
     returns-2
     returns-3)

@@ -1,15 +1,16 @@
 -- The record that is written for slot k goes on behind the slots that are written already.
 -- Assumes nothing.
-use mathlib.Core.Path.{sym, ap, _∙_}
+use mathlib.Core.Path.{sym, ap, ap₂, _∙_}
 use mathlib.Core.List.{List, _++_}
 use Prim.Native.Nat.{ℕ, _<_}
 use native.Mathlib.Omega.{arith}
 use lib.ListN.{length, take, replicate}
-use Rattle.definitions.specs.Graph.{tailBytes, recordAt, graphOf, slotTail, slotBlock}
+use Rattle.definitions.specs.Graph.{tailBytes, recordAt, graphOf, slotOf, slotBlock}
 use Rattle.definitions.specs.Rule.{ruleOf}
 use Rattle.definitions.specs.Rewriting.{newSlot}
 use Rattle.laws.proofs.Rewriting.{new-slot-at}
 use Rattle.laws.proofs.Graph.{length-slots}
+use Rattle.encoding.proofs.Tails.{zero-tail}
 use Rattle.graph_records.proofs.Laws.{stands-bytes}
 use Rattle.new_vertices.specs.Slots.{valuesOf, fitResults}
 use Rattle.new_table.specs.Table.{newTable}
@@ -30,7 +31,7 @@ same-length : tie.Need-same-length
 same-length c = search needs
 
 returns : tie.Need-returns
-unfolding newTable slotTail
+unfolding newTable
 returns c =
     let w = c .before .before in
     let n = w .before .before .before in
@@ -44,7 +45,7 @@ returns c =
     let tail : List ℕ = replicate tailBytes 0 in
     w .write-slot .ensures .front
     ∙ ap (λ b. take (recordAt k) (s .args .table .now) ++ b) (stands-bytes tail (n .new-record .result) (newSlot g r images values k) (n .new-record .ensures)
-    ∙ ap (slotBlock tail) (sym (new-slot-at g r images values k old)))
+    ∙ ap₂ slotBlock (sym zero-tail) (sym (new-slot-at g r images values k old)))
 
 pub write-slot-spec : {M : Type 1} → statement M
 write-slot-spec = tie.close (tie.spec new-record-requires slice-aggregate-write-slot write-slot-requires same-length returns)

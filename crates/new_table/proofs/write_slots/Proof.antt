@@ -29,7 +29,7 @@ freeBelow graph rule images k = length (filter (λ i. not (stays (graphOf graph)
 
 -- the first k slots of the new table, as bytes
 abbrev slotsBelow : List ℕ → List ℕ → List ℕ → ℕ → List ℕ
-slotsBelow graph rule images k = recordsBlock (newTable graph rule images) k
+slotsBelow graph rule images k = recordsBlock (λ i. 0) (newTable graph rule images) k
 
 abbrev Inv-loop : tie.InvT-loop
 Inv-loop graph rule images places way free table₀ slots next₀ k₀ table next k =
@@ -95,7 +95,7 @@ loop-again c =
     let isFree = getD (s .args .free .now) k false in
     let more : freeBelow graph rule images (k + 1) ≡ freeBelow graph rule images k + cond isFree 1 0 =
     rw (s .pre .1 .1 .0 .each k inside, add-one) (filtered-count (λ i. not (stays (graphOf graph) (ruleOf rule) images i)) k) in
-    let made = recordBlock (newTable graph rule images) in (
+    let made = recordBlock (λ i. 0) (newTable graph rule images) in (
       omega arith,
       c .before .before .table .given ∙ l .loop .inv .1,
       omega (arith, c .counted .ensures, l .loop .inv .2, more),

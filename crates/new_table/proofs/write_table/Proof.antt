@@ -6,7 +6,7 @@ use Prim.Native.Nat.{ℕ}
 use native.Mathlib.Omega.{arith}
 use lib.ListN.{length, length-map}
 use Rattle.definitions.specs.Lists.{padded}
-use Rattle.definitions.specs.Graph.{headerBytes, outputLimit, unusedPlace, slotCount, outputCount, graphOf, recordsBlock, headerBlock, graphBlock}
+use Rattle.definitions.specs.Graph.{headerBytes, outputLimit, unusedPlace, graphVersion, slotCount, outputCount, graphOf, recordsBlock, headerBlock, blockAs}
 use Rattle.definitions.specs.Rule.{ruleOf}
 use Rattle.definitions.specs.Rewriting.{redirect, newSlot, newGraph}
 use Rattle.laws.proofs.Lists.{length-tabulate, map-same}
@@ -27,7 +27,7 @@ use Rattle.new_table.proofs.write_table.Tie as tie
 -- the header of the new table, from the counts of the old one and the outputs as they are moved
 new-header : (graph rule images : List ℕ) (way : Redirection) → Redirects graph rule images way
     → headerWith (slotCount graph) (outputCount graph) (padded outputLimit unusedPlace (map (moved way) (graphOf graph .outputs)))
-    ≡ headerBlock (length (newTable graph rule images .slots)) (newTable graph rule images .outputs)
+    ≡ headerBlock graphVersion (length (newTable graph rule images .slots)) (newTable graph rule images .outputs)
 unfolding newTable newGraph
 new-header graph rule images way ways =
     let outputs = graphOf graph .outputs in
@@ -96,7 +96,7 @@ same-length : tie.Need-same-length
 same-length c = search needs
 
 returns : tie.Need-returns
-unfolding graphBlock
+unfolding blockAs
 returns c =
     let w = c .before .before in
     let h = w .before .before .before .before in
@@ -108,7 +108,7 @@ returns c =
     let images = s .args .images .now in
     let table = s .args .table .now in
     let header = h .write-header .last .0 in
-    let written : header ≡ headerBlock (length (newTable graph rule images .slots)) (newTable graph rule images .outputs) =
+    let written : header ≡ headerBlock graphVersion (length (newTable graph rule images .slots)) (newTable graph rule images .outputs) =
     h .write-header .ensures
     ∙ ap (λ n. headerWith n (o .before .output-count .result) (o .new-outputs .result)) (o .before .before .slot-count .ensures .0)
     ∙ ap₂ (headerWith (slotCount graph)) (o .before .output-count .ensures .0) (o .new-outputs .ensures)
@@ -116,7 +116,7 @@ returns c =
     let front = part-more 0 headerBytes table header (omega arith)
     (w .before .before .before .table .given .0 ∙ h .before .before .write-header-arg .given .2) [] (omega arith) refl in
     w .write-slots .ensures
-    ∙ ap (λ l. l ++ recordsBlock (newTable graph rule images) (length (newTable graph rule images .slots))) (front ∙ written)
+    ∙ ap (λ l. l ++ recordsBlock (λ i. 0) (newTable graph rule images) (length (newTable graph rule images .slots))) (front ∙ written)
 
 pub write-table-spec : {M : Type 1} → statement M
 write-table-spec =

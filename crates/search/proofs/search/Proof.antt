@@ -1,7 +1,7 @@
--- The counts are what a search asks for, and the outputs are those that the rule lists.
+-- The demands are what a search asks for, and the outputs are those that the rule lists.
 -- Assumes nothing.
 use native.Mathlib.Omega.{arith}
-use Rattle.graph_check.proofs.Readable.{graph-readable, graph-closed, graph-outputs}
+use Rattle.graph_check.proofs.Readable.{graph-readable, graph-closed}
 use Rattle.rule_check.proofs.Readable.{rule-readable, rule-layered, output-counts}
 use Rattle.matching.proofs.Sound.{rule-matchable}
 use Rattle.match_look.specs.Setting.{Setting}
@@ -9,56 +9,45 @@ use Rattle.search.proofs.Outputs.{one-output, two-outputs}
 use Rattle.search.proofs.search.Statement.{statement}
 use Rattle.search.proofs.search.Tie as tie
 
-count-uses-requires : tie.Need-count-uses-requires
-count-uses-requires c κs =
-    let s = c .before .before in
-    let block = s .args .graph .now in
-    record {
-      readable = graph-readable block (s .pre .0);
-      closed = graph-closed block (s .pre .0);
-      outputs = graph-outputs block (s .pre .0);
-    }
-
 count-demands-requires : tie.Need-count-demands-requires
 count-demands-requires c κs =
-    let s = c .before .before .before in
+    let s = c .before .before in
     let block = s .args .rule .now in
     record { readable = rule-readable block (s .pre .1); layered = rule-layered block (s .pre .1) }
 
 source-output-requires : tie.Need-source-output-requires
 source-output-requires c κs =
-    let s = c .before .before .before .before in
+    let s = c .before .before .before in
     (rule-readable (s .args .rule .now) (s .pre .1) .whole, output-counts (s .args .rule .now) (s .pre .1) .0)
 
 output-count-requires : tie.Need-output-count-requires
 output-count-requires c κs =
-    let s = c .before .before .before .before .before in
+    let s = c .before .before .before .before in
     omega (arith, rule-readable (s .args .rule .now) (s .pre .1) .whole .size)
 
--- ---- what is counted
+-- ---- what is known once the demands are counted
 
 abbrev Counted : Type 0
 Counted = tie.After-output-count
 
 abbrev start : Counted → tie.Start
-start d = d .before .before .before .before .before .before
+start d = d .before .before .before .before .before
 
 setting : (d : Counted)
-    → Setting (start d .args .graph .now) (start d .args .rule .now) (d .before .before .before .count-uses .result)
-    (d .before .before .count-demands .result)
+    → Setting (start d .args .graph .now) (start d .args .rule .now) (d .before .before .count-demands .result)
 setting d =
     let s = start d in
     record {
       readable = graph-readable (s .args .graph .now) (s .pre .0);
       closed = graph-closed (s .args .graph .now) (s .pre .0);
       matchable = rule-matchable (s .args .rule .now) (s .pre .1);
-      uses = d .before .before .before .count-uses .ensures;
+      counts = s .pre .0 .counts;
       demands = d .before .before .count-demands .ensures;
     }
 
 search-one-requires : tie.Need-search-one-requires
 search-one-requires c κs =
-    let t = c .before .before in
+    let t = c .before in
     let d = t .before in
     let s = start d in
     record {
@@ -81,7 +70,7 @@ source-output-requires-2 c κs =
 
 search-pairs-requires : tie.Need-search-pairs-requires
 search-pairs-requires c κs =
-    let l = c .before .before in
+    let l = c .before in
     let e = l .before in
     let d = e .before in
     let s = start d in
@@ -99,7 +88,6 @@ pub search-spec : {M : Type 1} → statement M
 search-spec =
     tie.close
     (tie.spec
-    count-uses-requires
     count-demands-requires
     source-output-requires
     output-count-requires

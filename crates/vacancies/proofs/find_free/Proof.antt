@@ -5,6 +5,7 @@ use mathlib.Core.Logic.{⊎-elim}
 use Prim.Native.Nat.{_-_, _≤_, _<_}
 use native.Mathlib.Omega.{arith}
 use borrow.Author.Needs.{needs}
+use lib.ListN.{getD}
 use Rattle.definitions.specs.Graph.{slotLimit, slotCount, graphOf}
 use Rattle.definitions.specs.Rule.{sideCapacity, sourceCount, ruleOf}
 use Rattle.definitions.specs.Match.{imageOf}
@@ -18,18 +19,18 @@ use Rattle.vacancies.proofs.find_free.Statement.{statement}
 use Rattle.vacancies.proofs.find_free.Tie as tie
 
 abbrev Inv-loop : tie.InvT-loop
-Inv-loop graph rule images vertices uses places free₀ j₀ free j =
+Inv-loop graph rule images vertices places free₀ j₀ free j =
     (j ≤ vertices) × Marked (freeBelow (graphOf graph) (ruleOf rule) images j) (slotCount graph) free
 
 abbrev μ-loop : tie.MeasureT-loop
-μ-loop graph rule images vertices uses places free₀ j₀ free j = vertices - j
+μ-loop graph rule images vertices places free₀ j₀ free j = vertices - j
 
 abbrev start : tie.At-loop Inv-loop μ-loop → tie.Start Inv-loop μ-loop
-start a = a .before .before .before .before .before .before .before .before
+start a = a .before .before .before .before .before .before
 
 vertex : (c : tie.In-loop Inv-loop μ-loop) → c .before .loop .j < sourceCount (start (c .before) .args .rule .now)
 vertex c =
-    omega (arith, c .loop-test .taken, c .before .before .before .before .before .before .source-count .ensures .0)
+    omega (arith, c .loop-test .taken, c .before .before .before .before .source-count .ensures .0)
 
 inside : (c : tie.In-loop Inv-loop μ-loop) → c .before .loop .j < sideCapacity
 inside c = omega (arith, start (c .before) .pre .patterns .readable .whole .source)
@@ -42,24 +43,26 @@ image c =
     let s = start (i .before) in
     c .widened .ensures ∙ sym (image-at (s .args .images .now) (i .before .loop .j) (omega (arith, inside i, s .pre .imageSize)))
 
-slot : (c : tie.After-widened Inv-loop μ-loop) → c .widened .result < slotLimit
-slot c =
+inside-table : (c : tie.After-widened Inv-loop μ-loop) → c .widened .result < slotCount (start (c .before .before .before) .args .graph .now)
+inside-table c =
     let a = c .before .before .before in
-    let s = start a in
-    omega (arith, image c, s .pre .slots (a .loop .j) (vertex (c .before .before)), s .pre .table .readable .whole .slots)
+    omega (arith, image c, start a .pre .slots (a .loop .j) (vertex (c .before .before)))
+
+slot : (c : tie.After-widened Inv-loop μ-loop) → c .widened .result < slotLimit
+slot c = omega (arith, inside-table c, start (c .before .before .before) .pre .table .slots)
 
 source-count-requires : tie.Need-source-count-requires Inv-loop μ-loop
 source-count-requires c κs = search needs
 
-count-for-consts-requires : tie.Need-count-for-consts-requires Inv-loop μ-loop
-count-for-consts-requires c κs = search needs
+count-places-requires : tie.Need-count-places-requires Inv-loop μ-loop
+count-places-requires c κs = search needs
 
 mark-empty-requires : tie.Need-mark-empty-requires Inv-loop μ-loop
 mark-empty-requires c κs = search needs
 
 loop-holds : tie.Need-loop-holds Inv-loop μ-loop
 loop-holds c =
-    let a = c .before .before .before .before .before .before .before .args in (
+    let a = c .before .before .before .before .before .args in (
       omega arith,
       marks-same (λ i l. free-none (graphOf (a .graph .now)) (ruleOf (a .rule .now)) (a .images .now) i) (c .mark-empty .ensures),
     )
@@ -75,14 +78,14 @@ widened-requires c κs = search needs
 
 image-goes-requires : tie.Need-image-goes-requires Inv-loop μ-loop
 image-goes-requires c κs =
-    let w = c .before .before in
+    let w = c .before in
     let a = w .before .before .before in
     let s = start a in
-    let counts = a .before .before .before .before .count-for-consts .ensures in
-    (s .pre .patterns .readable .whole, (vertex (w .before .before), (slot w, (counts .useSize, counts .placeSize))))
+    let size = a .before .before .count-places .ensures .places in
+    (s .pre .table, (inside-table w, (s .pre .patterns .readable .whole, (vertex (w .before .before), size))))
 
 array-write-free : tie.Need-array-write-free Inv-loop μ-loop
-array-write-free c = slot (c .before .before .before .before)
+array-write-free c = slot (c .before .before .before)
 
 add-j : tie.Need-add-j Inv-loop μ-loop
 add-j c = omega arith
@@ -91,23 +94,23 @@ loop-less : tie.Need-loop-less Inv-loop μ-loop
 loop-less c = omega arith
 
 -- the answer for source vertex j is the definition's
-going : (c : tie.After-image-goes Inv-loop μ-loop) → let s = start (c .before .before .before .before .before .before) in
+going : (c : tie.After-image-goes Inv-loop μ-loop) → let s = start (c .before .before .before .before .before) in
     c .image-goes .result
     ≡ goes (graphOf (s .args .graph .now)) (ruleOf (s .args .rule .now)) (s .args .images .now)
-    (c .before .before .before .before .before .before .loop .j)
+    (c .before .before .before .before .before .loop .j)
 going c =
-    let w = c .before .before .before in
+    let w = c .before .before in
     let a = w .before .before .before in
     let s = start a in
-    let counts = a .before .before .before .before .count-for-consts in
+    let places = a .before .before .count-places in
     c .image-goes .ensures
     ∙ goes-counted (s .args .graph .now) (s .args .rule .now) (s .args .images .now) (s .pre) (a .loop .j) (vertex (w .before .before))
-    (counts .result .uses) (counts .result .places) (counts .ensures) (w .widened .result) (image w)
+    (w .widened .result) (getD (places .result) (a .loop .j) 0) (image w) (places .ensures .at (a .loop .j))
 
 loop-again : tie.Need-loop-again Inv-loop μ-loop
 loop-again c =
     let t = c .before in
-    let w = t .before .before .before in
+    let w = t .before .before in
     let a = w .before .before .before in
     let s = start a in
     let g = graphOf (s .args .graph .now) in
@@ -137,7 +140,7 @@ find-free-spec =
     Inv-loop
     μ-loop
     source-count-requires
-    count-for-consts-requires
+    count-places-requires
     mark-empty-requires
     loop-holds
     mul-widened
