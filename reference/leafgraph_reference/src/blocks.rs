@@ -1,12 +1,12 @@
 //! Builders of graph and rule blocks, for tests, examples and the comparison.
 //!
-//! They write what they are told, sound or not: counts follow from the lists
-//! given, unused places and zero bytes are filled in as document 01 says, and
-//! nothing is judged.
+//! They write what they are told, sound or not: counts of inputs, of attributes
+//! and of what names a slot follow from the lists given, unused places and zero
+//! bytes are filled in as the papers say, and nothing is judged.
 
-use crate::fields::put_i32;
-use crate::fields::put_u16;
-use crate::graph::{self, write_record, OUTPUT_PLACES};
+use crate::counts::write_counts;
+use crate::fields::{put_i32, put_u16};
+use crate::graph::{self, write_record, Version, OUTPUT_PLACES, VERSION};
 use crate::operators::{
     ADD, CALL, CONST, CONV2D, EMPTY, GAIN, MEAN, PROJ, RELU, SUB, TUPLE, VARIABLE, WILDCARD,
 };
@@ -70,7 +70,7 @@ pub fn projection(input: u16, index: i32) -> Vertex {
 }
 
 impl Vertex {
-    /// The slot record. At most six inputs and six attributes.
+    /// The slot record, with a count of 0. At most six inputs and six attributes.
     pub fn record(&self) -> [u8; graph::RECORD] {
         let counts = [self.inputs.len() as u8, self.attributes.len() as u8];
         let head = [self.kind, self.operator, counts[0], counts[1]];
@@ -85,11 +85,39 @@ impl GraphParts {
         GraphParts { slots, outputs: outputs.to_vec() }
     }
 
-    /// The block. At most four outputs, six inputs and six attributes.
+    /// The block, with true counts. At most four outputs, six inputs and six
+    /// attributes.
     pub fn block(&self) -> Vec<u8> {
+        let mut bytes = self.block_of(Version::Two);
+        write_counts(&mut bytes, &self.counts());
+        bytes
+    }
+
+    /// The block as it was before request 5/13, for the import.
+    pub fn version_1_block(&self) -> Vec<u8> {
+        self.block_of(Version::One)
+    }
+
+    /// How many input places and outputs name each slot.
+    pub fn counts(&self) -> Vec<u16> {
+        let inputs = self.slots.iter().flat_map(|vertex| &vertex.inputs);
+        self.times_in(inputs.chain(&self.outputs))
+    }
+
+    /// How often each slot is among these numbers, some of which may name none.
+    pub(crate) fn times_in<'a>(&self, numbers: impl Iterator<Item = &'a u16>) -> Vec<u16> {
+        let mut times = vec![0; self.slots.len()];
+        for &number in numbers {
+            times.get_mut(usize::from(number)).into_iter().for_each(|times| *times += 1);
+        }
+        times
+    }
+
+    /// Without counts.
+    fn block_of(&self, version: Version) -> Vec<u8> {
         let mut bytes = vec![0; graph::HEADER + graph::RECORD * self.slots.len()];
         bytes[..3].copy_from_slice(b"LGT");
-        put_u16(&mut bytes, 4, 1);
+        put_u16(&mut bytes, VERSION, version.number());
         put_u16(&mut bytes, 6, self.slots.len() as u16);
         put_u16(&mut bytes, 8, self.outputs.len() as u16);
         for place in 0..OUTPUT_PLACES {

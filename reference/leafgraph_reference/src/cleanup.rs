@@ -26,16 +26,17 @@ fn holding<const N: usize>(faults: [(Fault, bool); N]) -> Vec<Fault> {
     faults.into_iter().filter(|(_, holds)| *holds).map(|(fault, _)| fault).collect()
 }
 
-/// What is wrong with a sweep. That nothing was removed that something needs is
-/// part of the new table's soundness. Nothing was left that no output needs
-/// exactly when every vertex but a Variable is named: of vertices from which no
-/// output is reached, which are on no cycle, one would be read by none.
+/// What is wrong with a sweep. That nothing was removed that something needs, and
+/// that counts are true, is part of the new table's soundness. Nothing was left
+/// that no output needs exactly when every vertex but a Variable is named: of
+/// vertices from which no output is reached, which are on no cycle, one would be
+/// read by none.
 pub fn sweep_faults(old: Graph, new: Graph, meaning: &mut Meaning) -> Vec<Fault> {
     let same_header = old.bytes()[..HEADER] == new.bytes()[..HEADER];
     if !same_header || old.bytes().len() != new.bytes().len() {
         return vec![OTHER_HEADER];
     }
-    let kept = |(before, after): &(Slot, Slot)| before.record() == after.record();
+    let kept = |(before, after): &(Slot, Slot)| before.vertex_bytes() == after.vertex_bytes();
     let changed = || old.slots().zip(new.slots()).filter(|pair| !kept(pair));
     let mut variables = changed().filter(|(before, _)| before.kind() == VARIABLE);
     let (before, after) = (meaning.results(old), meaning.results(new));

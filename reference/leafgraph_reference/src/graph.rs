@@ -1,9 +1,12 @@
 //! The graph block: a view of its fields, and the check.
 
+use std::ops::Range;
+
+use crate::counts::{wrong_counts, COUNT};
 use crate::cycle::lowest_on_cycle;
 use crate::fields::{all_zero, i32_at, put_i32, put_u16, u16_at};
 use crate::operators::{counts_fit, EMPTY, PLACES, PROJ};
-use crate::reply::{refuse_at, Refusal, GRAPH_CYCLE, GRAPH_NAME, GRAPH_RECORD};
+use crate::reply::{refuse_at, Refusal, GRAPH_COUNT, GRAPH_CYCLE, GRAPH_NAME, GRAPH_RECORD};
 
 /// "N slots, 1 to 512."
 pub const MAX_SLOTS: usize = 512;
@@ -18,7 +21,37 @@ pub const UNUSED: u16 = 65535;
 /// "output count, 1 to 4"
 pub const OUTPUT_PLACES: usize = 4;
 
-/// A block read as a graph. Outside this crate it is always a sound one.
+/// Where the version stands in the header, a 16-bit number.
+pub const VERSION: usize = 4;
+
+/// A version of the graph block. By request 5/13 the import takes the first one,
+/// and "other operations take version 2 only".
+#[derive(Clone, Copy, Debug, PartialEq, Eq)]
+pub enum Version {
+    One,
+    Two,
+}
+
+impl Version {
+    pub const fn number(self) -> u16 {
+        match self {
+            Version::One => 1,
+            Version::Two => 2,
+        }
+    }
+
+    /// The bytes of a record that hold nothing: document 01's "40-47 zero", of
+    /// which the count has taken two.
+    fn unused_bytes(self) -> Range<usize> {
+        match self {
+            Version::One => 40..RECORD,
+            Version::Two => 42..RECORD,
+        }
+    }
+}
+
+/// A block read as a graph. Outside this crate it is always a sound one, but for
+/// the counts where these were not asked for.
 #[derive(Clone, Copy)]
 pub struct Graph<'a> {
     bytes: &'a [u8],
@@ -31,17 +64,26 @@ pub struct Slot<'a> {
 }
 
 impl<'a> Graph<'a> {
-    /// The graph in these bytes, if they are a sound block. The kinds of
-    /// fault, in order: "length or header; a record against its kind; an
-    /// input or output that names no vertex; a cycle". "The first kind that
-    /// holds anywhere is given", with "the lowest slot [...] with that fault";
-    /// a graph output is "looked at after all inputs".
+    /// The graph in these bytes, if they are a sound block of version 2. "A wrong
+    /// count is 24, place the lowest such slot, after 23."
     pub fn parse(bytes: &'a [u8]) -> Result<Graph<'a>, Refusal> {
-        if !header_is_sound(bytes) {
+        let graph = Graph::parse_but_counts(bytes, Version::Two)?;
+        refuse_at(GRAPH_COUNT, wrong_counts(graph).next())?;
+        Ok(graph)
+    }
+
+    /// The graph in these bytes, if they are a sound block of this version,
+    /// whatever its counts. The kinds of fault, in order: "length or header; a
+    /// record against its kind; an input or output that names no vertex; a
+    /// cycle". "The first kind that holds anywhere is given", with "the lowest
+    /// slot [...] with that fault"; a graph output is "looked at after all
+    /// inputs".
+    pub fn parse_but_counts(bytes: &'a [u8], version: Version) -> Result<Graph<'a>, Refusal> {
+        if !header_is_sound(bytes, version) {
             return Err(Refusal::GRAPH_HEADER);
         }
         let graph = Graph::view(bytes);
-        refuse_at(GRAPH_RECORD, graph.slots().position(|slot| !slot.is_sound()))?;
+        refuse_at(GRAPH_RECORD, graph.slots().position(|slot| !slot.is_sound(version)))?;
         let misnamed = graph.slots().position(|slot| !graph.inputs_name_vertices(slot));
         refuse_at(GRAPH_NAME, misnamed)?;
         let misnamed = graph.outputs().position(|output| !graph.names_vertex(output));
@@ -100,14 +142,14 @@ impl<'a> Graph<'a> {
 /// "Header: bytes 0-2 `LGT`; 3 zero; 4-5 version 1; 6-7 N; 8-9 output count,
 /// 1 to 4; 10-17 four output numbers; 18-23 zero", and the length. Whether each
 /// part is right, for a block that has a header. "Unused output places count as
-/// header."
-pub(crate) fn header_parts(bytes: &[u8]) -> [bool; 8] {
+/// header." With the version that is taken, "any other version is 20".
+pub(crate) fn header_parts(bytes: &[u8], version: Version) -> [bool; 8] {
     let graph = Graph::view(bytes);
     let (slots, outputs) = (graph.slot_count(), graph.output_count());
     [
         bytes[..3] == *b"LGT",
         bytes[3] == 0,
-        u16_at(bytes, 4) == 1,
+        u16_at(bytes, VERSION) == version.number(),
         (1..=MAX_SLOTS).contains(&slots),
         (1..=OUTPUT_PLACES).contains(&outputs),
         (outputs..OUTPUT_PLACES).all(|place| u16_at(bytes, 10 + 2 * place) == UNUSED),
@@ -116,8 +158,8 @@ pub(crate) fn header_parts(bytes: &[u8]) -> [bool; 8] {
     ]
 }
 
-fn header_is_sound(bytes: &[u8]) -> bool {
-    bytes.len() >= HEADER && header_parts(bytes) == [true; 8]
+fn header_is_sound(bytes: &[u8], version: Version) -> bool {
+    bytes.len() >= HEADER && header_parts(bytes, version) == [true; 8]
 }
 
 impl<'a> Slot<'a> {
@@ -139,6 +181,17 @@ impl<'a> Slot<'a> {
 
     pub fn attribute_count(self) -> usize {
         usize::from(self.record[3])
+    }
+
+    /// The stored count, in version 2.
+    pub fn count(self) -> u16 {
+        u16_at(self.record, COUNT)
+    }
+
+    /// All of the record that tells what vertex is in the slot, and not how often
+    /// it is named.
+    pub fn vertex_bytes(self) -> &'a [u8] {
+        &self.record[..COUNT]
     }
 
     pub fn is_empty(self) -> bool {
@@ -168,14 +221,14 @@ impl<'a> Slot<'a> {
         [self.record[0], self.record[1], self.record[2], self.record[3]]
     }
 
-    /// The record against its kind: the table, unused places, "40-47 zero",
-    /// and a Proj's "index, at least 1".
-    pub(crate) fn is_sound(self) -> bool {
+    /// The record against its kind: the table, unused places and bytes, and a
+    /// Proj's "index, at least 1".
+    pub(crate) fn is_sound(self, version: Version) -> bool {
         let [kind, operator, inputs, attributes] = self.head();
         counts_fit(kind, operator, inputs, attributes)
             && (self.input_count()..PLACES).all(|place| self.input(place) == UNUSED)
             && (self.attribute_count()..PLACES).all(|place| self.attribute(place) == 0)
-            && all_zero(&self.record[40..48])
+            && all_zero(&self.record[version.unused_bytes()])
             && (kind != PROJ || self.attribute(0) >= 1)
     }
 }
@@ -191,12 +244,12 @@ pub(crate) fn record_mut(block: &mut [u8], slot: u16) -> &mut [u8] {
     &mut block[at..at + RECORD]
 }
 
-/// The record of an Empty slot: there is exactly one.
+/// The record of an Empty slot: there is exactly one, since nothing names it.
 pub(crate) fn write_empty(record: &mut [u8]) {
     write_record(record, [EMPTY, 0, 0, 0], &[], &[]);
 }
 
-/// A whole record, its unused places included.
+/// A whole record, its unused places included. Its count is 0.
 pub(crate) fn write_record(record: &mut [u8], head: [u8; 4], inputs: &[u16], attributes: &[i32]) {
     record.fill(0);
     record[..4].copy_from_slice(&head);

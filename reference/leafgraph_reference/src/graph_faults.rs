@@ -2,8 +2,9 @@
 //! tests and the comparison know what was tried. It is a second telling of
 //! "the first kind that holds anywhere is given", too.
 
-use crate::graph::{header_parts, Graph, HEADER, OUTPUT_PLACES, RECORD};
-use crate::reply::{Refusal, GRAPH_CYCLE, GRAPH_NAME, GRAPH_RECORD};
+use crate::graph::{header_parts, Graph, Version, HEADER, OUTPUT_PLACES, RECORD};
+use crate::operators::PLACES;
+use crate::reply::{Refusal, GRAPH_COUNT, GRAPH_CYCLE, GRAPH_NAME, GRAPH_RECORD};
 
 /// Larger graphs are not looked at: a set of slots is 64 bits.
 const MOST_SLOTS: usize = 64;
@@ -28,35 +29,61 @@ pub struct GraphFaults {
     pub reading_from_cycles: Vec<usize>,
     /// Slots on no cycle that a cycle reads from.
     pub read_by_cycles: Vec<usize>,
+    /// Slots whose count is wrong, whatever the bad records read. Version 1 has no
+    /// counts.
+    pub counts: Vec<usize>,
 }
 
 impl GraphFaults {
-    /// None for a block that is not looked at.
+    /// Of a block that is to be one of version 2. None for a block that is not
+    /// looked at.
     pub fn of(bytes: &[u8]) -> Option<GraphFaults> {
+        GraphFaults::of_version(bytes, Version::Two)
+    }
+
+    /// The same of a block that is to be one of this version.
+    pub fn of_version(bytes: &[u8], version: Version) -> Option<GraphFaults> {
         if bytes.len() > HEADER + RECORD * MOST_SLOTS {
             return None;
         }
         let mut faults = GraphFaults::default();
         if bytes.len() < HEADER {
-            faults.header = vec![header_parts(&[0; HEADER]).len() - 1];
+            faults.header = vec![header_parts(&[0; HEADER], version).len() - 1];
             return Some(faults);
         }
-        faults.header = unsound(header_parts(bytes));
+        faults.header = unsound(header_parts(bytes, version));
         if is_readable(bytes) {
-            faults.list(Graph::view(bytes));
+            faults.list(Graph::view(bytes), version);
         }
         Some(faults)
     }
 
-    fn list(&mut self, graph: Graph) {
+    fn list(&mut self, graph: Graph, version: Version) {
         let slots = 0..graph.slot_count();
         let (sound, bad): (Vec<usize>, Vec<usize>) =
-            slots.partition(|&slot| graph.slot(slot).is_sound());
+            slots.partition(|&slot| graph.slot(slot).is_sound(version));
         let misnames = |&slot: &usize| !graph.inputs_name_vertices(graph.slot(slot));
         self.records = bad;
         self.inputs = sound.iter().copied().filter(misnames).collect();
         self.outputs = unsound(graph.outputs().map(|output| graph.names_vertex(output)));
         self.list_cycles(&reached_sets(graph, &sound));
+        if version == Version::Two {
+            self.list_counts(graph, &sound);
+        }
+    }
+
+    /// A slot with a bad record has no inputs that count, or up to six that name
+    /// one slot.
+    fn list_counts(&mut self, graph: Graph, sound: &[usize]) {
+        let outputs = graph.outputs().map(usize::from);
+        let inputs = sound.iter().flat_map(|&slot| graph.slot(slot).inputs().map(usize::from));
+        let named: Vec<usize> = inputs.chain(outputs).collect();
+        let unknown = PLACES * self.records.len();
+        let is_wrong = |&slot: &usize| {
+            let least = named.iter().filter(|&&other| other == slot).count();
+            !(least..=least + unknown).contains(&graph.slot(slot).count().into())
+        };
+        self.counts = (0..graph.slot_count()).filter(is_wrong).collect();
     }
 
     fn list_cycles(&mut self, reached: &[u64]) {
@@ -88,6 +115,7 @@ impl GraphFaults {
             (GRAPH_NAME, &self.inputs),
             (GRAPH_NAME, &self.outputs),
             (GRAPH_CYCLE, &cycles),
+            (GRAPH_COUNT, &self.counts),
         ];
         let (number, places) = kinds.into_iter().find(|(_, places)| !places.is_empty())?;
         let place = *places.iter().min()? as u32;

@@ -1,12 +1,12 @@
-//! The second program of leafgraph: document 01, with requests 1/13, 2/13 and
-//! 4/13 of document 02, in plain Rust.
+//! The second program of leafgraph: document 01, with requests 1/13, 2/13, 4/13
+//! and 5/13 of document 02, in plain Rust.
 //!
 //! It is written from these papers alone, not from the proved library, so that
 //! an error of reading in one of the two shows up as a difference between
 //! them. Sentences in quotation marks are document 01's or a request's.
 //!
-//! "Four operations: check a graph, check a rule, find a match, rewrite", and
-//! request 4/13's sweep and squeeze.
+//! "Four operations: check a graph, check a rule, find a match, rewrite",
+//! request 4/13's sweep and squeeze, and request 5/13's import.
 //! Each answers any bytes of any length. The reply holds its number in bits 0
 //! to 7 and its place in bits 8 to 39; the other bits are 0 for now.
 #![forbid(unsafe_code)]
@@ -14,11 +14,13 @@
 pub mod attributes;
 pub mod blocks;
 pub mod cleanup;
+pub mod counts;
 mod cycle;
 mod fields;
 pub mod generate;
 pub mod graph;
 pub mod graph_faults;
+mod import;
 pub mod matching;
 pub mod meaning;
 pub mod operators;
@@ -40,8 +42,8 @@ use rule::Rule;
 /// "map buffer isn't 32 bytes": the only length of a map that is taken.
 pub const MAP_LENGTH: usize = 32;
 
-/// "Checking a graph gives 0 or 2", and "20 to 23 replace 2"; "the checks write
-/// nothing".
+/// "Checking a graph gives 0 or 2", and "20 to 23 replace 2"; "a wrong count is
+/// 24"; "the checks write nothing".
 pub fn check_graph(graph: &[u8]) -> u64 {
     reply_of(Graph::parse(graph).map(|_| ()))
 }
@@ -74,6 +76,12 @@ pub fn sweep(graph: &mut [u8]) -> u64 {
 /// "Refusals: bad graph as before, then 40 when the list is not 2N bytes."
 pub fn squeeze(graph: &mut [u8], moves: &mut [u8]) -> u64 {
     reply_of(try_squeeze(graph, moves))
+}
+
+/// "An import turns a sound version 1 block into version 2." "Refusals: any other
+/// version is 20."
+pub fn import(graph: &mut [u8]) -> u64 {
+    reply_of(import::import(graph))
 }
 
 fn try_find_match(graph: &[u8], rule: &[u8], start: usize, map: &mut [u8]) -> Result<(), Refusal> {

@@ -4,7 +4,7 @@ use std::ops::Range;
 
 use crate::attributes::{agrees, results};
 use crate::fields::{put_u16, u16_at};
-use crate::graph::{Graph, MAX_SLOTS, UNUSED};
+use crate::graph::{Graph, UNUSED};
 use crate::operators::CONST;
 use crate::rule::{Rule, MAX_VERTICES};
 
@@ -15,9 +15,6 @@ pub type Images = [u16; MAX_VERTICES];
 struct Search<'a> {
     graph: Graph<'a>,
     rule: Rule<'a>,
-    /// How many input places and graph outputs name each slot. Counted once
-    /// per call, so that no candidate looks over all slots again.
-    reads: [u16; MAX_SLOTS],
     /// For a source vertex whose image must not be named from outside, how
     /// many input places of the source name it; `None` for rule inputs, source
     /// outputs and Consts.
@@ -28,8 +25,7 @@ struct Search<'a> {
 /// image is at least s and least, then whose second is least. s at or above N
 /// finds none."
 pub fn least_match(graph: Graph, rule: Rule, start: usize) -> Option<Images> {
-    let search =
-        Search { graph, rule, reads: count_reads(graph), inner_reads: count_inner_reads(rule) };
+    let search = Search { graph, rule, inner_reads: count_inner_reads(rule) };
     // Vertices stand in visiting order: those up to the first output are what
     // it reaches from, the rest belong to the second output alone.
     let first_output = usize::from(rule.source_output(0));
@@ -58,15 +54,6 @@ pub fn write_map(map: &mut [u8], images: &Images) {
 /// The images that a whole map holds.
 pub fn read_map(map: &[u8]) -> Images {
     std::array::from_fn(|vertex| u16_at(map, 2 * vertex))
-}
-
-fn count_reads(graph: Graph) -> [u16; MAX_SLOTS] {
-    let mut reads = [0; MAX_SLOTS];
-    let inputs = graph.slots().flat_map(|slot| slot.inputs());
-    for named in inputs.chain(graph.outputs()) {
-        reads[usize::from(named)] += 1;
-    }
-    reads
 }
 
 /// Rule inputs have no inputs of their own, so every input place of the
@@ -135,15 +122,15 @@ impl Search<'_> {
     /// operator and counts"; "no interior image [...] is a graph output or is
     /// read by anything but the image of a non-input source vertex". In a
     /// whole match the reads from inside are exactly the source's own input
-    /// places, so there are others exactly when the slot has more reads.
+    /// places, so there are others exactly when the slot's count is another one.
     fn suits(&self, vertex: usize, image: u16) -> bool {
         let slot = self.graph.slot(usize::from(image));
         let pattern = self.rule.source(vertex);
         if pattern.is_wildcard() {
             return !slot.is_empty();
         }
-        let reads = self.reads[usize::from(image)];
-        slot.head() == pattern.head() && self.inner_reads[vertex].is_none_or(|inner| inner == reads)
+        let reads = self.inner_reads[vertex];
+        slot.head() == pattern.head() && reads.is_none_or(|reads| reads == slot.count())
     }
 
     /// "whose attributes agree"

@@ -1,6 +1,6 @@
 //! "Inside, a reply is one of two cases, done or a refusal with its number
 //! and place record". Request 2/13 tells the kinds of fault apart, "20 to 23
-//! replace 2 and 30 to 34 replace 3", and gives the place.
+//! replace 2 and 30 to 34 replace 3", and gives the place; request 5/13 adds 24.
 
 /// A graph's "record against its kind", with its slot.
 pub const GRAPH_RECORD: u8 = 21;
@@ -9,6 +9,8 @@ pub const GRAPH_RECORD: u8 = 21;
 pub const GRAPH_NAME: u8 = 22;
 /// "a cycle", with a slot on it.
 pub const GRAPH_CYCLE: u8 = 23;
+/// "a wrong count", with its slot.
+pub const GRAPH_COUNT: u8 = 24;
 /// A rule's "record, with its input places", with its vertex.
 pub const RULE_RECORD: u8 = 31;
 /// "visiting order", with "the first vertex that differs from the traversal".

@@ -1,6 +1,7 @@
 //! "What a rewriting leaves".
 
 use crate::attributes::results;
+use crate::counts::write_true_counts;
 use crate::cycle::has_cycle;
 use crate::fields::put_u16;
 use crate::graph::{record_mut, write_empty, write_record, Graph, HEADER, MAX_SLOTS, RECORD};
@@ -33,6 +34,7 @@ pub fn write_new_table(
     if has_cycle(Graph::view(new)) {
         return Err(Refusal::CYCLE);
     }
+    write_true_counts(new);
     Ok(())
 }
 

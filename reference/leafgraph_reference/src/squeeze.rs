@@ -42,7 +42,8 @@ pub fn write_new_table(new: &mut [u8], old: Graph, numbers: &Numbers) {
     records.for_each(write_empty);
 }
 
-/// A vertex in its new slot: its inputs are renamed, all else is as it was.
+/// A vertex in its new slot: its inputs are renamed, all else is as it was. Its
+/// count, too: as many places name it as before, by its new number.
 fn write_moved(record: &mut [u8], vertex: Slot, numbers: &Numbers) {
     record.copy_from_slice(vertex.record());
     for (place, input) in vertex.inputs().enumerate() {

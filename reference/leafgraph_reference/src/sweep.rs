@@ -2,6 +2,7 @@
 
 use std::mem::replace;
 
+use crate::counts::write_true_counts;
 use crate::graph::{record_mut, write_empty, Graph, MAX_SLOTS};
 use crate::operators::VARIABLE;
 
@@ -38,9 +39,10 @@ pub fn dead_slots(graph: Graph) -> Slots {
     dead
 }
 
-/// Makes these slots Empty.
+/// Makes these slots Empty. What they read is named less often then.
 pub fn remove(block: &mut [u8], dead: &Slots) {
     for slot in (0..MAX_SLOTS).filter(|&slot| dead[slot]) {
         write_empty(record_mut(block, slot as u16));
     }
+    write_true_counts(block);
 }

@@ -6,16 +6,29 @@ mod common;
 use common::refused;
 use leafgraph_reference::blocks::*;
 use leafgraph_reference::check_graph;
+use leafgraph_reference::counts::write_true_counts;
 use leafgraph_reference::operators::OPERATORS;
 
 fn slot_at(slot: usize, offset: usize) -> usize {
     24 + 48 * slot + offset
 }
 
-/// The reply to E1 with these bytes from this place on.
-fn with(at: usize, bytes: &[u8]) -> u64 {
+/// E1 with these bytes from this place on.
+fn edited(at: usize, bytes: &[u8]) -> Vec<u8> {
     let mut block = e1().block();
     block[at..at + bytes.len()].copy_from_slice(bytes);
+    block
+}
+
+/// The reply to that.
+fn with(at: usize, bytes: &[u8]) -> u64 {
+    check_graph(&edited(at, bytes))
+}
+
+/// The same, with counts that are true again.
+fn with_true_counts(at: usize, bytes: &[u8]) -> u64 {
+    let mut block = edited(at, bytes);
+    write_true_counts(&mut block);
     check_graph(&block)
 }
 
@@ -31,7 +44,7 @@ fn header_fields() {
         assert_eq!(with(10 + 2 * place, &[4, 0]), 20, "an unused output place used");
     }
     assert_eq!(with(8, &[2, 0]), refused(22, 1), "a used output place unused");
-    assert_eq!(with(8, &[4, 0, 4, 0, 4, 0, 3, 0, 0, 0]), 0, "four outputs");
+    assert_eq!(with_true_counts(8, &[4, 0, 4, 0, 4, 0, 3, 0, 0, 0]), 0, "four outputs");
 }
 
 #[test]
@@ -47,7 +60,7 @@ fn lengths() {
 #[test]
 fn record_fields() {
     for slot in 0..6 {
-        for offset in 40..48 {
+        for offset in 42..48 {
             assert_eq!(with(slot_at(slot, offset), &[1]), refused(21, slot));
         }
         assert_eq!(with(slot_at(slot, 0), &[6]), refused(21, slot));
@@ -63,7 +76,8 @@ fn record_fields() {
 #[test]
 fn names() {
     for number in [0, 2] {
-        assert_eq!(with(slot_at(3, 4), &u16::to_le_bytes(number)), 0, "slot 3 reads {number}");
+        let bytes = u16::to_le_bytes(number);
+        assert_eq!(with_true_counts(slot_at(3, 4), &bytes), 0, "slot 3 reads {number}");
     }
     for number in [5, 6, 258, 65535] {
         let bytes = u16::to_le_bytes(number);
@@ -173,7 +187,7 @@ fn the_lowest_of_several_cycles() {
 #[test]
 fn the_lowest_slot_of_several() {
     let mut block = e1().block();
-    block[slot_at(4, 40)] = 1;
+    block[slot_at(4, 42)] = 1;
     assert_eq!(check_graph(&block), refused(21, 4));
     block[slot_at(1, 47)] = 1;
     assert_eq!(check_graph(&block), refused(21, 1));
@@ -215,5 +229,7 @@ fn kinds_come_in_order() {
     block[10] = 1;
     assert_eq!(check_graph(&block), refused(23, 2));
     block[slot_at(2, 4)] = 1;
+    assert_eq!(check_graph(&block), refused(24, 0));
+    write_true_counts(&mut block);
     assert_eq!(check_graph(&block), 0);
 }

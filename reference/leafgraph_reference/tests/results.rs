@@ -5,6 +5,7 @@ mod common;
 use common::run_rewrite;
 use leafgraph_reference::blocks::*;
 use leafgraph_reference::check_graph;
+use leafgraph_reference::counts::write_true_counts;
 use leafgraph_reference::generate::{lawful_rules, matching_case, rewriting_case};
 use leafgraph_reference::generate::{same_meaning_case, sound_graph_of, Case};
 use leafgraph_reference::graph::Graph;
@@ -120,6 +121,7 @@ fn wrong_tables_are_noticed() {
             continue;
         };
         misname_input(&mut random, &mut new);
+        write_true_counts(&mut new);
         if check_graph(&new) != 0 {
             continue;
         }

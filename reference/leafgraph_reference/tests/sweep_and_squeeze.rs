@@ -140,13 +140,16 @@ fn the_last_slot_of_the_largest_graph_moves() {
 fn refusals_in_their_order() {
     let cycle = GraphParts::new(vec![variable(), relu(1)], &[0]).block();
     let mut record = e1().block();
-    record[24 + 48 * 3 + 40] = 1;
+    record[24 + 48 * 3 + 42] = 1;
+    let mut count = e1().block();
+    count[24 + 48 * 3 + 40] = 2;
     let name = GraphParts::new(vec![variable(), empty(), relu(0)], &[2, 1]).block();
     let bad = [
         (e1().block()[1..].to_vec(), 20),
         (record, refused(21, 3)),
         (name, refused(22, 1)),
         (cycle, refused(23, 1)),
+        (count, refused(24, 3)),
     ];
     for (graph, reply) in &bad {
         let mut table = graph.clone();
