@@ -2,11 +2,12 @@
 
 use leafgraph_reference::blocks::*;
 use leafgraph_reference::generate::*;
+use leafgraph_reference::graph::Version;
 use leafgraph_reference::graph_faults::GraphFaults;
 use leafgraph_reference::random::Random;
 use leafgraph_reference::reply::reply_of;
 use leafgraph_reference::rule_faults::RuleFaults;
-use leafgraph_reference::{check_graph, check_rule};
+use leafgraph_reference::{check_graph, check_rule, import};
 
 #[test]
 fn cycles_and_what_is_beside_them() {
@@ -63,6 +64,36 @@ fn graphs_are_refused_with_the_first_fault() {
             }
         }
     }
+}
+
+#[test]
+fn imports_are_refused_with_the_first_fault() {
+    let mut random = Random::new(20);
+    for _ in 0..10_000 {
+        for mut block in
+            [damaged_version_1_graph(&mut random), noise_with_version_1_header(&mut random)]
+        {
+            if let Some(faults) = GraphFaults::of_version(&block, Version::One) {
+                let reply = reply_of(faults.first().map_or(Ok(()), Err));
+                assert_eq!(import(&mut block), reply, "{faults:?}, {block:?}");
+            }
+        }
+    }
+}
+
+/// Wrong counts are listed whatever else is wrong, but not those that a bad record
+/// could make true.
+#[test]
+fn counts_beside_other_faults() {
+    let slots = vec![variable(), add(0, 0), relu(1), add(2, 9), relu(4), relu(0)];
+    let mut block = GraphParts::new(slots, &[2, 0]).block();
+    let listed = |block: &[u8]| GraphFaults::of(block).expect("a small graph").counts;
+    assert_eq!(listed(&block), [0; 0]);
+    block[24 + 48 * 4 + 40] = 2;
+    block[24 + 48 * 2 + 41] = 1;
+    assert_eq!(listed(&block), [2, 4]);
+    block[24 + 48 * 5 + 47] = 1;
+    assert_eq!(listed(&block), [2], "slot 5 may read slot 4, too");
 }
 
 #[test]

@@ -11,7 +11,7 @@ use leafgraph_reference::random::Random;
 use leafgraph_reference::removal::removed_slots;
 use leafgraph_reference::reply::number_of;
 use leafgraph_reference::rule::Rule;
-use leafgraph_reference::{check_graph, check_rule, find_match, rewrite};
+use leafgraph_reference::{check_graph, check_rule, find_match, import, rewrite};
 
 #[test]
 fn sound_graphs_are_accepted() {
@@ -69,6 +69,19 @@ fn damage_is_of_every_kind() {
     let numbers = [0, 20, 21, 22, 23, 24, 30, 31, 32, 33, 34];
     assert!(counts.keys().copied().eq(numbers), "{counts:?}");
     assert!((100..4000).contains(&counts[&0]), "{counts:?}");
+    assert!(counts.values().all(|&count| count > 100), "{counts:?}");
+}
+
+/// The same of version 1, which has no counts.
+#[test]
+fn damage_to_version_1_is_of_every_kind() {
+    let mut random = Random::new(21);
+    let mut counts: BTreeMap<u8, usize> = BTreeMap::new();
+    for _ in 0..5000 {
+        let reply = import(&mut damaged_version_1_graph(&mut random));
+        *counts.entry(number_of(reply)).or_default() += 1;
+    }
+    assert!(counts.keys().copied().eq([0, 20, 21, 22, 23]), "{counts:?}");
     assert!(counts.values().all(|&count| count > 100), "{counts:?}");
 }
 

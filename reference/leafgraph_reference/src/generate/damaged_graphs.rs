@@ -2,35 +2,108 @@
 //! chance: the two programs must agree then too.
 
 use crate::blocks::{call, empty, GraphParts, Vertex};
-use crate::graph::{Graph, HEADER, MAX_SLOTS, RECORD};
+use crate::counts::{write_counts, write_true_counts};
+use crate::fields::put_u16;
+use crate::graph::{Graph, HEADER, MAX_SLOTS, RECORD, VERSION};
 use crate::operators::{PROJ, RELU};
 use crate::random::Random;
 
 use super::damages::damages;
 use super::graphs::{sound_graph, sound_graph_of, vertex_over};
+use super::wrong_counts::wrong_counts;
 
 /// Sorts of damage to the parts and to the bytes.
 const PART_SORTS: usize = 10;
 const BYTE_SORTS: usize = 12;
 
+/// In so many of a hundred graphs with other damage the counts are wrong, too.
+const COUNTS_TOO: usize = 12;
+/// In so many of them the counts are those from before the damage to the bytes.
+const OLD_COUNTS: usize = 25;
+/// In so many of them the version is another one, too.
+const VERSION_TOO: usize = 4;
+
 /// A sound graph's block after one damage or a few.
 pub fn damaged_graph(random: &mut Random) -> Vec<u8> {
-    if random.below(200) == 0 {
-        return sound_graph_of(random, MAX_SLOTS + 1).block();
-    }
-    let parts = sound_graph(random);
+    let parts = parts_to_damage(random);
     damaged_graph_of(random, parts)
 }
 
-/// This graph's block after one damage or a few.
+/// Seldom with one slot too many.
+fn parts_to_damage(random: &mut Random) -> GraphParts {
+    match random.below(200) {
+        0 => sound_graph_of(random, MAX_SLOTS + 1),
+        _ => sound_graph(random),
+    }
+}
+
+/// This graph's block after one damage or a few. It may be a sound one of version
+/// 1, or one with another version or wrong counts and no other damage.
 pub fn damaged_graph_of(random: &mut Random, mut parts: GraphParts) -> Vec<u8> {
+    let mut block = parts.block();
+    match random.below(100) {
+        0 | 1 => block = parts.version_1_block(),
+        2..=5 => change_version(random, &mut block),
+        6..=20 => write_counts(&mut block, &wrong_counts(random, &parts)),
+        _ => {
+            block = damaged_but_counts(random, &mut parts, GraphParts::block);
+            damage_counts(random, &parts, &mut block);
+        }
+    }
+    block
+}
+
+/// Counts that are true in spite of the damage, or else wrong, and seldom another
+/// version.
+fn damage_counts(random: &mut Random, parts: &GraphParts, block: &mut [u8]) {
+    if block.len() < HEADER {
+        return;
+    }
+    if !random.chance(OLD_COUNTS) {
+        write_true_counts(block);
+    }
+    if random.chance(COUNTS_TOO) {
+        write_counts(block, &wrong_counts(random, parts));
+    }
+    if random.chance(VERSION_TOO) {
+        change_version(random, block);
+    }
+}
+
+/// A sound graph's block of version 1 after one damage or a few. It may be a sound
+/// one of version 2, or one with another version or with true counts in it and no
+/// other damage.
+pub fn damaged_version_1_graph(random: &mut Random) -> Vec<u8> {
+    let mut parts = parts_to_damage(random);
+    let mut block = parts.version_1_block();
+    match random.below(100) {
+        0 | 1 => block = parts.block(),
+        2..=5 => change_version(random, &mut block),
+        6..=8 => write_true_counts(&mut block),
+        _ => block = damaged_but_counts(random, &mut parts, GraphParts::version_1_block),
+    }
+    block
+}
+
+/// A version that may differ in some bits only from one that is taken.
+fn change_version(random: &mut Random, block: &mut [u8]) {
+    let version = random.pick(&[0, 1, 2, 3, 256, 257, 258, 512, 65535]);
+    put_u16(block, VERSION, version);
+}
+
+/// Damage to the parts, to the bytes of the block that is made of them, or to both.
+fn damaged_but_counts(
+    random: &mut Random,
+    parts: &mut GraphParts,
+    block_of: fn(&GraphParts) -> Vec<u8>,
+) -> Vec<u8> {
     let in_parts = random.chance(50);
     if in_parts {
         for sort in damages(random, PART_SORTS) {
-            damage_parts(random, &mut parts, sort);
+            damage_parts(random, parts, sort);
         }
     }
-    let mut block = parts.block();
+    let mut block = block_of(parts);
     if !in_parts || random.chance(15) {
         for sort in damages(random, BYTE_SORTS) {
             damage_bytes(random, &mut block, sort);

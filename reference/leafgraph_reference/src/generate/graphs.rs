@@ -6,13 +6,30 @@ use crate::graph::MAX_SLOTS;
 use crate::operators::{operator_of, ADD, CONST, OPERATORS, PLACES, RELU, VARIABLE};
 use crate::random::Random;
 
+use super::tables::{add_output, crowd, renumber};
+
 /// A sound graph, mostly small, sometimes as large as they come.
 pub fn sound_graph(random: &mut Random) -> GraphParts {
-    if random.chance(4) {
-        return long_chain(random);
+    match random.below(100) {
+        0..=3 => long_chain(random),
+        4 | 5 => crowded_graph(random),
+        _ => {
+            let slots = slot_count(random);
+            sound_graph_of(random, slots)
+        }
     }
-    let slots = slot_count(random);
-    sound_graph_of(random, slots)
+}
+
+/// A graph with a vertex that is named more than 255 times.
+fn crowded_graph(random: &mut Random) -> GraphParts {
+    let slots = random.within(1, 30);
+    let mut graph = sound_graph_of(random, slots);
+    let named = random.pick(&graph.outputs);
+    crowd(random, &mut graph, named);
+    let last = graph.slots.len() as u16 - 1;
+    add_output(random, &mut graph, last);
+    renumber(random, &mut graph, &mut []);
+    graph
 }
 
 fn slot_count(random: &mut Random) -> usize {

@@ -19,13 +19,16 @@ mod searches;
 mod sequences;
 mod tables;
 mod targets;
+mod wrong_counts;
 
 pub use cuts::{matching_case, same_meaning_case, Case};
-pub use damaged_graphs::{damaged_graph, damaged_graph_of};
+pub use damaged_graphs::{damaged_graph, damaged_graph_of, damaged_version_1_graph};
 pub use damaged_rules::{damaged_rule, damaged_rule_of};
 pub use graphs::{sound_graph, sound_graph_of};
 pub use lawful::lawful_rules;
-pub use noise::{noise, noise_with_graph_header, noise_with_rule_header};
+pub use noise::{
+    noise, noise_with_graph_header, noise_with_rule_header, noise_with_version_1_header,
+};
 pub use rewritings::rewriting_case;
 pub use rules::sound_rule;
 pub use searches::search_case;

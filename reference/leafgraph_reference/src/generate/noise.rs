@@ -1,6 +1,7 @@
 //! Blocks that are no blocks at all, or only in their header.
 
-use crate::graph;
+use crate::counts::write_true_counts;
+use crate::graph::{self, Version};
 use crate::random::Random;
 use crate::rule;
 
@@ -16,21 +17,38 @@ pub fn noise(random: &mut Random) -> Vec<u8> {
         _ => random.below(3000),
     };
     let mut bytes = random.bytes(length);
-    let start = random.pick(&[&b""[..], b"LGT", b"LGR", b"LGT\0\x01\0", b"LGR\0\x01\0"]);
+    let headers = [&b"LGT\0\x01\0"[..], b"LGT\0\x02\0", b"LGR\0\x01\0"];
+    let header = random.pick(&headers);
+    let start = random.pick(&[&b""[..], b"LGT", b"LGR", header, header]);
     if start.len() <= bytes.len() {
         bytes[..start.len()].copy_from_slice(start);
     }
     bytes
 }
 
-/// A sound graph header and length, and anything in the records.
+/// A sound graph header and length, and anything in the records; their counts are
+/// true half of the time.
 pub fn noise_with_graph_header(random: &mut Random) -> Vec<u8> {
+    let mut bytes = graph_header_and_records(random, Version::Two);
+    if random.chance(50) {
+        write_true_counts(&mut bytes);
+    }
+    bytes
+}
+
+/// The same in version 1.
+pub fn noise_with_version_1_header(random: &mut Random) -> Vec<u8> {
+    graph_header_and_records(random, Version::One)
+}
+
+fn graph_header_and_records(random: &mut Random, version: Version) -> Vec<u8> {
     let slots = match random.chance(80) {
         true => random.within(1, 6),
         false => random.within(1, 512),
     };
     let outputs = random.within(1, 4);
-    let mut bytes = b"LGT\0\x01\0".to_vec();
+    let mut bytes = b"LGT\0".to_vec();
+    bytes.extend(version.number().to_le_bytes());
     bytes.extend((slots as u16).to_le_bytes());
     bytes.extend((outputs as u16).to_le_bytes());
     for place in 0..4 {

@@ -3,7 +3,7 @@
 
 use crate::blocks::{empty, GraphParts, RuleParts};
 use crate::graph::{Graph, MAX_SLOTS, UNUSED};
-use crate::operators::EMPTY;
+use crate::operators::{CONST, EMPTY};
 use crate::random::Random;
 use crate::removal::removed_slots;
 use crate::rule::{Rule, MAX_VERTICES};
@@ -15,7 +15,7 @@ use super::insertion::{insert_match, SourceSide};
 use super::lawful::lawful_rules;
 use super::rules::{is_input_kind, rule_with_random_target};
 use super::searches::{base_graph, change_scene, cut_scene, inserted_scene, start, Scene};
-use super::tables::{add_output, add_vertex, empty_slots, read_instead, reader, renumber};
+use super::tables::{add_output, add_vertex, crowd, empty_slots, read_instead, reader, renumber};
 use super::targets::{rule_with_copied_target, rule_with_fitting_target, Merging};
 
 /// A case for rewriting, and how its rule was made.
@@ -93,6 +93,9 @@ impl Matched {
     fn finished(mut self, random: &mut Random) -> Case {
         share_constants(random, &mut self.graph, &self.rule.source, &self.images);
         self.add_readers(random);
+        if random.chance(1) {
+            self.add_crowd(random);
+        }
         self.add_outputs(random);
         self.set_room(random);
         if random.chance(60) {
@@ -133,6 +136,18 @@ impl Matched {
                 }
             }
         }
+    }
+
+    /// Very many readers of an image that may have others.
+    fn add_crowd(&mut self, random: &mut Random) {
+        let is_output = |vertex: usize| self.rule.source_outputs.contains(&(vertex as u8));
+        let is_free = |vertex: &usize| {
+            let kind = self.rule.source[*vertex].kind;
+            is_input_kind(kind) || kind == CONST || is_output(*vertex)
+        };
+        let free: Vec<usize> = (0..self.images.len()).filter(is_free).collect();
+        let read = self.images[random.pick(&free)];
+        crowd(random, &mut self.graph, read);
     }
 
     /// Some vertex outside the match, or the image of a rule input.

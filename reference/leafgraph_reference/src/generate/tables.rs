@@ -3,7 +3,7 @@
 
 use crate::blocks::{add, call, projection, relu, tuple, GraphParts, Vertex};
 use crate::graph::{MAX_SLOTS, OUTPUT_PLACES};
-use crate::operators::{EMPTY, MEAN};
+use crate::operators::{EMPTY, MEAN, PLACES};
 use crate::random::Random;
 
 pub(super) fn empty_slots(graph: &GraphParts) -> Vec<usize> {
@@ -41,6 +41,14 @@ pub(super) fn reader(random: &mut Random, read: u16, other: u16) -> Vertex {
         4 => call(MEAN, &[read], &[2]),
         _ => relu(read),
     }
+}
+
+/// New readers of this slot with all their places, so many that its count takes
+/// two bytes, as far as there is room for them.
+pub(super) fn crowd(random: &mut Random, graph: &mut GraphParts, slot: u16) {
+    let room = MAX_SLOTS - graph.slots.len();
+    let readers = random.within(43, 60).min(room);
+    graph.slots.extend(vec![tuple(&[slot; PLACES]); readers]);
 }
 
 /// One place of the reader, where it has any, names this slot now, unless
