@@ -25,6 +25,7 @@ pub mod matching;
 pub mod meaning;
 pub mod operators;
 pub mod random;
+pub mod recount;
 pub mod removal;
 pub mod reply;
 pub mod results;

@@ -10,6 +10,7 @@ use leafgraph_reference::generate::{sequence, sound_graph};
 use leafgraph_reference::graph::Graph;
 use leafgraph_reference::operators::ADD;
 use leafgraph_reference::random::Random;
+use leafgraph_reference::recount::{count_faults, import_faults, FALSE_COUNT, OTHER_BYTES};
 use leafgraph_reference::{check_graph, find_match, import, rewrite, squeeze, sweep};
 
 /// The counts that a block stores.
@@ -281,6 +282,20 @@ fn counts_stay_true_in_sequences() {
         }
     }
     assert!(done.iter().all(|&count| count > 300), "{done:?}");
+}
+
+/// Each wrong import, and wrong counts, are told by their own fault.
+#[test]
+fn wrong_imports_are_noticed() {
+    let (old, new) = (e1().version_1_block(), e1().block());
+    assert_eq!(import_faults(&old, &new), [""; 0]);
+    assert_eq!(count_faults(&new), [""; 0]);
+    let wrong = with_counts(&e1(), &[1, 1, 1, 1, 1, 1]);
+    assert_eq!(import_faults(&old, &wrong), [FALSE_COUNT]);
+    assert_eq!(import_faults(&old, &old), [FALSE_COUNT], "the version");
+    let mut other = new.clone();
+    other[24 + 16] = 2;
+    assert_eq!(import_faults(&old, &other), [OTHER_BYTES]);
 }
 
 /// For each slot, how many of all places hold its number.
