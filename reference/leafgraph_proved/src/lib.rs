@@ -26,6 +26,7 @@ extern "C" {
     ) -> u64;
     fn lg_sweep(graph: *mut u8, graph_len: usize) -> u64;
     fn lg_squeeze(graph: *mut u8, graph_len: usize, moves: *mut u8, moves_len: usize) -> u64;
+    fn lg_import(graph: *mut u8, graph_len: usize) -> u64;
 }
 
 pub fn check_graph(graph: &[u8]) -> u64 {
@@ -83,4 +84,9 @@ pub fn squeeze(graph: &mut [u8], moves: &mut [u8]) -> u64 {
     // SAFETY: as above; and the two do not overlap, since each is borrowed for
     // this call alone.
     unsafe { lg_squeeze(graph.as_mut_ptr(), graph.len(), moves.as_mut_ptr(), moves.len()) }
+}
+
+pub fn import(graph: &mut [u8]) -> u64 {
+    // SAFETY: as for the sweep.
+    unsafe { lg_import(graph.as_mut_ptr(), graph.len()) }
 }
