@@ -1,4 +1,4 @@
-//! The two checks on random blocks.
+//! The two checks, and the import, on random blocks.
 
 use leafgraph_proved::guarded::{Guarded, SHIFTS};
 use leafgraph_reference::generate::{
@@ -8,7 +8,7 @@ use leafgraph_reference::generate::{
 use leafgraph_reference::random::Random;
 
 use crate::tally::{Call, Class, Tally, CHANGED};
-use crate::{graph_fault_classes, rule_fault_classes};
+use crate::{graph_fault_classes, imports, rule_fault_classes};
 
 /// One of the checks in both programs, with the blocks to try it on.
 struct Check {
@@ -16,7 +16,7 @@ struct Check {
     /// The numbers that must be replied.
     numbers: &'static [u8],
     /// The classes of refused blocks.
-    names: &'static [&'static str],
+    names: fn() -> Vec<&'static str>,
     classes: fn(&[u8], u64) -> Vec<Class>,
     proved: fn(&[u8]) -> u64,
     reference: fn(&[u8]) -> u64,
@@ -27,8 +27,8 @@ struct Check {
 
 const GRAPH: Check = Check {
     name: "check graph",
-    numbers: &[0, 20, 21, 22, 23],
-    names: &graph_fault_classes::CLASSES,
+    numbers: &[0, 20, 21, 22, 23, 24],
+    names: graph_fault_classes::all_classes,
     classes: graph_fault_classes::classes,
     proved: leafgraph_proved::check_graph,
     reference: leafgraph_reference::check_graph,
@@ -40,7 +40,7 @@ const GRAPH: Check = Check {
 const RULE: Check = Check {
     name: "check rule",
     numbers: &[0, 30, 31, 32, 33, 34],
-    names: &rule_fault_classes::CLASSES,
+    names: || rule_fault_classes::CLASSES.to_vec(),
     classes: rule_fault_classes::classes,
     proved: leafgraph_proved::check_rule,
     reference: leafgraph_reference::check_rule,
@@ -49,15 +49,21 @@ const RULE: Check = Check {
     damaged: damaged_rule,
 };
 
-/// So many calls, half of them to each check.
+/// So many calls: of five, two to each check and one to the import.
 pub fn run(random: &mut Random, calls: u64) -> Vec<Tally> {
+    let mut import = imports::tally();
     let mut tallies =
-        [GRAPH, RULE].map(|check| (Tally::new(check.name, check.numbers, check.names), check));
+        [GRAPH, RULE].map(|check| (Tally::new(check.name, check.numbers, &(check.names)()), check));
     for call in 0..calls {
-        let (tally, check) = &mut tallies[(call % 2) as usize];
+        if call % 5 == 4 {
+            imports::call(random, &mut import);
+            continue;
+        }
+        let (tally, check) = &mut tallies[(call % 5 % 2) as usize];
         check.call(random, tally);
     }
-    tallies.map(|(tally, _)| tally).into()
+    let [graph, rule] = tallies.map(|(tally, _)| tally);
+    vec![graph, rule, import]
 }
 
 impl Check {

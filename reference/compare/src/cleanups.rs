@@ -6,6 +6,7 @@ use leafgraph_reference::generate::{damaged_graph, noise, noise_with_graph_heade
 use leafgraph_reference::graph::{slots_told, Graph, MAX_SLOTS};
 use leafgraph_reference::meaning::Meaning;
 use leafgraph_reference::random::Random;
+use leafgraph_reference::recount::count_faults;
 use leafgraph_reference::reply::number_of;
 
 use crate::graph_fault_classes;
@@ -13,7 +14,7 @@ use crate::rewriting::UNSOUND;
 use crate::tally::{Call, Tally, CHANGED};
 use crate::{squeeze_classes, sweep_classes};
 
-const WRITTEN: &str = "a refusal has changed a lent byte";
+pub const WRITTEN: &str = "a refusal has changed a lent byte";
 const NOT_SETTLED: &str = "the same call once more changes something";
 
 /// The lent bytes that a call may write. A sweep is given no list.
@@ -49,7 +50,7 @@ pub struct Cleanup {
 
 pub const SWEEP: Cleanup = Cleanup {
     name: "sweep",
-    numbers: &[0, 20, 21, 22, 23],
+    numbers: &[0, 20, 21, 22, 23, 24],
     proved: |graph, _| leafgraph_proved::sweep(graph),
     reference: |graph, _| leafgraph_reference::sweep(graph),
     faults: |old, new, _, meaning| sweep_faults(old, new, meaning),
@@ -59,7 +60,7 @@ pub const SWEEP: Cleanup = Cleanup {
 
 pub const SQUEEZE: Cleanup = Cleanup {
     name: "squeeze",
-    numbers: &[0, 20, 21, 22, 23, 40],
+    numbers: &[0, 20, 21, 22, 23, 24, 40],
     proved: leafgraph_proved::squeeze,
     reference: leafgraph_reference::squeeze,
     faults: squeeze_faults,
@@ -75,7 +76,7 @@ pub fn run(random: &mut Random, calls: u64) -> Vec<Tally> {
         let lent = Lent::any(random);
         let reply = cleanup.call(random, tally, &lent).reply;
         (cleanup.count)(tally, &lent, reply);
-        if (20..=23).contains(&number_of(reply)) {
+        if (20..=24).contains(&number_of(reply)) {
             tally.count_all(&graph_fault_classes::classes(&lent.graph, reply));
         }
     }
@@ -129,7 +130,7 @@ fn list_length(random: &mut Random, graph: &[u8]) -> usize {
 
 impl Cleanup {
     fn tally(&self) -> Tally {
-        let names = [self.names, &graph_fault_classes::CLASSES].concat();
+        let names = [self.names, &graph_fault_classes::all_classes()].concat();
         Tally::new(self.name, self.numbers, &names)
     }
 
@@ -140,6 +141,9 @@ impl Cleanup {
         let proved = (self.proved)(graph.lend(), list.lend());
         let outcome = Outcome::of(self.reference, &lent.graph, &lent.list);
         let mut faults = self.faults(random, lent, &outcome);
+        if proved == 0 {
+            faults.extend(count_faults(graph.bytes()));
+        }
         if !(graph.holds(&outcome.graph) && list.holds(&outcome.list)) {
             faults.push(CHANGED);
         }

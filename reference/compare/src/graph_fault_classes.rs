@@ -1,14 +1,16 @@
 //! What was wrong with refused graphs, so that the comparison can show that
 //! every kind of fault was met alone, several times and with other kinds.
 
+use leafgraph_reference::graph::Version;
 use leafgraph_reference::graph_faults::GraphFaults;
 use leafgraph_reference::reply::{number_of, place_of};
 
+use crate::count_fault_classes;
 use crate::tally::Class;
 
-/// Every class must occur. What stands behind "too" is a later kind of fault,
-/// and classes without it have no other kind.
-pub const CLASSES: [&str; 31] = [
+/// Every class must occur, in either version. What stands behind "too" is a later
+/// kind of fault, and classes without it have no other kind.
+pub const VERSION_1_CLASSES: [&str; 31] = [
     "20, the mark",
     "20, byte 3",
     "20, the version",
@@ -55,10 +57,26 @@ const HEADER_PARTS: [Option<&str>; 8] = [
     Some("20, the length"),
 ];
 
-/// The classes of a graph that was refused with this reply.
+/// The classes of what takes version 2: these, and those of counts.
+pub fn all_classes() -> Vec<&'static str> {
+    [&VERSION_1_CLASSES[..], &count_fault_classes::CLASSES].concat()
+}
+
+/// The classes of a graph that was refused with this reply, where it was to be one
+/// of version 2.
 pub fn classes(graph: &[u8], reply: u64) -> Vec<Class> {
+    let of_counts = count_fault_classes::classes(graph, reply);
+    [of_version(graph, reply, Version::Two), of_counts].concat()
+}
+
+/// The same where it was to be one of version 1.
+pub fn version_1_classes(graph: &[u8], reply: u64) -> Vec<Class> {
+    of_version(graph, reply, Version::One)
+}
+
+fn of_version(graph: &[u8], reply: u64, version: Version) -> Vec<Class> {
     let (number, place) = (number_of(reply), place_of(reply) as usize);
-    let Some(faults) = GraphFaults::of(graph) else {
+    let Some(faults) = GraphFaults::of_version(graph, version) else {
         return large(number, place);
     };
     match number {
@@ -95,9 +113,13 @@ fn has_cycle(faults: &GraphFaults) -> bool {
     !faults.cycles.is_empty()
 }
 
+fn has_wrong_count(faults: &GraphFaults) -> bool {
+    !faults.counts.is_empty()
+}
+
 fn header(faults: &GraphFaults) -> Vec<Class> {
     let record = !faults.records.is_empty();
-    let alone = !(record || has_bad_name(faults) || has_cycle(faults));
+    let alone = !(record || has_bad_name(faults) || has_cycle(faults) || has_wrong_count(faults));
     let mut classes = vec![
         ("20, several parts of the header", alone && faults.header.len() > 1),
         ("20, a record too", record),
@@ -109,7 +131,7 @@ fn header(faults: &GraphFaults) -> Vec<Class> {
 }
 
 fn records(faults: &GraphFaults) -> Vec<Class> {
-    let alone = !(has_bad_name(faults) || has_cycle(faults));
+    let alone = !(has_bad_name(faults) || has_cycle(faults) || has_wrong_count(faults));
     vec![
         ("21, one slot", alone && faults.records.len() == 1),
         ("21, several slots", alone && faults.records.len() > 1),
@@ -120,7 +142,7 @@ fn records(faults: &GraphFaults) -> Vec<Class> {
 
 fn names(faults: &GraphFaults, place: usize) -> Vec<Class> {
     let (inputs, outputs) = (faults.inputs.len(), faults.outputs.len());
-    let alone = !has_cycle(faults);
+    let alone = !(has_cycle(faults) || has_wrong_count(faults));
     let only_outputs = alone && inputs == 0;
     vec![
         ("22, one slot", alone && outputs == 0 && inputs == 1),
@@ -140,9 +162,10 @@ fn cycles(faults: &GraphFaults, place: usize) -> Vec<Class> {
     let lower = |slots: &[usize]| slots.iter().any(|&slot| slot < place);
     let reads = lower(&faults.reading_from_cycles);
     let itself = faults.cycles.iter().any(|cycle| *cycle == [place]);
+    let alone = !has_wrong_count(faults);
     vec![
-        ("23, one cycle", faults.cycles.len() == 1),
-        ("23, several cycles", faults.cycles.len() > 1),
+        ("23, one cycle", alone && faults.cycles.len() == 1),
+        ("23, several cycles", alone && faults.cycles.len() > 1),
         ("23, a slot that reads itself", itself),
         ("23, a lower slot reads from a cycle", reads),
         ("23, a lower slot is read by a cycle", lower(&faults.read_by_cycles)),

@@ -5,6 +5,7 @@
 use std::ops::Range;
 
 use leafgraph_reference::blocks::Vertex;
+use leafgraph_reference::counts::write_true_counts;
 use leafgraph_reference::graph::{Graph, HEADER, RECORD};
 use leafgraph_reference::matching::least_match;
 
@@ -143,6 +144,7 @@ impl Search<'_> {
         let mut changed = self.graph.bytes().to_vec();
         let record = &mut changed[HEADER + RECORD * slot..][..RECORD];
         record.copy_from_slice(&self.made_like(slot, place).record());
+        write_true_counts(&mut changed);
         let Ok(graph) = Graph::parse(&changed) else {
             return false;
         };

@@ -3,6 +3,12 @@
 //!
 //!     compare [--seed S] [--calls N] checks|matching|rewriting|cleanups|mixed
 //!
+//! - checks: the two checks, and with every fifth call an import;
+//! - matching: searches;
+//! - rewriting: rewritings by themselves, and in sequences on one graph;
+//! - cleanups: sweeps and squeezes;
+//! - mixed: imports, rewritings, sweeps and squeezes in sequences on one graph.
+//!
 //! The same seed gives the same calls. Exit status 0: no difference, enough
 //! calls were done, and everything that must be tried was; 1: otherwise; 2:
 //! wrong usage.
@@ -12,7 +18,10 @@ mod checks;
 mod classes;
 mod cleanups;
 mod constants;
+mod count_fault_classes;
 mod graph_fault_classes;
+mod import_classes;
+mod imports;
 mod look_classes;
 mod matching;
 mod mixed;
@@ -21,6 +30,7 @@ mod nearly;
 mod refusal_classes;
 mod rewriting;
 mod rewriting_classes;
+mod rewriting_count_classes;
 mod rule_fault_classes;
 mod sequences;
 mod squeeze_classes;
@@ -47,7 +57,7 @@ struct Mode {
 }
 
 const MODES: [Mode; 5] = [
-    Mode { name: "checks", run: checks::run, default_calls: 1_000_000 },
+    Mode { name: "checks", run: checks::run, default_calls: 1_250_000 },
     Mode { name: "matching", run: matching::run, default_calls: 300_000 },
     Mode { name: "rewriting", run: rewriting::run, default_calls: 300_000 },
     Mode { name: "cleanups", run: cleanups::run, default_calls: 300_000 },

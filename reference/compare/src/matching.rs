@@ -11,7 +11,7 @@ use crate::refusal_classes::{count_refusal, with_refusals};
 use crate::tally::{Call, Tally, CHANGED};
 
 /// What must be replied.
-const NUMBERS: [u8; 12] = [0, 1, 20, 21, 22, 23, 30, 31, 32, 33, 34, 4];
+const NUMBERS: [u8; 13] = [0, 1, 20, 21, 22, 23, 24, 30, 31, 32, 33, 34, 4];
 
 pub fn run(random: &mut Random, calls: u64) -> Vec<Tally> {
     let own = [&CLASSES[..], &look_classes::CLASSES].concat();

@@ -1,5 +1,6 @@
-//! One graph rewritten, swept and squeezed in any order. Each call works on the
-//! table that the last one left.
+//! One graph imported, and then rewritten, swept and squeezed in any order. Each
+//! call works on the table that the last one left, and all counts must be true
+//! after it.
 
 use leafgraph_proved::guarded::{Guarded, SHIFTS};
 use leafgraph_reference::generate::sequence;
@@ -12,26 +13,35 @@ use leafgraph_reference::MAP_LENGTH;
 
 use crate::arguments::Arguments;
 use crate::cleanups::{Cleanup, Lent, SQUEEZE, SWEEP};
+use crate::imports;
 use crate::mixed_classes::{History, Operation, CLASSES};
 use crate::tally::{Call, Tally, CHANGED};
 
 /// What must be replied in some step; a cycle is left to the calls by
 /// themselves.
-const NUMBERS: [u8; 5] = [0, 4, 5, 6, 40];
+const NUMBERS: [u8; 6] = [0, 4, 5, 6, 20, 40];
 
 /// The most calls on one graph, but for those that a refusal asks for.
 const LONGEST: usize = 16;
 
 /// Sequences that take at least so many calls.
 pub fn run(random: &mut Random, calls: u64) -> Vec<Tally> {
-    let mut tally = Tally::new("rewrite, sweep and squeeze in sequence", &NUMBERS, &CLASSES);
+    let name = "import, rewrite, sweep and squeeze in sequence";
+    let mut tally = Tally::new(name, &NUMBERS, &CLASSES);
     while tally.calls() < calls {
         let sequence = sequence(random);
+        let of_version_1 = random.chance(50);
         let mut run = Run {
-            history: History::new(sequence.graph.slots.len()),
-            graph: sequence.graph.block(),
+            history: History::new(sequence.graph.slots.len(), !of_version_1),
+            graph: match of_version_1 {
+                true => sequence.graph.version_1_block(),
+                false => sequence.graph.block(),
+            },
             rules: sequence.rules.iter().map(|rule| rule.block()).collect(),
         };
+        if of_version_1 {
+            run.import(random, &mut tally);
+        }
         for _ in 0..random.within(2, LONGEST) {
             run.step(random, &mut tally);
         }
@@ -53,6 +63,26 @@ impl Run {
             0..=4 => self.rewrite_with_a_sweep(random, tally),
             5 | 6 => self.sweep(random, tally),
             _ => self.squeeze(random, tally),
+        }
+    }
+
+    /// An import, now and then with a call before that takes no version 1, and with
+    /// a second import behind it.
+    fn import(&mut self, random: &mut Random, tally: &mut Tally) {
+        if random.chance(20) {
+            self.step(random, tally);
+        }
+        self.import_once(random, tally, "an import");
+        if random.chance(20) {
+            self.import_once(random, tally, "a second import");
+        }
+    }
+
+    fn import_once(&mut self, random: &mut Random, tally: &mut Tally, origin: &'static str) {
+        let outcome = imports::import(random, tally, origin, &self.graph);
+        match outcome.reply {
+            0 => self.take(Operation::Import, outcome.graph),
+            _ => self.history.refused(Operation::Import),
         }
     }
 
@@ -81,8 +111,10 @@ impl Run {
         let arguments = Arguments { start, ..sound };
         let images = arguments.least_match();
         let outcome = arguments.rewrite(random, tally);
-        if outcome.reply == 0 {
-            self.take(Operation::Rewrite, outcome.graph);
+        match outcome.reply {
+            0 => self.take(Operation::Rewrite, outcome.graph),
+            20 => self.history.refused(Operation::Rewrite),
+            _ => {}
         }
         self.history.rewritten((rule, start), outcome.reply, images);
         outcome.reply

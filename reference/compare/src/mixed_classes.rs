@@ -1,5 +1,6 @@
-//! What followed what in sequences of rewritings, sweeps and squeezes.
+//! What followed what in sequences of imports, rewritings, sweeps and squeezes.
 
+use leafgraph_reference::counts::COUNT;
 use leafgraph_reference::graph::{Graph, HEADER, MAX_SLOTS, RECORD};
 use leafgraph_reference::matching::Images;
 use leafgraph_reference::sweep::{live_slots, Slots};
@@ -9,8 +10,15 @@ use crate::tally::Tally;
 /// Every class must occur, and is counted once for a sequence. A sweep is said to
 /// remove and a squeeze to move where it changes the table; "then" is the next
 /// call that is done.
-pub const CLASSES: [&str; 18] = [
-    "all three done",
+pub const CLASSES: [&str; 25] = [
+    "all but the import done",
+    "all four done",
+    "20, then the import done",
+    "an import, then a rewriting",
+    "an import, then a sweep that removes",
+    "an import, then a squeeze that moves",
+    "an import, and a second one refused",
+    "an import, and a count goes up later",
     "10 calls or more done",
     "a rewriting, then a sweep that removes",
     "a rewriting, then a squeeze that moves",
@@ -32,6 +40,7 @@ pub const CLASSES: [&str; 18] = [
 
 #[derive(Clone, Copy, PartialEq, Eq)]
 pub enum Operation {
+    Import,
     Rewrite,
     Sweep,
     Squeeze,
@@ -71,17 +80,23 @@ pub struct History {
     done: Vec<Done>,
     refused: Option<Refused>,
     wrong_list: bool,
+    /// Whether the block is one of version 2, and whether something was refused
+    /// because it was not yet.
+    is_version_2: bool,
+    wrong_version: bool,
     squeezes: usize,
     seen: Vec<&'static str>,
 }
 
 impl History {
-    pub fn new(slots: usize) -> History {
+    pub fn new(slots: usize, is_version_2: bool) -> History {
         History {
             slots: vec![Slot::default(); slots],
             done: vec![],
             refused: None,
             wrong_list: false,
+            is_version_2,
+            wrong_version: false,
             squeezes: 0,
             seen: vec![],
         }
@@ -99,14 +114,20 @@ impl History {
 
     pub fn count(&mut self, tally: &mut Tally) {
         let done = |operation| self.done.iter().any(|done| done.operation == operation);
-        let all = [Operation::Rewrite, Operation::Sweep, Operation::Squeeze].into_iter().all(done);
-        self.see("all three done", all);
+        let three = [Operation::Rewrite, Operation::Sweep, Operation::Squeeze];
+        let (imported, all) = (done(Operation::Import), three.into_iter().all(done));
+        self.see("all but the import done", all && !imported);
+        self.see("all four done", all && imported);
         self.see("10 calls or more done", self.done.len() >= 10);
         self.seen.iter().for_each(|class| tally.count(class));
     }
 
+    /// A call is refused for its list or for the block's version.
     pub fn refused(&mut self, operation: Operation) {
-        self.wrong_list = operation == Operation::Squeeze;
+        self.wrong_list = self.is_version_2 && operation == Operation::Squeeze;
+        self.wrong_version |= !self.is_version_2;
+        let again = self.is_version_2 && operation == Operation::Import;
+        self.see("an import, and a second one refused", again);
     }
 
     /// A call is done, with these tables before and after.
@@ -119,6 +140,10 @@ impl History {
         self.wrong_list = false;
         self.done.push(now);
         match operation {
+            Operation::Import => {
+                self.is_version_2 = true;
+                self.see("20, then the import done", self.wrong_version);
+            }
             Operation::Rewrite => self.follow_rewriting(old, new),
             Operation::Sweep => self.follow_sweep(old, new),
             Operation::Squeeze => self.follow_squeeze(old, new),
@@ -126,9 +151,12 @@ impl History {
     }
 
     fn see_pair(&mut self, last: Done, now: Done) {
-        use Operation::{Rewrite, Squeeze, Sweep};
+        use Operation::{Import, Rewrite, Squeeze, Sweep};
         let pair = (last.operation, last.changed, now.operation, now.changed);
         let class = match pair {
+            (Import, _, Rewrite, _) => "an import, then a rewriting",
+            (Import, _, Sweep, true) => "an import, then a sweep that removes",
+            (Import, _, Squeeze, true) => "an import, then a squeeze that moves",
             (Rewrite, _, Sweep, true) => "a rewriting, then a sweep that removes",
             (Rewrite, _, Squeeze, true) => "a rewriting, then a squeeze that moves",
             (Sweep, true, Squeeze, true) => "a sweep that removes, then a squeeze that moves",
@@ -144,6 +172,12 @@ impl History {
     }
 
     fn follow_rewriting(&mut self, old: &[u8], new: &[u8]) {
+        let imported = self.done[0].operation == Operation::Import;
+        let mut slots = 0..self.slots.len();
+        let goes_up = slots.any(|slot| {
+            vertex(old, slot) == vertex(new, slot) && count(old, slot) < count(new, slot)
+        });
+        self.see("an import, and a count goes up later", imported && goes_up);
         let (was_live, is_live) = (live(old), live(new));
         for slot in 0..self.slots.len() {
             let Slot { freed_by, cut_off } = self.slots[slot];
@@ -156,7 +190,7 @@ impl History {
                 "a rewriting takes a slot that a squeeze left",
                 taken && freed_by == Some(Operation::Squeeze),
             );
-            let stays = record(old, slot) == record(new, slot);
+            let stays = vertex(old, slot) == vertex(new, slot);
             let cut = was_live[slot] && !is_live[slot] && stays;
             self.slots[slot].cut_off = cut || cut_off && !is_live[slot];
         }
@@ -212,12 +246,18 @@ impl History {
     }
 }
 
-fn record(block: &[u8], slot: usize) -> &[u8] {
-    &block[HEADER + RECORD * slot..][..RECORD]
+/// The record without its count.
+fn vertex(block: &[u8], slot: usize) -> &[u8] {
+    &block[HEADER + RECORD * slot..][..COUNT]
 }
 
 fn is_empty(block: &[u8], slot: usize) -> bool {
-    record(block, slot)[0] == 0
+    vertex(block, slot)[0] == 0
+}
+
+fn count(block: &[u8], slot: usize) -> u16 {
+    let at = HEADER + RECORD * slot + COUNT;
+    u16::from_le_bytes([block[at], block[at + 1]])
 }
 
 /// No slot of a table that is not sound.

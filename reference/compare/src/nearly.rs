@@ -2,6 +2,7 @@
 //! of its own.
 
 use leafgraph_reference::blocks::variable;
+use leafgraph_reference::counts::write_true_counts;
 use leafgraph_reference::graph::{Graph, HEADER, RECORD};
 use leafgraph_reference::matching::{least_match, Images};
 use leafgraph_reference::operators::CONST;
@@ -74,6 +75,7 @@ fn with_place_of_its_own(graph: Graph, place: &Place) -> Vec<u8> {
     }
     bytes[6..8].copy_from_slice(&(slots as u16 + 1).to_le_bytes());
     bytes[place.at..place.at + 2].copy_from_slice(&(slots as u16).to_le_bytes());
+    write_true_counts(&mut bytes);
     bytes
 }
 

@@ -9,20 +9,21 @@ use crate::tally::{Class, Tally};
 use crate::{graph_fault_classes, rule_fault_classes};
 
 /// Every class must occur, and those of both blocks.
-const CLASSES: [&str; 8] = [
+const CLASSES: [&str; 9] = [
     "1, a bad graph too",
     "1, a bad rule too",
     "20, a bad rule too",
     "21, a bad rule too",
     "22, a bad rule too",
     "23, a bad rule too",
+    "24, a bad rule too",
     "a bad graph, and a start past it",
     "a bad rule, and a start past the graph",
 ];
 
 /// These classes and those of the blocks' faults, behind an operation's own.
 pub fn with_refusals(own: &[&'static str]) -> Vec<&'static str> {
-    [own, &CLASSES, &graph_fault_classes::CLASSES, &rule_fault_classes::CLASSES].concat()
+    [own, &CLASSES, &graph_fault_classes::all_classes(), &rule_fault_classes::CLASSES].concat()
 }
 
 pub fn count_refusal(tally: &mut Tally, arguments: &Arguments, reply: u64) {
@@ -33,13 +34,14 @@ pub fn count_refusal(tally: &mut Tally, arguments: &Arguments, reply: u64) {
             ("1, a bad graph too", check_graph(graph) != 0),
             ("1, a bad rule too", check_rule(rule) != 0),
         ]),
-        20..=23 => {
+        20..=24 => {
             let bad_rule = check_rule(rule) != 0;
             tally.count_all(&[
                 ("20, a bad rule too", bad_rule && number == 20),
                 ("21, a bad rule too", bad_rule && number == 21),
                 ("22, a bad rule too", bad_rule && number == 22),
                 ("23, a bad rule too", bad_rule && number == 23),
+                ("24, a bad rule too", bad_rule && number == 24),
                 ("a bad graph, and a start past it", arguments.starts_past_graph()),
             ]);
             tally.count_all(&graph_fault_classes::classes(graph, reply));

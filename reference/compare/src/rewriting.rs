@@ -7,17 +7,18 @@ use leafgraph_reference::graph::Graph;
 use leafgraph_reference::matching::read_map;
 use leafgraph_reference::meaning::Meaning;
 use leafgraph_reference::random::Random;
+use leafgraph_reference::recount::count_faults;
 use leafgraph_reference::results::{Accepted, Verdict};
 use leafgraph_reference::rule::Rule;
 
 use crate::arguments::Arguments;
 use crate::refusal_classes::{count_refusal, with_refusals};
 use crate::rewriting_classes::{count_classes, CLASSES};
-use crate::sequences;
 use crate::tally::{Call, Tally, CHANGED};
+use crate::{rewriting_count_classes, sequences};
 
 /// What must be replied.
-const NUMBERS: [u8; 15] = [0, 1, 20, 21, 22, 23, 30, 31, 32, 33, 34, 4, 5, 6, 7];
+const NUMBERS: [u8; 16] = [0, 1, 20, 21, 22, 23, 24, 30, 31, 32, 33, 34, 4, 5, 6, 7];
 
 /// The least share of calls with good arguments that must be accepted.
 const LEAST_ACCEPTED: u64 = 40;
@@ -44,8 +45,9 @@ pub struct Verdicts {
 
 /// Two of three calls by themselves, the others in sequences.
 pub fn run(random: &mut Random, calls: u64) -> Vec<Tally> {
-    let mut tally = Tally::new("rewrite", &NUMBERS, &with_refusals(&CLASSES))
-        .with_least_accepted(LEAST_ACCEPTED);
+    let own = [&CLASSES[..], &rewriting_count_classes::CLASSES].concat();
+    let mut tally =
+        Tally::new("rewrite", &NUMBERS, &with_refusals(&own)).with_least_accepted(LEAST_ACCEPTED);
     let in_sequences = calls / 3;
     for _ in in_sequences..calls {
         let (origin, case) = rewriting_case(random);
@@ -66,6 +68,9 @@ impl Arguments {
         let proved = leafgraph_proved::rewrite(graph.lend(), rule.bytes(), self.start, map.lend());
         let outcome = self.outcome(random);
         let mut faults = outcome.faults();
+        if proved == 0 {
+            faults.extend(count_faults(graph.bytes()));
+        }
         if !(graph.holds(&outcome.graph) && rule.holds(&self.rule) && map.holds(&outcome.map)) {
             faults.push(CHANGED);
         }

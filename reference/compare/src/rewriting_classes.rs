@@ -13,10 +13,11 @@ use leafgraph_reference::{rewrite, MAP_LENGTH};
 use crate::arguments::Arguments;
 use crate::constants::{matched_consts, MatchedConst, Namer};
 use crate::rewriting::{Outcome, Verdicts};
+use crate::rewriting_count_classes::Changes;
 use crate::tally::{Class, Tally};
 
-/// Every class must occur. Those that do not begin with "refused" are of
-/// accepted rewritings.
+/// Every class must occur, and those of counts. Those that do not begin with
+/// "refused" are of accepted rewritings.
 pub const CLASSES: [&str; 66] = [
     "no target vertex",
     "room only by the removal",
@@ -108,6 +109,9 @@ pub fn count_classes(tally: &mut Tally, arguments: &Arguments, outcome: &Outcome
     let Some(images) = least_match(old, rule, arguments.start) else {
         return;
     };
+    if let (0, Ok(new)) = (outcome.reply, Graph::parse(&outcome.graph)) {
+        tally.count_all(&Changes { old, new, rule, images: &images }.classes());
+    }
     let rewriting = Rewriting::new(old, rule, arguments.start, images);
     let classes = match &outcome.verdicts {
         Some(verdicts) => [

@@ -10,7 +10,7 @@ use crate::cleanups::{right_length, Lent};
 use crate::tally::{Class, Tally};
 
 /// Every class must occur.
-pub const CLASSES: [&str; 38] = [
+pub const CLASSES: [&str; 43] = [
     "nothing moves, no Empty slot",
     "nothing moves, Empty slots behind the vertices",
     "some vertices move, some stay",
@@ -49,13 +49,19 @@ pub const CLASSES: [&str; 38] = [
     "21, a wrong list too",
     "22, a wrong list too",
     "23, a wrong list too",
+    "24, a wrong list too",
+    "a vertex with a count of 0 moves",
+    "a vertex with a count above 1 moves",
+    "a vertex with a count of two bytes moves",
+    "a vertex moves to a slot with another count",
 ];
 
 pub fn count(tally: &mut Tally, lent: &Lent, reply: u64) {
     let squeeze = Graph::parse(&lent.graph).ok().map(Squeeze::new);
     let classes = match (number_of(reply), squeeze) {
         (0, Some(squeeze)) => {
-            [squeeze.moves(), squeeze.gaps(), squeeze.inputs(), squeeze.outputs()].concat()
+            let names = [squeeze.inputs(), squeeze.outputs(), squeeze.counts()];
+            [squeeze.moves(), squeeze.gaps(), names.concat()].concat()
         }
         (40, Some(squeeze)) => squeeze.wrong_list(lent.list.len()),
         (number, _) => {
@@ -65,6 +71,7 @@ pub fn count(tally: &mut Tally, lent: &Lent, reply: u64) {
                 ("21, a wrong list too", wrong && number == 21),
                 ("22, a wrong list too", wrong && number == 22),
                 ("23, a wrong list too", wrong && number == 23),
+                ("24, a wrong list too", wrong && number == 24),
             ]
         }
     };
@@ -195,6 +202,23 @@ impl<'a> Squeeze<'a> {
                 (1..outputs.len()).any(|place| again(place) && moved(&outputs[place])),
             ),
             ("an output in the fourth place renamed", outputs.get(3).is_some_and(moved)),
+        ]
+    }
+
+    /// The counts of vertices that move.
+    fn counts(&self) -> Vec<Class> {
+        let count = |slot: usize| self.graph.slot(slot).count();
+        let moved = |holds: &dyn Fn(usize) -> bool| {
+            self.any(|vertex| self.moves_away(vertex) && holds(vertex))
+        };
+        vec![
+            ("a vertex with a count of 0 moves", moved(&|vertex| count(vertex) == 0)),
+            ("a vertex with a count above 1 moves", moved(&|vertex| count(vertex) > 1)),
+            ("a vertex with a count of two bytes moves", moved(&|vertex| count(vertex) > 255)),
+            (
+                "a vertex moves to a slot with another count",
+                moved(&|vertex| count(vertex) != count(self.new_slot(vertex))),
+            ),
         ]
     }
 

@@ -8,7 +8,7 @@ use crate::cleanups::Lent;
 use crate::tally::{Class, Tally};
 
 /// Every class must occur. Dead is what a sweep removes.
-pub const CLASSES: [&str; 29] = [
+pub const CLASSES: [&str; 34] = [
     "nothing to remove",
     "one vertex removed",
     "several vertices removed",
@@ -38,6 +38,11 @@ pub const CLASSES: [&str; 29] = [
     "one slot",
     "largest graph, nothing to remove",
     "largest graph, vertices removed",
+    "the count of a vertex that stays goes down",
+    "the count of a vertex that stays goes down by several",
+    "the count of a vertex that stays goes down to 0",
+    "the count of an output goes down",
+    "a count of two bytes goes down",
 ];
 
 /// Long enough that a few passes over the table do not remove it all.
@@ -46,7 +51,7 @@ const LONG: usize = 20;
 pub fn count(tally: &mut Tally, lent: &Lent, reply: u64) {
     if let (0, Ok(graph)) = (reply, Graph::parse(&lent.graph)) {
         let sweep = Sweep::new(graph);
-        let classes = [sweep.sizes(), sweep.dead(), sweep.kept(), sweep.outputs()];
+        let classes = [sweep.sizes(), sweep.dead(), sweep.kept(), sweep.outputs(), sweep.counts()];
         tally.count_all(&classes.concat());
     }
 }
@@ -177,6 +182,24 @@ impl<'a> Sweep<'a> {
                 outputs.iter().any(|&output| live_reader(output)),
             ),
             ("an output twice", twice),
+        ]
+    }
+
+    /// Which counts go down.
+    fn counts(&self) -> Vec<Class> {
+        let is_dead = |&&reader: &&usize| self.dead[reader];
+        let lost = |slot: usize| self.readers[slot].iter().filter(is_dead).count();
+        let some = |holds: &dyn Fn(usize, usize) -> bool| {
+            let mut stays = self.slots().filter(|&slot| !self.dead[slot] && lost(slot) > 0);
+            stays.any(|slot| holds(self.graph.slot(slot).count().into(), lost(slot)))
+        };
+        let mut outputs = self.graph.outputs().map(usize::from);
+        vec![
+            ("the count of a vertex that stays goes down", some(&|_, _| true)),
+            ("the count of a vertex that stays goes down by several", some(&|_, lost| lost > 1)),
+            ("the count of a vertex that stays goes down to 0", some(&|old, lost| old == lost)),
+            ("the count of an output goes down", outputs.any(|output| lost(output) > 0)),
+            ("a count of two bytes goes down", some(&|old, _| old > 255)),
         ]
     }
 
