@@ -5,7 +5,7 @@ use std::fmt;
 use leafgraph_proved::guarded::Guarded;
 
 use crate::input::Input;
-use crate::judgement::{Cleaned, Rewriting};
+use crate::judgement::{Cleaned, Imported, Rewriting};
 use crate::library::{Lent, Library, Operation, OPERATIONS, SECOND};
 use crate::tally::Tally;
 
@@ -33,29 +33,36 @@ impl fmt::Display for Difference {
 /// What is done at the end with the graph that the rewritings leave.
 const CLEANED: [Operation; 3] = [Operation::Sweep, Operation::Squeeze, Operation::Rewrite];
 
-/// Cuts the bytes and makes all six calls, and further rewritings of the graph if
-/// the input asks for them. Then the graph that is left is swept, squeezed and
-/// rewritten once more.
+/// Cuts the bytes and makes all calls, and once more with the graph in the other
+/// version: of one version the import takes it, of the other all else.
 pub fn compare(library: &Library, bytes: &[u8], tally: &mut Tally) -> Result<(), Difference> {
-    let mut input = Input::cut(bytes);
-    for operation in OPERATIONS.into_iter().filter(|&one| one != Operation::Rewrite) {
-        input.compare(library, operation, 0, tally)?;
-    }
-    for step in 0..=input.further {
-        match input.compare(library, Operation::Rewrite, step, tally)? {
-            Some(graph) => input.graph = graph,
-            None => break,
-        }
-    }
-    for (step, operation) in (input.further + 1..).zip(CLEANED) {
-        if let Some(graph) = input.compare(library, operation, step, tally)? {
-            input.graph = graph;
-        }
-    }
-    Ok(())
+    let input = Input::cut(bytes);
+    let other = input.in_other_version();
+    let mut inputs = [Some(input), other].into_iter().flatten();
+    inputs.try_for_each(|input| input.compare_all(library, tally))
 }
 
 impl Input {
+    /// All seven calls, and further rewritings of the graph if the input asks for
+    /// them. Then the graph that is left is swept, squeezed and rewritten once more.
+    fn compare_all(mut self, library: &Library, tally: &mut Tally) -> Result<(), Difference> {
+        for operation in OPERATIONS.into_iter().filter(|&one| one != Operation::Rewrite) {
+            self.compare(library, operation, 0, tally)?;
+        }
+        for step in 0..=self.further {
+            match self.compare(library, Operation::Rewrite, step, tally)? {
+                Some(graph) => self.graph = graph,
+                None => break,
+            }
+        }
+        for (step, operation) in (self.further + 1..).zip(CLEANED) {
+            if let Some(graph) = self.compare(library, operation, step, tally)? {
+                self.graph = graph;
+            }
+        }
+        Ok(())
+    }
+
     /// The new graph, where the call writes it and is done.
     fn compare(
         &self,
@@ -91,6 +98,7 @@ impl Input {
                 let list = Some(done.list.as_slice());
                 Cleaned { old, new, list }.faults(library, self.seed)
             }
+            Operation::Import => Imported { old, new }.faults(library),
             Operation::CheckGraph | Operation::CheckRule | Operation::FindMatch => vec![],
         }
     }

@@ -5,6 +5,7 @@ use leafgraph_reference::blocks::{
     access_node, add, any_node, call_pattern, e1, empty, operation_node, relu, rr, target_place,
     variable, wildcard, GraphParts, RuleParts,
 };
+use leafgraph_reference::counts::write_counts;
 use leafgraph_reference::graph;
 use leafgraph_reference::operators::{ADD, MEAN};
 use leafgraph_reference::rule::{PLUS, TIMES};
@@ -19,10 +20,8 @@ pub struct FaultExample {
 }
 
 pub fn fault_examples() -> Vec<FaultExample> {
-    [graph_headers_and_records(), graph_names(), cycles(), rule_kinds(), expressions()]
-        .into_iter()
-        .flatten()
-        .collect()
+    let graphs = [versions(), graph_headers_and_records(), graph_names(), cycles(), counts()];
+    graphs.into_iter().chain([rule_kinds(), expressions()]).flatten().collect()
 }
 
 /// With a rule that is sound.
@@ -48,6 +47,47 @@ pub fn sample() -> RuleParts {
         target_outputs: vec![target_place(1)],
         nodes: vec![any_node(), access_node(1, 1), operation_node(PLUS, 1, 1)],
     }
+}
+
+/// With no other fault.
+fn versions() -> Vec<FaultExample> {
+    let e1_of = |version: u16| {
+        let mut block = e1().block();
+        block[graph::VERSION..graph::VERSION + 2].copy_from_slice(&version.to_le_bytes());
+        block
+    };
+    vec![
+        bad_graph("version-1", e1().version_1_block(), 20, 0),
+        bad_graph("version-1-with-counts", e1_of(1), 20, 0),
+        bad_graph("version-0", e1_of(0), 20, 0),
+        bad_graph("version-3", e1_of(3), 20, 0),
+        bad_graph("version-258", e1_of(258), 20, 0),
+    ]
+}
+
+fn counts() -> Vec<FaultExample> {
+    let with = |graph: GraphParts, counts: &[u16]| {
+        let mut block = graph.block();
+        write_counts(&mut block, counts);
+        block
+    };
+    let of = |slots, outputs: &[u16], counts: &[u16]| with(GraphParts::new(slots, outputs), counts);
+    let doubled = || vec![variable(), add(0, 0)];
+    let dead = || vec![variable(), relu(0), relu(0), relu(2)];
+    vec![
+        bad_graph("count-more", with(e1(), &[1, 1, 1, 2, 1, 0]), 24, 3),
+        bad_graph("count-less", with(e1(), &[1, 1, 1, 1, 0, 0]), 24, 4),
+        bad_graph("count-high-byte", with(e1(), &[1, 257, 1, 1, 1, 0]), 24, 1),
+        bad_graph("count-of-empty", with(e1(), &[1, 1, 1, 1, 1, 1]), 24, 5),
+        bad_graph("counts-several", with(e1(), &[1, 1, 0, 2, 1, 1]), 24, 2),
+        bad_graph("counts-of-readers", of(doubled(), &[1], &[1, 1]), 24, 0),
+        bad_graph("counts-without-outputs", of(doubled(), &[0, 1], &[2, 0]), 24, 0),
+        bad_graph("counts-output-once", of(doubled(), &[1, 1], &[2, 1]), 24, 1),
+        bad_graph("counts-without-dead", of(dead(), &[1], &[1, 1, 0, 0]), 24, 0),
+        bad_graph("counts-traded", of(doubled(), &[1], &[1, 2]), 24, 0),
+        bad_graph("count-and-cycle", of(vec![relu(0), variable()], &[1], &[0, 0]), 23, 0),
+        bad_graph("count-and-output", of(doubled(), &[2], &[9, 9]), 22, 0),
+    ]
 }
 
 fn graph_headers_and_records() -> Vec<FaultExample> {

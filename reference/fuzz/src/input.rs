@@ -7,16 +7,18 @@
 //! | 2 | the first byte of the map and of the list before the call; each further one is one more |
 //! | 3 | bits 0-1 further rewritings after an accepted one; bits 2-4 and 5-7 by how many bytes graph and rule are shifted in memory |
 //! | 4-11 | start, little-endian |
-//! | 12-13 | graph length, little-endian; at most all that follow |
+//! | 12-13 | little-endian: bits 0-14 graph length, at most all that follow; bit 15 one more repair, of counts |
 //! | 14- | the graph block, then the rule block up to the end |
 //!
 //! Bytes 0 to 13 that are missing count as 0. No field names an operation: all
-//! six are called with each input. N is what the graph block's bytes 6-7 say, 0
-//! where there are none, and 512 where they say more.
+//! seven are called with each input, and once more with the same graph in the
+//! other version, where it is one of version 1 or 2. N is what the graph block's
+//! bytes 6-7 say, 0 where there are none, and 512 where they say more.
 //!
-//! With all bits of byte 0 off any bytes whatever reach the library. A block
-//! that has been mutated would mostly fail at its lengths, though, and never
-//! get further; so each bit repairs one thing that byte mutations break:
+//! With all bits of byte 0 and bit 15 of bytes 12-13 off any bytes whatever reach
+//! the library. A block that has been mutated would mostly fail at its lengths,
+//! though, and never get further; so each bit repairs one thing that byte mutations
+//! break:
 //!
 //! | Bit | Repair |
 //! |---|---|
@@ -24,19 +26,21 @@
 //! | 1 | the map is 32 bytes long, and the list 2N |
 //! | 2 | the start is taken modulo 600, a little more than the most slots |
 //! | 3 | the graph's length: N by the bytes there are, no part of a record |
-//! | 4 | the graph's outputs and records: counts by kind and operator, unused places, inputs and outputs below N; a named Empty slot becomes a Variable |
+//! | 4 | the graph's outputs and records: counts by kind and operator, unused places and bytes, inputs and outputs below N; a named Empty slot becomes a Variable |
 //! | 5 | inputs name lower slots, so that there is no cycle (with bit 4 only) |
 //! | 6 | the rule's length: S and T within the bytes, A by the bytes that remain |
 //! | 7 | the rule's outputs, records and nodes: counts, unused places, lower vertices and nodes |
+//! | 15 of bytes 12-13 | the counts of a graph block of version 2 are true |
 //!
 //! What is right already stays as it is, so a sound block passes unchanged. The
 //! headers' marks, versions and zero bytes are never repaired.
 
-use leafgraph_reference::graph::{slots_told, MAX_SLOTS};
+use leafgraph_reference::counts::write_true_counts;
+use leafgraph_reference::graph::{slots_told, Version, MAX_SLOTS};
 use leafgraph_reference::random::mixed;
 use leafgraph_reference::MAP_LENGTH;
 
-use crate::repair;
+use crate::repair::{self, version_of};
 
 pub const CUT_AT_MARK: u8 = 1;
 pub const MAP: u8 = 1 << 1;
@@ -51,11 +55,15 @@ pub const RULE_RECORDS: u8 = 1 << 7;
 const CONTROL: usize = 14;
 const RULE_MARK: &[u8] = b"LGR";
 const STARTS: u64 = 600;
+/// In the 16 bits of the graph length, what says that counts are repaired.
+const COUNTS: u16 = 1 << 15;
 
 /// What the first bytes of an input say.
 #[derive(Clone, Copy, Debug, Default)]
 pub struct Control {
     pub repairs: u8,
+    /// Whether counts are repaired.
+    pub counts: bool,
     pub map_length: u8,
     pub map_byte: u8,
     pub steps_and_shifts: u8,
@@ -80,12 +88,13 @@ pub struct Input {
 }
 
 impl Control {
-    /// An input of these blocks. The graph length has 16 bits, so of a longer
+    /// An input of these blocks. The graph length has 15 bits, so of a longer
     /// graph the rest would be cut to the rule.
     pub fn input_bytes(&self, graph: &[u8], rule: &[u8]) -> Vec<u8> {
         let mut bytes = vec![self.repairs, self.map_length, self.map_byte, self.steps_and_shifts];
         bytes.extend(self.start.to_le_bytes());
-        bytes.extend((graph.len() as u16).to_le_bytes());
+        let counts = if self.counts { COUNTS } else { 0 };
+        bytes.extend((graph.len() as u16 & !COUNTS | counts).to_le_bytes());
         bytes.extend(graph);
         bytes.extend(rule);
         bytes
@@ -110,6 +119,9 @@ impl Control {
         }
         if self.repairs(GRAPH_RECORDS) {
             repair::graph_records(graph, self.repairs(LOWER_INPUTS));
+        }
+        if self.counts && version_of(graph) == Some(Version::Two) {
+            write_true_counts(graph);
         }
         if self.repairs(RULE_LENGTH) {
             repair::rule_length(rule);
@@ -152,9 +164,10 @@ impl Input {
         let [repairs, map_length, map_byte, steps_and_shifts, rest @ ..] = head;
         let (start, graph_length) = rest.split_at(8);
         let start = u64::from_le_bytes(start.try_into().expect("eight bytes"));
-        let graph_length = u16::from_le_bytes(graph_length.try_into().expect("two bytes"));
-        let control = Control { repairs, map_length, map_byte, steps_and_shifts, start };
-        let (graph, rule) = blocks.split_at(control.cut(blocks, graph_length));
+        let length = u16::from_le_bytes(graph_length.try_into().expect("two bytes"));
+        let counts = length & COUNTS != 0;
+        let control = Control { repairs, counts, map_length, map_byte, steps_and_shifts, start };
+        let (graph, rule) = blocks.split_at(control.cut(blocks, length & !COUNTS));
         let (mut graph, mut rule) = (graph.to_vec(), rule.to_vec());
         control.repair_blocks(&mut graph, &mut rule);
         let (bits, shift) = (usize::from(steps_and_shifts), usize::from(map_byte));
@@ -168,5 +181,22 @@ impl Input {
             shifts: [bits >> 2 & 7, bits >> 5 & 7, shift, shift],
             seed: mixed(u64::from_le_bytes(head[..8].try_into().expect("eight bytes"))),
         }
+    }
+    /// The same with the graph's block in the other version: with true counts, or
+    /// without counts. None where it is of neither version.
+    pub fn in_other_version(&self) -> Option<Input> {
+        let mut other = self.clone();
+        let graph = &mut other.graph;
+        match version_of(graph)? {
+            Version::One => {
+                repair::set_version(graph, Version::Two);
+                write_true_counts(graph);
+            }
+            Version::Two => {
+                repair::set_version(graph, Version::One);
+                repair::remove_counts(graph);
+            }
+        }
+        Some(other)
     }
 }

@@ -1,12 +1,14 @@
 //! What must hold of a call that is done, whatever the other program says: the new
-//! table is sound for both programs; of a rewriting, demand 3; of a sweep and a
-//! squeeze, what request 4/13 says of them.
+//! table is sound for both programs, and its counts are true; of a rewriting, demand
+//! 3; of a sweep and a squeeze, what request 4/13 says of them; of an import, that
+//! no other byte changes.
 
 use leafgraph_reference::cleanup::{squeeze_faults, sweep_faults};
 use leafgraph_reference::graph::Graph;
 use leafgraph_reference::matching::read_map;
 use leafgraph_reference::meaning::Meaning;
 use leafgraph_reference::random::Random;
+use leafgraph_reference::recount::{count_faults, import_faults};
 use leafgraph_reference::results::Accepted;
 use leafgraph_reference::rule::Rule;
 use leafgraph_reference::squeeze::NOWHERE;
@@ -49,11 +51,31 @@ impl Rewriting<'_> {
     }
 }
 
-/// The programs that refuse a new table.
+/// The programs that refuse a new table, and that its counts are wrong.
 fn unsound_for(library: &Library, new: &[u8]) -> Vec<String> {
     let programs = [("the library", library), ("the second program", &SECOND)];
     let refusing = programs.into_iter().filter(|(_, one)| (one.check_graph)(new) != 0);
-    refusing.map(|(name, _)| format!("the new graph is not sound for {name}")).collect()
+    let refusing = refusing.map(|(name, _)| format!("the new graph is not sound for {name}"));
+    refusing.chain(count_faults(new).into_iter().map(String::from)).collect()
+}
+
+/// An import that is done, in bytes.
+pub struct Imported<'a> {
+    pub old: &'a [u8],
+    pub new: &'a [u8],
+}
+
+impl Imported<'_> {
+    /// What is wrong with it.
+    pub fn faults(&self, library: &Library) -> Vec<String> {
+        let mut faults = unsound_for(library, self.new);
+        faults.extend(import_faults(self.old, self.new).into_iter().map(String::from));
+        let mut again = self.new.to_vec();
+        if (library.import)(&mut again) != 20 || again != self.new {
+            faults.push("a second import is not refused with 20, or writes".into());
+        }
+        faults
+    }
 }
 
 /// A sweep or a squeeze that is done, in bytes.

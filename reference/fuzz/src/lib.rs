@@ -1,4 +1,4 @@
-//! The fuzz target. Any bytes are cut into the arguments of the six
+//! The fuzz target. Any bytes are cut into the arguments of the seven
 //! operations (`input` has the layout); the proved library is called with them
 //! through its C entry points and the second program beside it, and all that
 //! comes back must be the same.

@@ -1,6 +1,6 @@
-//! The six operations, of either program.
+//! The seven operations, of either program.
 
-/// One of document 01's four operations, or of request 4/13's two.
+/// One of document 01's four operations, of request 4/13's two, or request 5/13's.
 #[derive(Clone, Copy, Debug, PartialEq, Eq)]
 pub enum Operation {
     CheckGraph,
@@ -9,15 +9,17 @@ pub enum Operation {
     Rewrite,
     Sweep,
     Squeeze,
+    Import,
 }
 
-pub const OPERATIONS: [Operation; 6] = [
+pub const OPERATIONS: [Operation; 7] = [
     Operation::CheckGraph,
     Operation::CheckRule,
     Operation::FindMatch,
     Operation::Rewrite,
     Operation::Sweep,
     Operation::Squeeze,
+    Operation::Import,
 ];
 
 impl Operation {
@@ -29,29 +31,33 @@ impl Operation {
             Operation::Rewrite => "lg_rewrite",
             Operation::Sweep => "lg_sweep",
             Operation::Squeeze => "lg_squeeze",
+            Operation::Import => "lg_import",
         }
     }
 
     /// Whether the operation writes the graph where it is done.
     pub fn writes_graph(self) -> bool {
-        matches!(self, Operation::Rewrite | Operation::Sweep | Operation::Squeeze)
+        use Operation::{Import, Rewrite, Squeeze, Sweep};
+        matches!(self, Rewrite | Sweep | Squeeze | Import)
     }
 
     /// "Checking a graph gives 0 or 2, a rule 0 or 3, matching 0 to 4,
     /// rewriting 0 to 7", where "20 to 23 replace 2 and 30 to 34 replace 3"; sweep
     /// and squeeze "bad graph as before, then 40", which is the squeeze's alone.
+    /// "A wrong count is 24", and version 1 has none.
     pub fn numbers(self) -> &'static [u8] {
         match self {
-            Operation::CheckGraph | Operation::Sweep => &[0, 20, 21, 22, 23],
+            Operation::CheckGraph | Operation::Sweep => &[0, 20, 21, 22, 23, 24],
             Operation::CheckRule => &[0, 30, 31, 32, 33, 34],
-            Operation::FindMatch => &[0, 1, 20, 21, 22, 23, 30, 31, 32, 33, 34, 4],
-            Operation::Rewrite => &[0, 1, 20, 21, 22, 23, 30, 31, 32, 33, 34, 4, 5, 6, 7],
-            Operation::Squeeze => &[0, 20, 21, 22, 23, 40],
+            Operation::FindMatch => &[0, 1, 20, 21, 22, 23, 24, 30, 31, 32, 33, 34, 4],
+            Operation::Rewrite => &[0, 1, 20, 21, 22, 23, 24, 30, 31, 32, 33, 34, 4, 5, 6, 7],
+            Operation::Squeeze => &[0, 20, 21, 22, 23, 24, 40],
+            Operation::Import => &[0, 20, 21, 22, 23],
         }
     }
 }
 
-/// What one program has for the six operations. A test puts a wrong program
+/// What one program has for the seven operations. A test puts a wrong program
 /// here to see that the comparison notices.
 #[derive(Clone, Copy)]
 pub struct Library {
@@ -61,6 +67,7 @@ pub struct Library {
     pub rewrite: fn(&mut [u8], &[u8], usize, &mut [u8]) -> u64,
     pub sweep: fn(&mut [u8]) -> u64,
     pub squeeze: fn(&mut [u8], &mut [u8]) -> u64,
+    pub import: fn(&mut [u8]) -> u64,
 }
 
 /// The proved library, through its C entry points.
@@ -71,6 +78,7 @@ pub const PROVED: Library = Library {
     rewrite: leafgraph_proved::rewrite,
     sweep: leafgraph_proved::sweep,
     squeeze: leafgraph_proved::squeeze,
+    import: leafgraph_proved::import,
 };
 
 /// The second program.
@@ -81,6 +89,7 @@ pub const SECOND: Library = Library {
     rewrite: leafgraph_reference::rewrite,
     sweep: leafgraph_reference::sweep,
     squeeze: leafgraph_reference::squeeze,
+    import: leafgraph_reference::import,
 };
 
 /// What a call is lent, each part of it in bytes that may be written.
@@ -102,6 +111,7 @@ impl Library {
             Operation::Rewrite => (self.rewrite)(graph, rule, start, map),
             Operation::Sweep => (self.sweep)(graph),
             Operation::Squeeze => (self.squeeze)(graph, list),
+            Operation::Import => (self.import)(graph),
         }
     }
 }

@@ -6,7 +6,8 @@
 
 use std::ops::RangeInclusive;
 
-use leafgraph_reference::graph::{self, MAX_SLOTS, OUTPUT_PLACES};
+use leafgraph_reference::counts::COUNT;
+use leafgraph_reference::graph::{self, Version, MAX_SLOTS, OUTPUT_PLACES, VERSION};
 use leafgraph_reference::operators::{
     operator_of, CALL, CONST, EMPTY, OPERATORS, PLACES, PROJ, TUPLE, VARIABLE, WILDCARD,
 };
@@ -66,11 +67,35 @@ pub fn graph_length(block: &mut Vec<u8>) {
     put_u16(block, 6, slots);
 }
 
+/// The version that a block tells, if it is one that something takes.
+pub fn version_of(block: &[u8]) -> Option<Version> {
+    let told = block.get(VERSION..VERSION + 2)?;
+    let is_told = |version: &Version| told == version.number().to_le_bytes();
+    [Version::One, Version::Two].into_iter().find(is_told)
+}
+
+/// Writes the version into a block that tells one.
+pub fn set_version(block: &mut [u8], version: Version) {
+    put_u16(block, VERSION, version.number().into());
+}
+
+/// No count in any whole record.
+pub fn remove_counts(block: &mut [u8]) {
+    let records = block.get_mut(graph::HEADER..).into_iter();
+    for record in records.flat_map(|records| records.chunks_exact_mut(graph::RECORD)) {
+        put_u16(record, COUNT, 0);
+    }
+}
+
 /// Outputs and all whole records, whatever the header says of their number.
-/// An Empty slot that is named becomes a Variable.
+/// An Empty slot that is named becomes a Variable. Counts stay in version 2, and
+/// are zero bytes in every other one.
 pub fn graph_records(block: &mut [u8], lower_inputs: bool) {
     if block.len() < graph::HEADER + graph::RECORD {
         return;
+    }
+    if version_of(block) != Some(Version::Two) {
+        remove_counts(block);
     }
     let (header, records) = block.split_at_mut(graph::HEADER);
     let slots = records.len() / graph::RECORD;
@@ -121,7 +146,8 @@ fn graph_record(record: &mut [u8], limit: usize) {
         };
         put_u16(record, at, input);
     }
-    record[16 + 4 * attributes..].fill(0);
+    record[16 + 4 * attributes..COUNT].fill(0);
+    record[COUNT + 2..].fill(0);
     let index = i32::from_le_bytes([record[16], record[17], record[18], record[19]]);
     if record[0] == PROJ {
         record[16..20].copy_from_slice(&index.max(1).to_le_bytes());

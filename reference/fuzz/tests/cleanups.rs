@@ -7,6 +7,7 @@ use leafgraph_fuzz::input::{Control, Input};
 use leafgraph_fuzz::library::{Library, Operation, PROVED, SECOND};
 use leafgraph_fuzz::tally::Tally;
 use leafgraph_reference::blocks::{e1, relu, rr, variable, GraphParts};
+use leafgraph_reference::counts::write_true_counts;
 use leafgraph_reference::operators::VARIABLE;
 
 /// With a map and a list that are by so many bytes longer than they should be.
@@ -58,6 +59,9 @@ fn a_sweep_of_the_last_stage_alone_is_noticed() {
                 new.copy_from_slice(old);
             }
         }
+        if reply == 0 {
+            write_true_counts(graph);
+        }
         reply
     };
     let names = noticed(&Library { sweep, ..PROVED });
@@ -92,8 +96,10 @@ fn a_sweep_by_the_first_output_is_noticed() {
         spoilt[12..18].fill(255);
         let reply = (PROVED.sweep)(graph);
         if reply == 0 {
+            write_true_counts(&mut spoilt);
             (PROVED.sweep)(&mut spoilt);
             graph[24..].copy_from_slice(&spoilt[24..]);
+            write_true_counts(graph);
         }
         reply
     };

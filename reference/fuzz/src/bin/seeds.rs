@@ -1,7 +1,7 @@
 //! Writes the inputs that fuzzing starts from into a folder, as files whose
 //! names begin with `seed-`: document 01's examples, matched Consts that stay
-//! or go, every kind of fault, small random cases of every reply, and graphs to
-//! sweep and to squeeze. The same files each time.
+//! or go, every kind of fault, small random cases of every reply, graphs to sweep
+//! and to squeeze, and blocks to import. The same files each time.
 //!
 //!     fuzz_seeds FOLDER [CASES]
 //!
@@ -27,8 +27,10 @@ use leafgraph_reference::blocks::{
     pattern, relu, reversed_chain, rr, target_place, variable, wildcard, GraphParts, PatternParts,
     RuleParts,
 };
+use leafgraph_reference::counts::COUNT;
 use leafgraph_reference::generate::{
-    damaged_graph_of, damaged_rule_of, noise, rewriting_case, search_case, sequence, Case,
+    damaged_graph_of, damaged_rule_of, damaged_version_1_graph, noise, rewriting_case, search_case,
+    sequence, Case,
 };
 use leafgraph_reference::graph::{self, Graph};
 use leafgraph_reference::matching::read_map;
@@ -37,7 +39,7 @@ use leafgraph_reference::random::Random;
 use leafgraph_reference::removal::removed_slots;
 use leafgraph_reference::reply::number_of;
 use leafgraph_reference::rule::{Rule, DIVIDE, REMAINDER};
-use leafgraph_reference::{find_match, rewrite, squeeze, sweep, MAP_LENGTH};
+use leafgraph_reference::{find_match, import, rewrite, squeeze, sweep, MAP_LENGTH};
 
 /// What the corpus is drawn from.
 const SEED: u64 = 20;
@@ -73,6 +75,7 @@ fn main() -> ExitCode {
     seeds.add_refused(cases / 2);
     seeds.add_others(cases);
     seeds.add_cleanups(cases);
+    seeds.add_imports(cases);
     match seeds.write(Path::new(folder)) {
         Ok(()) => ExitCode::SUCCESS,
         Err(error) => {
@@ -98,6 +101,7 @@ impl Seeds {
     fn control(&mut self, repairs: u8, start: usize) -> Control {
         Control {
             repairs,
+            counts: true,
             map_length: MAP_LENGTH as u8,
             map_byte: self.random.byte(),
             steps_and_shifts: self.random.byte(),
@@ -178,7 +182,7 @@ impl Seeds {
     /// As they are, since a repair would take the fault away.
     fn add_fault_examples(&mut self) {
         for example in fault_examples() {
-            let control = self.control(MAP, 0);
+            let control = Control { counts: false, ..self.control(MAP, 0) };
             self.add(example.name, control, &example.graph, &example.rule);
         }
     }
@@ -187,7 +191,7 @@ impl Seeds {
     /// have these numbers already, so half as many do.
     fn add_refused(&mut self, cases: usize) {
         let mut counts: BTreeMap<u8, usize> =
-            (20..=23).chain(30..=34).map(|number| (number, 0)).collect();
+            (20..=24).chain(30..=34).map(|number| (number, 0)).collect();
         while counts.values().any(|&count| count < cases) {
             let (_, Case { graph, rule, start }) = search_case(&mut self.random);
             let (graph, rule) = match self.random.chance(50) {
@@ -200,7 +204,7 @@ impl Seeds {
             };
             if graph.len() + rule.len() <= LONGEST && *count < cases {
                 *count += 1;
-                let control = self.control(MAP, start);
+                let control = Control { counts: false, ..self.control(MAP, start) };
                 self.add(&format!("refused-{number}"), control, &graph, &rule);
             }
         }
@@ -221,7 +225,7 @@ impl Seeds {
             self.add("search", control, &graph_block, &rule_block);
             let control = self.control(LENGTHS | RECORDS, 0);
             self.add("sequence", control, &sequence_block, &sequence.rules[0].block());
-            let control = self.control(MAP, start);
+            let control = Control { counts: false, ..self.control(MAP, start) };
             let damaged_graph = damaged_graph_of(&mut self.random, graph);
             let damaged_rule = damaged_rule_of(&mut self.random, rule);
             self.add("damaged-blocks", control, &damaged_graph, &damaged_rule);
@@ -252,6 +256,29 @@ impl Seeds {
                 left -= 1;
                 let control = self.control(LENGTHS | RECORDS, 0);
                 self.add("cleanup", control, &graph, &rule);
+            }
+        }
+    }
+
+    /// Blocks of version 1: E1 with a byte where version 2 has a count, and damaged
+    /// ones, some of each number that they get.
+    fn add_imports(&mut self, cases: usize) {
+        let rule = rr().block();
+        let control = self.control(MAP, 0);
+        for at in [graph::HEADER + COUNT, graph::HEADER + graph::RECORD - 1] {
+            let mut block = e1().version_1_block();
+            block[at] = 1;
+            self.add("import-count", control, &block, &rule);
+        }
+        let mut counts: BTreeMap<u8, usize> = [0, 20, 21, 22, 23].map(|n| (n, 0)).into();
+        while counts.values().any(|&count| count < cases / 2) {
+            let block = damaged_version_1_graph(&mut self.random);
+            let number = number_of(import(&mut block.clone()));
+            let count = counts.get_mut(&number).expect("one of the import's numbers");
+            if block.len() + rule.len() <= LONGEST && *count < cases / 2 {
+                *count += 1;
+                let control = self.control(MAP, 0);
+                self.add(&format!("import-{number}"), control, &block, &rule);
             }
         }
     }
@@ -294,7 +321,7 @@ fn redirects_input(accepted: &Accepted) -> bool {
     let mut pairs = accepted.rule().sources().zip(read_map(accepted.map));
     pairs.any(|(pattern, image)| {
         let at = graph::HEADER + graph::RECORD * usize::from(image);
-        let record = at..at + graph::RECORD;
+        let record = at..at + COUNT;
         pattern.is_input_kind() && accepted.before[record.clone()] != accepted.after[record]
     })
 }
