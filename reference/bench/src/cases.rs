@@ -1,6 +1,6 @@
 //! What is timed: searches that have to look at everything or, to compare with,
 //! at nothing, rewritings at the end of such a search, sweeps and squeezes that
-//! change everything or nothing, and the checks.
+//! change everything or nothing, imports, and the checks.
 
 use std::hint::black_box;
 
@@ -11,8 +11,9 @@ use leafgraph_reference::reply::{refuse_at, reply_of, DONE, GRAPH_CYCLE};
 use leafgraph_reference::MAP_LENGTH;
 
 use crate::graphs::{
-    chain_with_gaps, dead_chain, double_relus, gain_and_mean, gains_and_means, hanging_from_cycle,
-    in_a_chain, leading_to_cycle, pairs, shared_const, side_by_side, two_relus,
+    chain_with_gaps, crowded, dead_chain, double_relus, first_double_relu, gain_and_mean,
+    gains_and_means, hanging_from_cycle, in_a_chain, leading_to_cycle, pairs, shared_const,
+    side_by_side, two_relus,
 };
 
 /// What a call leaves; only searches and rewritings write the map.
@@ -22,8 +23,8 @@ pub struct Answer {
     pub map: [u8; MAP_LENGTH],
 }
 
-/// A call. The bytes lent to it are what a rewriting, a sweep or a squeeze writes,
-/// anew from the same graph each time; the other calls do not look at them.
+/// A call. The bytes lent to it are what a rewriting, a sweep, a squeeze or an import
+/// writes, anew from the same graph each time; the other calls do not look at them.
 pub type Program = Box<dyn Fn(&mut Vec<u8>) -> Answer>;
 
 pub struct Case {
@@ -48,8 +49,9 @@ type Reply = fn(u16) -> u64;
 /// Where a search of a graph of so many slots starts.
 type Start = fn(u16) -> usize;
 
-const CHECKS: [(&str, Graph, Reply); 3] = [
+const CHECKS: [(&str, Graph, Reply); 4] = [
     ("check graph: a chain", chain, |_| DONE),
+    ("check graph: one slot in all places", crowded, |_| DONE),
     ("check graph: hangs from a cycle", hanging_from_cycle, cycle_in_last_two),
     ("check graph: leads to a cycle", leading_to_cycle, cycle_in_last_two),
 ];
@@ -59,7 +61,14 @@ fn cycle_in_last_two(slots: u16) -> u64 {
     reply_of(refuse_at(GRAPH_CYCLE, Some(usize::from(slots) - 2)))
 }
 
-const SEARCHES: [(&str, u64, Graph, Rule); 7] = [
+const SEARCHES: [(&str, u64, Graph, Rule); 9] = [
+    ("match: 1 output, first slots", FOUND, |slots| first_double_relu(slots, true), rr),
+    (
+        "match: 1 output, first slots, read outside",
+        NONE,
+        |slots| first_double_relu(slots, false),
+        rr,
+    ),
     ("match: 1 output, last slot", FOUND, |slots| double_relus(slots, true), rr),
     ("match: 1 output, none", NONE, |slots| double_relus(slots, false), rr),
     ("match: 2 outputs, last pair", FOUND, |slots| pairs(slots, true), p7_rule),
@@ -99,10 +108,11 @@ const REWRITINGS: [(&str, u64, Graph, Rule, Course); 4] = [
     ("rewrite: to the end", NONE, chain, rr, to_the_end),
 ];
 
-/// One of request 4/13's operations, on a graph and a list. A sweep takes no list.
+/// A call that changes a graph in place: a sweep, a squeeze or an import, on a graph
+/// and a list. Only a squeeze takes the list.
 type Cleanup = fn(&mut [u8], &mut [u8]) -> u64;
 
-/// Either of them in the library and in the second program.
+/// Each of them in the library and in the second program.
 const SWEEP: [Cleanup; 2] =
     [|graph, _| leafgraph_proved::sweep(graph), |graph, _| leafgraph_reference::sweep(graph)];
 const SQUEEZE: [Cleanup; 2] = [leafgraph_proved::squeeze, leafgraph_reference::squeeze];
@@ -115,6 +125,16 @@ const CLEANUPS: [(&str, Graph, [Cleanup; 2]); 7] = [
     ("squeeze: a dead chain", dead_chain, SQUEEZE),
     ("squeeze: all live", chain, SQUEEZE),
     ("squeeze: every second slot Empty", chain_with_gaps, SQUEEZE),
+];
+
+/// Of either program; an import takes no list.
+const IMPORT: [Cleanup; 2] =
+    [|graph, _| leafgraph_proved::import(graph), |graph, _| leafgraph_reference::import(graph)];
+
+const IMPORTS: [(&str, Graph); 3] = [
+    ("import: a chain", chain),
+    ("import: a chain, reversed", reversed_chain),
+    ("import: one slot in all places", crowded),
 ];
 
 /// add(x, a Const) becomes relu(x).
@@ -146,9 +166,17 @@ pub fn rewritings() -> Vec<Case> {
 /// Each timed call copies the graph first, as in the rewritings.
 pub fn cleanups() -> Vec<Case> {
     let of_all_sizes = |(name, graph, programs): (_, Graph, _)| {
-        SIZES.map(|slots| cleanup(name, graph(slots), programs))
+        SIZES.map(|slots| cleanup(name, graph(slots).block(), slots.into(), programs))
     };
     CLEANUPS.into_iter().flat_map(of_all_sizes).collect()
+}
+
+/// Blocks of version 1. Each timed call copies the block first, as in the rewritings.
+pub fn imports() -> Vec<Case> {
+    let of_all_sizes = |(name, graph): (_, Graph)| {
+        SIZES.map(|slots| cleanup(name, graph(slots).version_1_block(), slots.into(), IMPORT))
+    };
+    IMPORTS.into_iter().flat_map(of_all_sizes).collect()
 }
 
 pub fn checks() -> Vec<Case> {
@@ -239,10 +267,9 @@ fn rewriting(
 }
 
 /// The list stands behind the graph, so that both are compared.
-fn cleanup(name: &'static str, graph: GraphParts, programs: [Cleanup; 2]) -> Case {
-    let slots = graph.slots.len();
+fn cleanup(name: &'static str, graph: Vec<u8>, slots: usize, programs: [Cleanup; 2]) -> Case {
     let [proved, second] = programs.map(|cleanup| -> Program {
-        let graph = graph.block();
+        let graph = graph.clone();
         Box::new(move |lent| {
             lent.clear();
             lent.extend_from_slice(black_box(&graph));

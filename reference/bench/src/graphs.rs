@@ -5,6 +5,7 @@ use leafgraph_reference::blocks::{
     access_node, add, any_node, call, call_pattern, chain, constant, empty, operation_node, relu,
     target_place, tuple, variable, wildcard, GraphParts, RuleParts, Vertex,
 };
+use leafgraph_reference::graph::OUTPUT_PLACES;
 use leafgraph_reference::operators::{CAST, GAIN, MEAN, PLACES, RELU};
 use leafgraph_reference::rule::{PLUS, TIMES};
 
@@ -17,6 +18,25 @@ pub fn double_relus(slots: u16, found: bool) -> GraphParts {
         table[usize::from(slots) - 1] = relu(slots - 2);
     }
     GraphParts::new(table, &[slots - 1])
+}
+
+/// For RR: the match is in the first slots, and all the others are casts, so that a
+/// call has little to do but to check the blocks and to know how often a slot is
+/// named. Where none is found, a cast reads the inner relu.
+pub fn first_double_relu(slots: u16, found: bool) -> GraphParts {
+    let mut table = vec![variable(), relu(0), relu(1)];
+    table.resize(slots.into(), call(CAST, &[2], &[0]));
+    if !found {
+        table[usize::from(slots) - 1] = call(CAST, &[1], &[0]);
+    }
+    GraphParts::new(table, &[2])
+}
+
+/// For the counts: every place that there is names one slot.
+pub fn crowded(slots: u16) -> GraphParts {
+    let mut table = vec![variable()];
+    table.resize(slots.into(), reads(0));
+    GraphParts::new(table, &[0; OUTPUT_PLACES])
 }
 
 /// For P7's rule, relu(x) and add(x,y): every relu is a first image that
