@@ -1,6 +1,7 @@
 /* leafgraph: checks the operator graphs of an image pipeline and the rules by
  * which they are rewritten, finds where a rule matches, and rewrites there; sweeps
- * out what no output needs, and squeezes what is left together.
+ * out what no output needs, squeezes what is left together, and imports graphs of
+ * the format's first version.
  *
  * What holds for every function here:
  *
@@ -11,6 +12,10 @@
  *   still wants a pointer that is not null. No alignment is needed.
  * - Buffers given to one call must not overlap.
  * - After a refusal every lent byte is as it came.
+ * - A graph block is one of version 2 (LG_GRAPH_VERSION). Each of its slots has its
+ *   count: how many input places and graph outputs name it. Places count, not readers:
+ *   where a vertex reads a slot twice, that is two. What is written has true counts.
+ *   Only lg_import takes another version, which is version 1, and no other.
  * - There is no state: calls may be made from any number of threads at once,
  *   as long as no buffer is written by one call while another one uses it.
  * - No memory is allocated. Each function's Stack line says how much stack to
@@ -28,8 +33,11 @@
  * Version 2 tells the kinds of fault apart: what was reply 2 (bad graph) is one of
  * 20 to 23, and what was reply 3 (bad rule) one of 30 to 34, each with a place. A
  * caller that needs no more than before asks lg_is_bad_graph and lg_is_bad_rule.
- * Version 2.1 adds lg_sweep and lg_squeeze, with reply 40. */
-#define LEAFGRAPH_VERSION "2.1.0"
+ * Version 2.1 adds lg_sweep and lg_squeeze, with reply 40.
+ * Version 3 takes and leaves graph blocks of version 2, which have counts, with
+ * reply 24 for a wrong one. Graph blocks of version 1, which versions before took,
+ * are refused with reply 20, except by lg_import, which makes version 2 of them. */
+#define LEAFGRAPH_VERSION "3.0.0"
 
 #ifdef __cplusplus
 extern "C" {
@@ -48,14 +56,16 @@ enum {
     LG_BAD_MAP_LENGTH = 1, /* the map buffer is not 32 bytes */
 
     /* Bad graph blocks: lg_is_bad_graph. */
-    LG_BAD_GRAPH_HEADER = 20, /* the length, or a field of the header, unused
-                                 output places included. Place: 0 */
+    LG_BAD_GRAPH_HEADER = 20, /* the length, or a field of the header, its version
+                                 and unused output places included. Place: 0 */
     LG_BAD_GRAPH_RECORD = 21, /* a record that does not suit its kind. Place:
                                  the lowest such slot */
     LG_BAD_GRAPH_NAME = 22,   /* an input or an output that names no vertex.
                                  Place: the lowest slot with such an input; only
                                  where there is none, the lowest output, 0 to 3 */
     LG_GRAPH_HAS_CYCLE = 23,  /* a cycle. Place: the lowest slot on one */
+    LG_BAD_GRAPH_COUNT = 24,  /* a stored count of readers that is not the true
+                                 one. Place: the lowest such slot */
 
     /* Bad rule blocks: lg_is_bad_rule. */
     LG_BAD_RULE_HEADER = 30,     /* the length, or a field of the header, unused
@@ -87,8 +97,12 @@ enum {
 
 enum {
     LG_MAP_LENGTH = 32,  /* the bytes of a map */
-    LG_NO_SLOT = 65535   /* in a map, past the last source vertex; in a list of
+    LG_NO_SLOT = 65535,  /* in a map, past the last source vertex; in a list of
                             moves, for a slot that was Empty */
+
+    /* Bytes 4 and 5 of a graph block. */
+    LG_GRAPH_VERSION = 2,   /* with counts: lg_import makes it, all else takes it */
+    LG_IMPORTED_VERSION = 1 /* without them: lg_import takes it */
 };
 
 /* The number of a reply: bits 0 to 7. Compare this, and not the whole reply,
@@ -124,8 +138,9 @@ static inline uint32_t lg_reply_place(uint64_t reply) {
  * Reads:   graph_len bytes at graph.
  * Writes:  nothing.
  * Replies: LG_DONE if the bytes are a sound graph block, else the first that
- *          applies of LG_BAD_GRAPH_HEADER, LG_BAD_GRAPH_RECORD,
- *          LG_BAD_GRAPH_NAME and LG_GRAPH_HAS_CYCLE.
+ *          applies of LG_BAD_GRAPH_HEADER (also for a block of version 1),
+ *          LG_BAD_GRAPH_RECORD, LG_BAD_GRAPH_NAME, LG_GRAPH_HAS_CYCLE and
+ *          LG_BAD_GRAPH_COUNT.
  * Threads: any number at once.
  * Stack:   64 KiB.
  */
@@ -173,9 +188,11 @@ uint64_t lg_find_match(const uint8_t *graph, size_t graph_len,
  * lowest Empty slots, and every input and graph output that named a replaced
  * output names what takes its place. The three buffers must not overlap.
  *
- * What a Const of the rule matches stays, with every byte of its slot, if it is a
- * graph output, or if it is read by a vertex that is not matched or that a rule
- * input matches. Else it is removed, too: so it goes with its last reader.
+ * What a Const of the rule matches stays, with every byte of its slot but its
+ * count, if it is a graph output, or if it is read by a vertex that is not matched
+ * or that a rule input matches. Else it is removed, too: so it goes with its last
+ * reader. The count of one that stays goes down by the input places of removed
+ * vertices that named it.
  *
  * Reads:   graph_len bytes at graph, rule_len bytes at rule.
  * Writes:  on LG_DONE, the graph_len bytes at graph: the new graph block, of
@@ -199,8 +216,10 @@ uint64_t lg_rewrite(uint8_t *graph, size_t graph_len,
 
 /* Sweeps a graph: every vertex from which no graph output is reached becomes
  * Empty, except Variables, which all stay, read or not. A vertex that an output
- * names reaches itself, and stays. What stays keeps every byte of its slot, and
- * the header is as it was: the number of slots and the outputs are the same.
+ * names reaches itself, and stays. What stays keeps every byte of its slot but its
+ * count, which goes down by the input places of swept vertices that named it; where
+ * none did, the count is kept, too. The header is as it was: the number of slots and
+ * the outputs are the same.
  * Whatever the operators, constants, tuples and projections mean, every vertex
  * that stays has the result that it had.
  *
@@ -216,8 +235,9 @@ uint64_t lg_sweep(uint8_t *graph, size_t graph_len);
 
 /* Squeezes a graph: its vertices move to the lowest slots, in their old order,
  * and every input and every graph output that named a vertex names it in its new
- * slot. Behind the last vertex every slot is Empty then; there are as many slots
- * as before. It does not sweep: a vertex that nobody reads moves like any other.
+ * slot. Each vertex takes its count along. Behind the last vertex every slot is Empty
+ * then; there are as many slots as before. It does not sweep: a vertex that nobody
+ * reads moves like any other.
  * The two buffers must not overlap.
  *
  * Variables move, too, and the list of moves says to which number. Whatever the
@@ -239,6 +259,26 @@ uint64_t lg_sweep(uint8_t *graph, size_t graph_len);
  */
 uint64_t lg_squeeze(uint8_t *graph, size_t graph_len,
                     uint8_t *moves, size_t moves_len);
+
+/* Imports a graph: a block of version 1 becomes version 2, in place. Of its bytes
+ * only the version and the counts change: the version is 2 then, and bytes 40 and 41
+ * of each record, which are zero in version 1, hold the slot's true count. The graph
+ * is the same.
+ *
+ * It is judged by the rules of version 1: where one of bytes 40 to 47 of a record is
+ * not zero, that is LG_BAD_GRAPH_RECORD. Any other version is LG_BAD_GRAPH_HEADER,
+ * also version 2, which needs no import.
+ *
+ * Reads:   graph_len bytes at graph.
+ * Writes:  on LG_DONE, the graph_len bytes at graph: the graph block of version 2,
+ *          of the same length and sound. On a refusal, nothing.
+ * Replies: LG_DONE if the graph is imported; else the first that applies of
+ *          LG_BAD_GRAPH_HEADER, LG_BAD_GRAPH_RECORD, LG_BAD_GRAPH_NAME and
+ *          LG_GRAPH_HAS_CYCLE.
+ * Threads: any number at once, each with a graph of its own.
+ * Stack:   64 KiB.
+ */
+uint64_t lg_import(uint8_t *graph, size_t graph_len);
 
 #ifdef __cplusplus
 }
