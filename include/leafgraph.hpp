@@ -10,7 +10,8 @@
 //   before the library is called: no byte is read or written then.
 // - A reply is a type of its own, with its number, its place and a text; and
 //   place_in says what the place of a refused block counts.
-// - The numbers of a map and of a list of moves are read by index (Map, Moves).
+// - The numbers of a map and of a list of moves are read by index (Map, Moves), and so
+//   are the counts that a graph block stores (stored_count).
 //
 // Nothing here throws, allocates or keeps state. What leafgraph.h says about
 // threads and stack holds here too.
@@ -40,6 +41,7 @@ enum class Code : std::uint16_t {
     bad_graph_record = LG_BAD_GRAPH_RECORD,
     bad_graph_name = LG_BAD_GRAPH_NAME,
     graph_has_cycle = LG_GRAPH_HAS_CYCLE,
+    bad_graph_count = LG_BAD_GRAPH_COUNT,
     bad_rule_header = LG_BAD_RULE_HEADER,
     bad_rule_record = LG_BAD_RULE_RECORD,
     bad_rule_order = LG_BAD_RULE_ORDER,
@@ -69,6 +71,8 @@ constexpr const char *what(Code code) noexcept {
         return "bad graph block: an input or an output names no vertex";
     case Code::graph_has_cycle:
         return "bad graph block: it has a cycle";
+    case Code::bad_graph_count:
+        return "bad graph block: a stored count of readers is not the true one";
     case Code::bad_rule_header:
         return "bad rule block: its length or its header";
     case Code::bad_rule_record:
@@ -224,6 +228,11 @@ inline unsigned byte_at(Bytes block, std::size_t at) noexcept {
 
 inline unsigned number16_at(Bytes block, std::size_t at) noexcept {
     return byte_at(block, at) + 256U * byte_at(block, at + 1);
+}
+
+// Where the record of this slot of a graph begins: each has 48 bytes, the header 24.
+constexpr std::size_t record_at(std::size_t slot) noexcept {
+    return 24 + 48 * slot;
 }
 
 // The slot in this place of a list of slot numbers; past its end, none.
@@ -409,6 +418,33 @@ inline Squeezed squeeze(WritableBytes graph, WritableBytes list) noexcept {
     return {reply, reply.done() ? Moves(list) : Moves()};
 }
 
+// As lg_import: where done, the block of version 1 is one of version 2, with counts. On a
+// refusal no byte has changed. (import alone is a word of C++20.)
+inline Reply import_graph(WritableBytes graph) noexcept {
+    if (detail::is_null(graph)) {
+        return Reply(Code::null_buffer);
+    }
+    graph = detail::lent(graph);
+    return Reply(lg_import(graph.data(), graph.size()));
+}
+
+// Whether these bytes are what import_graph is for: mark, version and length are those of
+// a graph block of version 1. Of one with other faults import_graph says which.
+inline bool wants_import(Bytes graph) noexcept {
+    return !detail::is_null(graph) && detail::byte_at(graph, 0) == 'L'
+           && detail::byte_at(graph, 1) == 'G' && detail::byte_at(graph, 2) == 'T'
+           && detail::number16_at(graph, 4) == LG_IMPORTED_VERSION
+           && graph.size() == detail::record_at(detail::number16_at(graph, 6));
+}
+
+// How many input places and graph outputs name this slot, as the block itself says; 0
+// past its last slot. Of a graph that is not sound it says nothing of use.
+inline std::uint16_t stored_count(Bytes graph, std::size_t slot) noexcept {
+    const bool there = !detail::is_null(graph) && slot < detail::number16_at(graph, 6);
+    return static_cast<std::uint16_t>(
+        there ? detail::number16_at(graph, detail::record_at(slot) + 40) : 0U);
+}
+
 // What a place is a number of.
 enum class PlaceKind {
     none, // the reply names no place
@@ -457,11 +493,11 @@ namespace detail {
 // Whether some used input of this slot names no slot or an Empty one.
 inline bool reads_no_vertex(Bytes graph, std::size_t slot) noexcept {
     const unsigned slots = number16_at(graph, 6);
-    const std::size_t record = 24 + 48 * slot;
+    const std::size_t record = record_at(slot);
     const unsigned inputs = byte_at(graph, record + 2);
     for (std::size_t place = 0; place < inputs && place < 6; ++place) {
         const std::size_t named = number16_at(graph, record + 4 + 2 * place);
-        if (named >= slots || byte_at(graph, 24 + 48 * named) == 0) {
+        if (named >= slots || byte_at(graph, record_at(named)) == 0) {
             return true;
         }
     }
@@ -521,6 +557,7 @@ inline Place place_in(Reply reply, Bytes block) noexcept {
     switch (reply.code()) {
     case Code::bad_graph_record:
     case Code::graph_has_cycle:
+    case Code::bad_graph_count:
         return {PlaceKind::slot, place};
     case Code::bad_graph_name:
         // An output is given only where no slot at all has such an input.
