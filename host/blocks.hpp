@@ -1,5 +1,6 @@
 // Builders of blocks for the tests in C++. They write what they are told, sound
-// or not: counts follow from the lists, unused places are filled in.
+// or not: numbers of inputs and attributes follow from the lists, and the counts of a
+// graph's slots from all of them; unused places are filled in.
 #ifndef LEAFGRAPH_HOST_BLOCKS_HPP
 #define LEAFGRAPH_HOST_BLOCKS_HPP
 
@@ -7,6 +8,8 @@
 #include <cstdint>
 #include <initializer_list>
 #include <vector>
+
+#include "counts.h"
 
 namespace blocks {
 
@@ -74,7 +77,7 @@ void put_head(Block &block, const Record &record) {
 
 inline Block graph(const std::vector<Vertex> &slots, const std::vector<std::uint16_t> &outputs) {
     Block block = {'L', 'G', 'T', 0};
-    put(block, 1, 2);
+    put(block, 2, 2);
     put(block, static_cast<std::uint32_t>(slots.size()), 2);
     put(block, static_cast<std::uint32_t>(outputs.size()), 2);
     put_all(block, outputs, 4, 2, 65535);
@@ -86,6 +89,7 @@ inline Block graph(const std::vector<Vertex> &slots, const std::vector<std::uint
         put(block, 0, 4);
         put(block, 0, 4);
     }
+    put_counts(block.data());
     return block;
 }
 

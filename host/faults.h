@@ -50,11 +50,15 @@ struct rule_fault {
 #define IN_SLOT(slot, byte) (HEADER_LENGTH + RECORD_LENGTH * (slot) + (byte))
 #define SOUND_TABLE {{2, NO_OUTPUT}, {SEVEN, VARIABLE, SUM, EMPTY, EMPTY}}
 
+/* Both versions of the block have these. */
 static const struct graph_fault graph_faults[] = {
-    {"the version of a graph", SOUND_TABLE, {{4, 2}}, LG_BAD_GRAPH_HEADER, 0, NOTHING},
+    {"a version that is not there yet", SOUND_TABLE, {{4, 3}}, LG_BAD_GRAPH_HEADER, 0, NOTHING},
+    {"the high byte of a version", SOUND_TABLE, {{5, 1}}, LG_BAD_GRAPH_HEADER, 0, NOTHING},
     {"an unused output place", SOUND_TABLE, {{14, 0}}, LG_BAD_GRAPH_HEADER, 0, NOTHING},
     {"the last byte of a graph", SOUND_TABLE, {{IN_SLOT(4, 47), 1}},
      LG_BAD_GRAPH_RECORD, 4, SLOT},
+    {"the byte behind a count", SOUND_TABLE, {{IN_SLOT(2, 42), 1}},
+     LG_BAD_GRAPH_RECORD, 2, SLOT},
     {"the lower of two bad records", SOUND_TABLE, {{IN_SLOT(3, 0), 6}, {IN_SLOT(1, 3), 4}},
      LG_BAD_GRAPH_RECORD, 1, SLOT},
     {"the lower of two bad inputs", {{0, NO_OUTPUT}, {VARIABLE, EMPTY, EMPTY, RELU_2, RELU_1}},
@@ -79,6 +83,45 @@ static const struct graph_fault graph_faults[] = {
      {{IN_SLOT(4, 0), 6}}, LG_BAD_GRAPH_RECORD, 4, SLOT},
     {"an output before a cycle", {{0, 4}, {RELU_0, EMPTY, EMPTY, EMPTY, EMPTY}},
      {{0, 0}}, LG_BAD_GRAPH_NAME, 1, OUTPUT}
+};
+
+/* Only version 2 has these. In SOUND_TABLE the counts are 1, 1, 1, 0 and 0. */
+static const struct graph_fault count_faults[] = {
+    {"version 1, for all but an import", SOUND_TABLE, {{4, 1}},
+     LG_BAD_GRAPH_HEADER, 0, NOTHING},
+    {"a count that is too low", SOUND_TABLE, {{IN_SLOT(1, 40), 0}},
+     LG_BAD_GRAPH_COUNT, 1, SLOT},
+    {"an output that is not counted", SOUND_TABLE, {{IN_SLOT(2, 40), 0}},
+     LG_BAD_GRAPH_COUNT, 2, SLOT},
+    {"a count that is too high", SOUND_TABLE, {{IN_SLOT(0, 40), 2}},
+     LG_BAD_GRAPH_COUNT, 0, SLOT},
+    {"the high byte of a count", SOUND_TABLE, {{IN_SLOT(0, 41), 1}},
+     LG_BAD_GRAPH_COUNT, 0, SLOT},
+    {"the count of an Empty slot", SOUND_TABLE, {{IN_SLOT(4, 40), 1}},
+     LG_BAD_GRAPH_COUNT, 4, SLOT},
+    {"readers and not places", {{2, NO_OUTPUT}, {SEVEN, VARIABLE, TWICE, EMPTY, EMPTY}},
+     {{IN_SLOT(0, 40), 1}}, LG_BAD_GRAPH_COUNT, 0, SLOT},
+    {"outputs and not their places", {{2, 2}, {SEVEN, VARIABLE, SUM, EMPTY, EMPTY}},
+     {{IN_SLOT(2, 40), 1}}, LG_BAD_GRAPH_COUNT, 2, SLOT},
+    {"the lower of two wrong counts", SOUND_TABLE, {{IN_SLOT(3, 40), 1}, {IN_SLOT(1, 40), 9}},
+     LG_BAD_GRAPH_COUNT, 1, SLOT},
+    {"a record before a count", SOUND_TABLE, {{IN_SLOT(0, 40), 9}, {IN_SLOT(2, 42), 1}},
+     LG_BAD_GRAPH_RECORD, 2, SLOT},
+    {"a cycle before a count", {{0, NO_OUTPUT}, {VARIABLE, RELU_1, EMPTY, EMPTY, EMPTY}},
+     {{IN_SLOT(0, 40), 9}}, LG_GRAPH_HAS_CYCLE, 1, SLOT}
+};
+
+/* Only an import has these: it takes version 1 alone, and looks for no count there. */
+static const struct graph_fault import_faults[] = {
+    {"version 2, for an import", SOUND_TABLE, {{4, 2}}, LG_BAD_GRAPH_HEADER, 0, NOTHING},
+    {"version 0", SOUND_TABLE, {{4, 0}}, LG_BAD_GRAPH_HEADER, 0, NOTHING},
+    {"a true count in version 1", SOUND_TABLE, {{IN_SLOT(1, 40), 1}},
+     LG_BAD_GRAPH_RECORD, 1, SLOT},
+    {"the high byte of one", SOUND_TABLE, {{IN_SLOT(2, 41), 1}}, LG_BAD_GRAPH_RECORD, 2, SLOT},
+    {"the lower of two in version 1", SOUND_TABLE, {{IN_SLOT(4, 40), 1}, {IN_SLOT(3, 43), 1}},
+     LG_BAD_GRAPH_RECORD, 3, SLOT},
+    {"version 2 before its records", SOUND_TABLE, {{4, 2}, {IN_SLOT(0, 0), 6}},
+     LG_BAD_GRAPH_HEADER, 0, NOTHING}
 };
 
 /* In each of these rules there are three source vertices. */
@@ -129,6 +172,13 @@ static inline void put_changes(uint8_t *block, const struct change *changes) {
 /* Writes the refused block, TABLE_LENGTH bytes of a graph or rule_len of a rule. */
 static inline void put_graph_fault(uint8_t *block, const struct graph_fault *fault) {
     put_table(block, &fault->table);
+    put_changes(block, fault->changes);
+}
+
+/* The same as a block of version 1, for an import. */
+static inline void put_import_fault(uint8_t *block, const struct graph_fault *fault) {
+    put_table(block, &fault->table);
+    make_version_1(block);
     put_changes(block, fault->changes);
 }
 

@@ -29,6 +29,14 @@ std::size_t tidied(std::vector<unsigned char> &graph, std::vector<unsigned char>
     return squeezed && !squeezed.moves.was_empty(variable) ? squeezed.moves[variable] : variable;
 }
 
+// How many places name this slot of a graph that may be of version 1; 0 if it is refused.
+unsigned named(std::vector<unsigned char> &graph, std::size_t slot) {
+    if (leafgraph::wants_import(graph) && !leafgraph::import_graph(graph)) {
+        return 0;
+    }
+    return leafgraph::check_graph(graph) ? leafgraph::stored_count(graph, slot) : 0U;
+}
+
 // Whether both are sound, where neither may be there.
 bool sound(const void *graph, std::size_t graph_size, const void *rule, std::size_t rule_size) {
     return leafgraph::check_graph({graph, graph_size}).done()

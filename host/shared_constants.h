@@ -5,6 +5,7 @@
 
 #include <string.h>
 
+#include "counts.h"
 #include "leafgraph.h"
 
 enum { SLOTS = 5, HEADER_LENGTH = 24, RECORD_LENGTH = 48, NO_OUTPUT = 255 };
@@ -13,7 +14,7 @@ enum { TABLE_LENGTH = HEADER_LENGTH + RECORD_LENGTH * SLOTS };
 /* What a slot may hold here. SUM is add(1, 0), TWICE is add(0, 0), SUM_3_1 is add(3, 1). */
 enum { EMPTY, SEVEN, VARIABLE, SUM, TWICE, RELU_0, RELU_1, RELU_2, SUM_3_1 };
 
-/* In that order. What a row leaves out is zero. */
+/* In that order, before anything is counted. What a row leaves out is zero. */
 static const uint8_t records[][RECORD_LENGTH] = {
     {0, 0, 0, 0, 255, 255, 255, 255, 255, 255, 255, 255, 255, 255, 255, 255},
     {1, 0, 0, 1, 255, 255, 255, 255, 255, 255, 255, 255, 255, 255, 255, 255, 7},
@@ -93,10 +94,10 @@ static const struct constants_call constants_calls[] = {
      {{2, NO_OUTPUT}, {SEVEN, VARIABLE, TWICE, EMPTY, EMPTY}}}
 };
 
-/* Writes the graph block of a table, TABLE_LENGTH bytes. */
+/* Writes the graph block of a table, TABLE_LENGTH bytes, with true counts. */
 static inline void put_table(uint8_t *block, const struct table *table) {
     static const uint8_t header[HEADER_LENGTH] = {
-        'L', 'G', 'T', 0, 1, 0, SLOTS, 0, 1, 0, 0, 0, 255, 255, 255, 255, 255, 255
+        'L', 'G', 'T', 0, 2, 0, SLOTS, 0, 1, 0, 0, 0, 255, 255, 255, 255, 255, 255
     };
     size_t slot;
     memcpy(block, header, HEADER_LENGTH);
@@ -110,6 +111,7 @@ static inline void put_table(uint8_t *block, const struct table *table) {
         memcpy(block + HEADER_LENGTH + RECORD_LENGTH * slot, records[table->slots[slot]],
                RECORD_LENGTH);
     }
+    put_counts(block);
 }
 
 #endif

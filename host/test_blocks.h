@@ -6,6 +6,7 @@
 #include <string.h>
 
 #include "faults.h"
+#include "imports.h"
 #include "leafgraph.h"
 #include "shared_constants.h"
 #include "sweep_squeeze.h"
@@ -14,29 +15,32 @@
  * header, this would not compile. */
 enum { LG_BAD_GRAPH, LG_BAD_RULE };
 
-/* A graph of one slot: a Variable with the attributes 1 3 8 8 1, the output. */
+/* The six attributes of records, each in four bytes. */
+#define IMAGE_SIZE 1, 0, 0, 0, 3, 0, 0, 0, 8, 0, 0, 0, 8, 0, 0, 0, 1, 0, 0, 0, 0, 0, 0, 0
+#define FOUR_ONES 1, 0, 0, 0, 1, 0, 0, 0, 1, 0, 0, 0, 1, 0, 0, 0, 0, 0, 0, 0, 0, 0, 0, 0
+#define NO_ATTRIBUTES 0, 0, 0, 0, 0, 0, 0, 0, 0, 0, 0, 0, 0, 0, 0, 0, 0, 0, 0, 0, 0, 0, 0, 0
+
+/* A graph of one slot: a Variable with the attributes 1 3 8 8 1, the output. Its count
+ * is the first byte after them; what is left out is zero. */
 static const uint8_t one_variable[72] = {
-    'L', 'G', 'T', 0, 1, 0, 1, 0, 1, 0, 0, 0, 255, 255, 255, 255,
+    'L', 'G', 'T', 0, 2, 0, 1, 0, 1, 0, 0, 0, 255, 255, 255, 255,
     255, 255, 0, 0, 0, 0, 0, 0,
-    2, 0, 0, 5, 255, 255, 255, 255, 255, 255, 255, 255, 255, 255, 255, 255,
-    1, 0, 0, 0, 3, 0, 0, 0, 8, 0, 0, 0, 8, 0, 0, 0, 1, 0, 0, 0
+    2, 0, 0, 5, 255, 255, 255, 255, 255, 255, 255, 255, 255, 255, 255, 255, IMAGE_SIZE, 1
 };
 
 /* E1: slots 0, 1 Variable; 2 conv2d(0,1); 3 relu(2); 4 relu(3); 5 Empty;
- * output 4. What a row leaves out is zero. */
+ * output 4. Each vertex is named once, so that its count is 1. What a row leaves out is
+ * zero. */
 static const struct {
     uint8_t header[24];
     uint8_t slots[6][48];
 } e1 = {
-    {'L', 'G', 'T', 0, 1, 0, 6, 0, 1, 0, 4, 0, 255, 255, 255, 255, 255, 255},
-    {{2, 0, 0, 5, 255, 255, 255, 255, 255, 255, 255, 255, 255, 255, 255, 255,
-      1, 0, 0, 0, 3, 0, 0, 0, 8, 0, 0, 0, 8, 0, 0, 0, 1},
-     {2, 0, 0, 5, 255, 255, 255, 255, 255, 255, 255, 255, 255, 255, 255, 255,
-      1, 0, 0, 0, 3, 0, 0, 0, 8, 0, 0, 0, 8, 0, 0, 0, 1},
-     {3, 4, 2, 4, 0, 0, 1, 0, 255, 255, 255, 255, 255, 255, 255, 255,
-      1, 0, 0, 0, 1, 0, 0, 0, 1, 0, 0, 0, 1},
-     {3, 7, 1, 0, 2, 0, 255, 255, 255, 255, 255, 255, 255, 255, 255, 255},
-     {3, 7, 1, 0, 3, 0, 255, 255, 255, 255, 255, 255, 255, 255, 255, 255},
+    {'L', 'G', 'T', 0, 2, 0, 6, 0, 1, 0, 4, 0, 255, 255, 255, 255, 255, 255},
+    {{2, 0, 0, 5, 255, 255, 255, 255, 255, 255, 255, 255, 255, 255, 255, 255, IMAGE_SIZE, 1},
+     {2, 0, 0, 5, 255, 255, 255, 255, 255, 255, 255, 255, 255, 255, 255, 255, IMAGE_SIZE, 1},
+     {3, 4, 2, 4, 0, 0, 1, 0, 255, 255, 255, 255, 255, 255, 255, 255, FOUR_ONES, 1},
+     {3, 7, 1, 0, 2, 0, 255, 255, 255, 255, 255, 255, 255, 255, 255, 255, NO_ATTRIBUTES, 1},
+     {3, 7, 1, 0, 3, 0, 255, 255, 255, 255, 255, 255, 255, 255, 255, 255, NO_ATTRIBUTES, 1},
      {0, 0, 0, 0, 255, 255, 255, 255, 255, 255, 255, 255, 255, 255, 255, 255}}
 };
 
@@ -52,7 +56,7 @@ static const uint8_t p1_map[32] = {
 enum { MAP_LENGTH = 32, UNTOUCHED = 0xaa };
 
 /* What P1 leaves of E1: slot 3 is relu(2) as before, slot 4 is Empty as slot 5
- * is, and the output is slot 3. */
+ * is, and the output is slot 3. Each vertex is named once again. */
 static void put_e1_after_p1(uint8_t *block) {
     memcpy(block, &e1, sizeof e1);
     memcpy(block + 24 + 48 * 4, e1.slots[5], 48);
@@ -127,6 +131,7 @@ static int find_differs(const char *what, const uint8_t *graph, size_t graph_len
 
 /* P1 and P2, the edges of start, and each refusal before those that follow. */
 static int count_find_differences(void) {
+    uint8_t miscounted[sizeof e1];
     const uint8_t *graph = e1_block;
     const size_t all = sizeof e1, rule = sizeof two_relus, map = MAP_LENGTH;
     int count = 0;
@@ -137,6 +142,9 @@ static int count_find_differences(void) {
     count += find_differs("start 65536", graph, all, rule, 65536, map, LG_NO_MATCH);
     count += find_differs("last start", graph, all, rule, SIZE_MAX, map, LG_NO_MATCH);
     count += find_differs("short rule", graph, all, rule - 1, 9, map, LG_BAD_RULE_HEADER);
+    memcpy(miscounted, &e1, sizeof miscounted);
+    put_count(miscounted, 0, 2);
+    count += find_differs("wrong count", miscounted, all, rule - 1, 9, map, LG_BAD_GRAPH_COUNT);
     count += find_differs("short graph", graph, all - 1, rule - 1, 9, map, LG_BAD_GRAPH_HEADER);
     count += find_differs("short map", graph, all - 1, rule - 1, 9, map - 1,
                           LG_BAD_MAP_LENGTH);
@@ -159,6 +167,7 @@ static int rewrite_differs(const char *what, uint8_t output, size_t graph_len,
     memcpy(graph, &e1, sizeof e1);
     graph[sizeof e1] = UNTOUCHED;
     graph[10] = output;
+    put_counts(graph);
     memcpy(graph_after, graph, sizeof graph);
     memcpy(rule, two_relus, sizeof rule);
     if (expected == LG_DONE) {
@@ -350,6 +359,47 @@ static int count_squeeze_differences(void) {
     return count;
 }
 
+/* An import of a graph of SLOTS slots, which is refused or leaves `after`. What is past
+ * the graph must stay. */
+static int import_differs(const char *what, const uint8_t *graph, size_t graph_len,
+                          const uint8_t *after, unsigned number, uint32_t place) {
+    uint8_t lent[TABLE_LENGTH + 1];
+    int count;
+    memset(lent, UNTOUCHED, sizeof lent);
+    memcpy(lent, graph, TABLE_LENGTH);
+    count = differs_at(what, lg_import(lent, graph_len), number, place);
+    if (memcmp(lent, after, TABLE_LENGTH) != 0 || lent[TABLE_LENGTH] != UNTOUCHED) {
+        printf("%s: the imported graph is not what it should be\n", what);
+        count++;
+    }
+    return count;
+}
+
+/* What is imported is sound, and is not imported again. Before, it is for no other call. */
+static int count_import_differences(void) {
+    uint8_t before[TABLE_LENGTH], after[TABLE_LENGTH];
+    const size_t length = TABLE_LENGTH;
+    size_t call;
+    int count = 0;
+    for (call = 0; call < sizeof import_calls / sizeof import_calls[0]; call++) {
+        const char *what = import_calls[call].what;
+        put_import(before, after, &import_calls[call]);
+        count += differs(what, lg_check_graph(before, length), LG_BAD_GRAPH_HEADER);
+        count += import_differs(what, before, length, after, LG_DONE, 0);
+        count += differs(what, lg_check_graph(after, length), LG_DONE);
+        count += import_differs(what, after, length, after, LG_BAD_GRAPH_HEADER, 0);
+        count += import_differs(what, before, length - 1, before, LG_BAD_GRAPH_HEADER, 0);
+        count += import_differs(what, before, 0, before, LG_BAD_GRAPH_HEADER, 0);
+    }
+    return count;
+}
+
+static int import_fault_differs(const struct graph_fault *fault) {
+    uint8_t graph[TABLE_LENGTH];
+    put_import_fault(graph, fault);
+    return import_differs(fault->what, graph, sizeof graph, graph, fault->number, fault->place);
+}
+
 static int graph_fault_differs(const struct graph_fault *fault) {
     uint8_t graph[TABLE_LENGTH];
     put_graph_fault(graph, fault);
@@ -374,6 +424,13 @@ static int count_fault_differences(void) {
     int count = 0;
     for (fault = 0; fault < sizeof graph_faults / sizeof graph_faults[0]; fault++) {
         count += graph_fault_differs(&graph_faults[fault]);
+        count += import_fault_differs(&graph_faults[fault]);
+    }
+    for (fault = 0; fault < sizeof count_faults / sizeof count_faults[0]; fault++) {
+        count += graph_fault_differs(&count_faults[fault]);
+    }
+    for (fault = 0; fault < sizeof import_faults / sizeof import_faults[0]; fault++) {
+        count += import_fault_differs(&import_faults[fault]);
     }
     for (fault = 0; fault < sizeof rule_faults / sizeof rule_faults[0]; fault++) {
         count += rule_fault_differs(&rule_faults[fault]);

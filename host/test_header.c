@@ -8,7 +8,8 @@ int main(void) {
     int count = count_differences() + count_find_differences()
                 + count_rewrite_differences() + count_constants_differences()
                 + count_sweep_differences() + count_squeeze_differences()
-                + count_fault_differences() + count_helper_differences();
+                + count_import_differences() + count_fault_differences()
+                + count_helper_differences();
     if (count == 0) {
         puts("header test in C: no difference");
     }

@@ -10,7 +10,9 @@
 static_assert(LG_DONE == 0 && LG_BAD_MAP_LENGTH == 1 && LG_NO_MATCH == 4 && LG_NO_RESULT == 5
                   && LG_NO_ROOM == 6 && LG_CYCLE == 7, "numbers of document 01");
 static_assert(LG_BAD_GRAPH_HEADER == 20 && LG_BAD_GRAPH_RECORD == 21 && LG_BAD_GRAPH_NAME == 22
-                  && LG_GRAPH_HAS_CYCLE == 23, "numbers for a bad graph");
+                  && LG_GRAPH_HAS_CYCLE == 23 && LG_BAD_GRAPH_COUNT == 24,
+              "numbers for a bad graph");
+static_assert(LG_GRAPH_VERSION == 2 && LG_IMPORTED_VERSION == 1, "versions of a graph block");
 static_assert(LG_BAD_RULE_HEADER == 30 && LG_BAD_RULE_RECORD == 31 && LG_BAD_RULE_ORDER == 32
                   && LG_BAD_RULE_OUTPUTS == 33 && LG_BAD_RULE_EXPRESSION == 34,
               "numbers for a bad rule");
@@ -70,14 +72,25 @@ static int count_shifted_squeeze_differences() {
            + (list == shifted(moves, sizeof moves) ? 0 : 1);
 }
 
+static int count_shifted_import_differences() {
+    uint8_t before[TABLE_LENGTH], after[TABLE_LENGTH];
+    put_import(before, after, &import_calls[0]);
+    std::vector<uint8_t> graph = shifted(before, sizeof before);
+    const uint64_t reply = lg_import(graph.data() + 1, graph.size() - 1);
+    return differs("shifted import", reply, LG_DONE)
+           + (graph == shifted(after, sizeof after) ? 0 : 1);
+}
+
 int main() {
     const int count = count_differences() + count_find_differences()
                       + count_rewrite_differences() + count_constants_differences()
                       + count_sweep_differences() + count_squeeze_differences()
-                      + count_fault_differences() + count_helper_differences()
+                      + count_import_differences() + count_fault_differences()
+                      + count_helper_differences()
                       + count_shifted_differences() + count_shifted_find_differences()
                       + count_shifted_rewrite_differences()
-                      + count_shifted_squeeze_differences();
+                      + count_shifted_squeeze_differences()
+                      + count_shifted_import_differences();
     if (count == 0) {
         puts("header test in C++: no difference");
     }

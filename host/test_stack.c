@@ -12,6 +12,7 @@
 #include <stdlib.h>
 #include <string.h>
 
+#include "counts.h"
 #include "leafgraph.h"
 
 enum {
@@ -52,7 +53,7 @@ static void put_slot(size_t slot, const char head[4], unsigned input, unsigned l
  * match removes 15 vertices; with the Empty slot there is room for 16. */
 static void build_graph(void) {
     size_t slot;
-    memcpy(graph, "LGT\0\1\0\0\2\1\0\2\0\377\377\377\377\377\377", 18);
+    memcpy(graph, "LGT\0\2\0\0\2\1\0\2\0\377\377\377\377\377\377", 18);
     put_slot(0, "\3\7\1", SLOTS - 1, SLOTS - 1);
     put_slot(1, "\0\0\0", 0, 0);
     for (slot = 2; slot < SLOTS - 2; slot++) {
@@ -60,6 +61,7 @@ static void build_graph(void) {
     }
     put_slot(SLOTS - 2, "\3\16\1\1", SLOTS - 1, SLOTS - 1);
     put_slot(SLOTS - 1, "\2\0\0\5", 0, 0);
+    put_counts(graph);
 }
 
 static void put_pattern(uint8_t *record, const char head[4], size_t input, size_t last) {
@@ -127,7 +129,7 @@ static void *find_pair(void *reply) {
 }
 
 /* The graph is copied outside the call that is measured (show, show_cycles), here and
- * where it is swept or squeezed. */
+ * where it is swept, squeezed or imported. */
 static void *rewrite(void *reply) {
     uint8_t map[32];
     *(uint64_t *)reply = lg_rewrite(rewritten, sizeof rewritten, rule, sizeof rule, 0,
@@ -149,6 +151,11 @@ static void *sweep(void *reply) {
 
 static void *squeeze(void *reply) {
     *(uint64_t *)reply = lg_squeeze(rewritten, sizeof rewritten, moves, sizeof moves);
+    return NULL;
+}
+
+static void *import(void *reply) {
+    *(uint64_t *)reply = lg_import(rewritten, sizeof rewritten);
     return NULL;
 }
 
@@ -223,6 +230,7 @@ static int show_sweeps(void) {
     int wrong = show("sweeping a graph where the chain stays", sweep, PROMISED);
     graph[10] = (SLOTS - 1) % 256;
     graph[11] = (SLOTS - 1) / 256;
+    put_counts(graph);
     wrong += show("sweeping one where it goes", sweep, PROMISED);
     build_graph();
     return wrong;
@@ -262,6 +270,10 @@ int main(void) {
     wrong += show_cycles("rewriting one", rewrite, PROMISED_REWRITING);
     wrong += show_cycles("sweeping one", sweep, PROMISED);
     wrong += show_cycles("squeezing one", squeeze, PROMISED);
+    build_graph();
+    make_version_1(graph);
+    wrong += show("importing", import, PROMISED);
+    wrong += show_cycles("importing one with a cycle", import, PROMISED);
     if (wrong != 0) {
         puts("stack test: more than promised, or not the reply that was expected");
     }

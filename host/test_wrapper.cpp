@@ -6,6 +6,7 @@
 
 #include "blocks.hpp"
 #include "faults.h"
+#include "imports.h"
 #include "shared_constants.h"
 #include "sweep_squeeze.h"
 
@@ -15,6 +16,7 @@
 #include <string>
 #include <string_view>
 #include <thread>
+#include <utility>
 
 #if __cplusplus > 201703L
 #include <span>
@@ -245,10 +247,36 @@ void expect_refused_squeeze(const Block &graph, std::size_t length, Reply expect
     expect(moves.size() == 0 && moves[0] == Moves::no_slot, what);
 }
 
+// A block with a fault, of version 2, or of version 1 for an import.
+Block block_with(const graph_fault &fault) {
+    Block graph(TABLE_LENGTH);
+    put_graph_fault(graph.data(), &fault);
+    return graph;
+}
+
+Block version_1_with(const graph_fault &fault) {
+    Block graph(TABLE_LENGTH);
+    put_import_fault(graph.data(), &fault);
+    return graph;
+}
+
+// Those of every version, and those of version 2.
+std::vector<graph_fault> all_graph_faults() {
+    std::vector<graph_fault> faults(std::begin(graph_faults), std::end(graph_faults));
+    faults.insert(faults.end(), std::begin(count_faults), std::end(count_faults));
+    return faults;
+}
+
+// Those of every version, and those of an import.
+std::vector<graph_fault> all_import_faults() {
+    std::vector<graph_fault> faults(std::begin(graph_faults), std::end(graph_faults));
+    faults.insert(faults.end(), std::begin(import_faults), std::end(import_faults));
+    return faults;
+}
+
 void test_sweep_and_squeeze_refusals() {
-    for (const graph_fault &fault : graph_faults) {
-        Block graph(TABLE_LENGTH);
-        put_graph_fault(graph.data(), &fault);
+    for (const graph_fault &fault : all_graph_faults()) {
+        Block graph = block_with(fault);
         const Block before = graph;
         const Reply expected = leafgraph::check_graph(graph);
         expect(expected.bad_graph() && leafgraph::sweep(graph) == expected, fault.what);
@@ -261,6 +289,66 @@ void test_sweep_and_squeeze_refusals() {
         expect_refused_squeeze(graph, length, Reply(Code::bad_moves_length), "a bad list");
     }
     expect(!leafgraph::squeeze(WritableBytes(), WritableBytes()), "a refusal is no done");
+}
+
+// The version 1 block of a call, and what an import makes of it.
+std::pair<Block, Block> imported_blocks(const import_call &call) {
+    Block before(TABLE_LENGTH), after(TABLE_LENGTH);
+    put_import(before.data(), after.data(), &call);
+    return {before, after};
+}
+
+void test_import() {
+    for (const import_call &call : import_calls) {
+        const auto [before, after] = imported_blocks(call);
+        Block graph = before;
+        expect(leafgraph::check_graph(graph).code() == Code::bad_graph_header, call.what);
+        expect(leafgraph::wants_import(graph), "version 1 wants an import");
+        expect(leafgraph::import_graph(graph).done() && graph == after, call.what);
+        expect(leafgraph::check_graph(graph).done(), "what is imported is sound");
+        expect(!leafgraph::wants_import(graph), "and wants no other import");
+        expect(leafgraph::import_graph(graph) == Reply(Code::bad_graph_header) && graph == after,
+               "nor does it get one");
+    }
+    for (const graph_fault &fault : all_import_faults()) {
+        Block graph = version_1_with(fault);
+        const Block before = graph;
+        const Reply reply = leafgraph::import_graph(graph);
+        expect(reply.number() == fault.number && reply.place() == fault.place, fault.what);
+        expect(graph == before, "a refused import keeps every byte");
+    }
+}
+
+// What wants no import: other marks, versions and lengths, and what is no block at all.
+void test_what_wants_no_import() {
+    const Block graph = imported_blocks(import_calls[0]).first;
+    for (const std::size_t at : {0U, 1U, 2U, 4U, 5U, 6U, 7U}) {
+        Block other = graph;
+        other[at]++;
+        expect(!leafgraph::wants_import(other), "another byte of mark, version or length");
+    }
+    expect(!leafgraph::wants_import({graph.data(), graph.size() - 1}), "a byte too few");
+    expect(!leafgraph::wants_import({graph.data(), 7}), "a cut header");
+    expect(!leafgraph::wants_import(two_relus_rule()), "a rule");
+    Block faulty = graph;
+    faulty[23] = 1;
+    expect(leafgraph::wants_import(faulty), "another fault is the import's to tell");
+}
+
+void test_stored_counts() {
+    for (const import_call &call : import_calls) {
+        const Block graph = imported_blocks(call).second;
+        for (std::size_t slot = 0; slot < SLOTS; ++slot) {
+            expect(leafgraph::stored_count(graph, slot) == call.counts[slot], call.what);
+        }
+        expect(leafgraph::stored_count(graph, SLOTS) == 0, "past the last slot");
+        expect(leafgraph::stored_count(graph, SIZE_MAX) == 0, "far past it");
+    }
+    Block graph = two_relus_graph();
+    put_count(graph.data(), 1, 513);
+    expect(leafgraph::stored_count(graph, 1) == 513, "both bytes, true or not");
+    expect(leafgraph::stored_count({graph.data(), 24}, 1) == 0, "a block that is cut off");
+    expect(leafgraph::stored_count(Bytes(), 0) == 0, "no block");
 }
 
 // The same calls through every kind of buffer.
@@ -285,6 +373,9 @@ void test_kinds_of_buffer() {
     expect(leafgraph::moves_length(table) == sizeof list, "two bytes for each of three slots");
     expect(leafgraph::sweep(table).done(), "a swept array");
     expect(leafgraph::squeeze({table.data(), table.size()}, list).moves[1] == 1, "pointer, array");
+    make_version_1(table.data());
+    expect(leafgraph::wants_import(table) && leafgraph::import_graph(table).done(), "std::array");
+    expect(leafgraph::stored_count(table, 1) == 1, "the count of an array's slot");
 #if __cplusplus > 201703L
     Block copy = graph;
     expect(leafgraph::rewrite(std::span(copy), std::span<const std::uint8_t>(rule), 0,
@@ -292,6 +383,8 @@ void test_kinds_of_buffer() {
     expect(copy == one_relu_graph(), "the span was rewritten");
     expect(leafgraph::sweep(std::span(copy)).done(), "a swept span");
     expect(leafgraph::squeeze(std::span(copy), std::span(list)).done(), "squeezed spans");
+    make_version_1(copy.data());
+    expect(leafgraph::import_graph(std::span(copy)).done(), "an imported span");
 #endif
 }
 
@@ -314,6 +407,8 @@ void test_empty_buffers() {
     expect(leafgraph::squeeze(graph, {nullptr, 0}).reply.code() == Code::bad_moves_length,
            "a null list");
     expect(leafgraph::moves_length({nullptr, 0}) == 0, "no graph has no slots");
+    expect(leafgraph::import_graph({nullptr, 0}).bad_graph(), "a null graph to import");
+    expect(!leafgraph::wants_import({nullptr, 0}), "no graph wants no import");
 }
 
 void test_null_with_a_length() {
@@ -334,6 +429,9 @@ void test_null_with_a_length() {
     expect(leafgraph::squeeze(writable_null, map).reply.code() == Code::null_buffer, "graph");
     expect(leafgraph::squeeze(graph, writable_null).reply.code() == Code::null_buffer, "list");
     expect(leafgraph::moves_length(writable_null) == 0, "a null graph has no slots");
+    expect(leafgraph::import_graph(writable_null).code() == Code::null_buffer, "to import");
+    expect(!leafgraph::wants_import(null), "a null graph wants no import");
+    expect(leafgraph::stored_count(null, 0) == 0, "nor does it have a count");
     expect(graph == before, "the graph is as it came");
 }
 
@@ -400,14 +498,15 @@ void test_words() {
     std::set<std::string_view> texts;
     for (const Code code :
          {Code::done, Code::bad_map_length, Code::bad_graph_header, Code::bad_graph_record,
-          Code::bad_graph_name, Code::graph_has_cycle, Code::bad_rule_header,
-          Code::bad_rule_record, Code::bad_rule_order, Code::bad_rule_outputs,
-          Code::bad_rule_expression, Code::bad_moves_length, Code::no_match, Code::no_result,
-          Code::no_room, Code::cycle, Code::overlap, Code::null_buffer}) {
+          Code::bad_graph_name, Code::graph_has_cycle, Code::bad_graph_count,
+          Code::bad_rule_header, Code::bad_rule_record, Code::bad_rule_order,
+          Code::bad_rule_outputs, Code::bad_rule_expression, Code::bad_moves_length,
+          Code::no_match, Code::no_result, Code::no_room, Code::cycle, Code::overlap,
+          Code::null_buffer}) {
         texts.insert(leafgraph::what(code));
         expect(Reply(code).what() == std::string_view(leafgraph::what(code)), "the reply's words");
     }
-    expect(texts.size() == 18, "each code has words of its own");
+    expect(texts.size() == 19, "each code has words of its own");
     expect(texts.count(leafgraph::what(static_cast<Code>(200))) == 0, "an unknown number too");
     texts.clear();
     for (const PlaceKind kind : {PlaceKind::none, PlaceKind::slot, PlaceKind::output,
@@ -432,6 +531,7 @@ void test_numbers_of_faults() {
     static_assert(!has_bad_graph<Code>, "a caller that names it must not compile");
     static_assert(Reply(Code::bad_graph_header).number() == 20);
     static_assert(Reply(Code::graph_has_cycle).number() == 23);
+    static_assert(Reply(Code::bad_graph_count).number() == 24);
     static_assert(Reply(Code::bad_rule_header).number() == 30);
     static_assert(Reply(Code::bad_rule_expression).number() == 34);
     static_assert(Reply(Code::bad_moves_length).number() == 40);
@@ -458,12 +558,15 @@ void expect_place(const Fault &fault, Reply reply, const Block &block) {
 }
 
 void test_places() {
-    for (const graph_fault &fault : graph_faults) {
-        Block graph(TABLE_LENGTH);
-        put_graph_fault(graph.data(), &fault);
+    for (const graph_fault &fault : all_graph_faults()) {
+        const Block graph = block_with(fault);
         const Reply reply = leafgraph::check_graph(graph);
         expect(reply.bad_graph() && !reply.bad_rule(), fault.what);
         expect_place(fault, reply, graph);
+    }
+    for (const graph_fault &fault : all_import_faults()) {
+        Block graph = version_1_with(fault);
+        expect_place(fault, leafgraph::import_graph(graph), graph);
     }
     for (const rule_fault &fault : rule_faults) {
         Block rule(fault.rule_len);
@@ -513,16 +616,20 @@ void test_packed_replies() {
     static_assert(!std::is_convertible_v<Reply, bool>, "only where a condition is asked");
     static_assert(noexcept(leafgraph::rewrite(WritableBytes(), Bytes(), 0, WritableBytes())));
     static_assert(noexcept(leafgraph::sweep(WritableBytes())));
+    static_assert(noexcept(leafgraph::import_graph(WritableBytes())));
+    static_assert(noexcept(leafgraph::wants_import(Bytes())));
+    static_assert(noexcept(leafgraph::stored_count(Bytes(), 0)));
     static_assert(noexcept(leafgraph::squeeze(WritableBytes(), WritableBytes()).moves[0]));
     static_assert(!std::is_convertible_v<Squeezed, bool> && !std::is_convertible_v<Bytes, Moves>);
 }
 
-// Whether a sweep and a squeeze leave what they leave in other tests.
+// Whether an import, a sweep and a squeeze leave what they leave in other tests.
 bool tidied() {
     const squeeze_call &call = squeeze_calls[2]; // nothing of it is swept
     Block graph = block_of(call.before), list(MOVES_LENGTH);
-    return leafgraph::sweep(graph).done() && leafgraph::squeeze(graph, list).done()
-           && graph == block_of(call.after);
+    make_version_1(graph.data());
+    return leafgraph::import_graph(graph).done() && leafgraph::sweep(graph).done()
+           && leafgraph::squeeze(graph, list).done() && graph == block_of(call.after);
 }
 
 // One rule lent to all, and a graph, a map and a list for each thread.
@@ -556,6 +663,9 @@ int main() {
     test_sweep();
     test_squeeze();
     test_sweep_and_squeeze_refusals();
+    test_import();
+    test_what_wants_no_import();
+    test_stored_counts();
     test_kinds_of_buffer();
     test_empty_buffers();
     test_null_with_a_length();

@@ -1,6 +1,6 @@
 # The C header and the C++ wrapper, tried from C and C++.
 
-TEST_CALLS := host/faults.h host/shared_constants.h host/sweep_squeeze.h
+TEST_CALLS := host/counts.h host/faults.h host/imports.h host/shared_constants.h host/sweep_squeeze.h
 HEADER_TEST := host/test_blocks.h $(TEST_CALLS) include/leafgraph.h
 WRAPPER_TEST := host/test_wrapper.cpp host/blocks.hpp $(TEST_CALLS) $(HEADERS)
 BUILD_WRAPPER_TEST = $(CXX) $(CXX_WARNINGS) $(CXXFLAGS) -Iinclude -o $@ $< $(ARCHIVE) -lpthread
@@ -29,7 +29,7 @@ build/test_header_cpp: host/test_header.cpp $(HEADER_TEST) $(ARCHIVE) | build
 	$(CXX) -std=c++11 $(WARNINGS) $(CXXFLAGS) -Iinclude -o $@ $< $(ARCHIVE)
 
 # Measures a stack, so it needs threads.
-build/test_stack: host/test_stack.c include/leafgraph.h $(ARCHIVE) | build
+build/test_stack: host/test_stack.c host/counts.h include/leafgraph.h $(ARCHIVE) | build
 	$(CC) -std=c11 $(WARNINGS) $(CFLAGS) -Iinclude -o $@ $< $(ARCHIVE) -lpthread
 
 build/test_wrapper_17: CXXFLAGS += -std=c++17 -fno-exceptions -fno-rtti
@@ -73,6 +73,7 @@ plugin-symbols: | build
 		nm -C build/plugin.o > build/plugin.symbols; \
 		grep -q 'leafgraph::rewrite' build/plugin.symbols; \
 		grep -q 'leafgraph::squeeze' build/plugin.symbols; \
+		grep -q 'leafgraph::import_graph' build/plugin.symbols; \
 		if grep ' u ' build/plugin.symbols; then \
 			echo "plugin: these symbols of the wrapper keep a plugin from being unloaded"; \
 			exit 1; \
