@@ -34,7 +34,7 @@ std::vector<std::int32_t> list32(Fields block, std::size_t at, std::size_t count
 Slot read_slot(Fields block, std::size_t at) {
     return {static_cast<Kind>(block.number8(at)), block.number8(at + 1),
             list16(block, at + 4, block.number8(at + 2)),
-            list32(block, at + 16, block.number8(at + 3))};
+            list32(block, at + 16, block.number8(at + 3)), block.number16(at + 40)};
 }
 
 Pattern read_pattern(Fields block, std::size_t at) {

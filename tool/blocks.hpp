@@ -30,6 +30,7 @@ struct Slot {
     unsigned op; // the operator's number; 0 unless the kind is call
     std::vector<unsigned> inputs;
     std::vector<std::int32_t> attributes;
+    unsigned count; // of the input places and outputs that name it, as it is stored
 };
 
 struct Graph {

@@ -24,10 +24,12 @@ const std::vector<CommandForm> command_forms = {
     {"check-rule", Command::check_rule, {"RULE"}, 1, {}},
     {"match", Command::match, {"GRAPH", "RULE"}, 2, {"--start"}},
     {"rewrite", Command::rewrite, {"GRAPH", "RULE"}, 2,
-     {"--start", "-o", "--all", "--max", "--sweep", "--squeeze", "--moves", "--numbers"}},
-    {"sweep", Command::sweep, {"GRAPH"}, 1, {"-o", "--numbers"}},
-    {"squeeze", Command::squeeze, {"GRAPH"}, 1, {"-o", "--moves", "--numbers"}},
-    {"show", Command::show, {"FILE"}, 1, {"--numbers"}},
+     {"--start", "-o", "--all", "--max", "--sweep", "--squeeze", "--moves", "--numbers",
+      "--counts"}},
+    {"sweep", Command::sweep, {"GRAPH"}, 1, {"-o", "--numbers", "--counts"}},
+    {"squeeze", Command::squeeze, {"GRAPH"}, 1, {"-o", "--moves", "--numbers", "--counts"}},
+    {"import", Command::import_graph, {"GRAPH"}, 1, {"-o", "--numbers", "--counts"}},
+    {"show", Command::show, {"FILE"}, 1, {"--numbers", "--counts"}},
     {"dot", Command::dot, {"GRAPH", "RULE"}, 1, {"--start", "--svg", "-o"}},
 };
 
@@ -151,8 +153,10 @@ void check_options(const SortedWords &sorted) {
     if (sorted.has("--moves") && !sorted.asks(Command::squeeze, "--squeeze")) {
         throw sorted.slip("--moves is only for --squeeze");
     }
-    if (sorted.has("--numbers") && sorted.has("-o")) {
-        throw sorted.slip("--numbers is for the listing, and with -o there is none");
+    for (const std::string option : {"--numbers", "--counts"}) {
+        if (sorted.has(option) && sorted.has("-o")) {
+            throw sorted.slip(option + " is for the listing, and with -o there is none");
+        }
     }
     if (sorted.has("--start") && sorted.files.size() < 2) {
         throw sorted.slip("--start is only for a RULE");
@@ -211,6 +215,7 @@ CommandLine make_line(const SortedWords &sorted) {
     line.sweep = sorted.asks(Command::sweep, "--sweep");
     line.squeeze = sorted.asks(Command::squeeze, "--squeeze");
     line.numbers = sorted.has("--numbers");
+    line.counts = sorted.has("--counts");
     line.svg = sorted.has("--svg");
     return line;
 }

@@ -9,7 +9,7 @@
 
 namespace leafgraph::tool {
 
-enum class Command { check, check_rule, match, rewrite, sweep, squeeze, show, dot };
+enum class Command { check, check_rule, match, rewrite, sweep, squeeze, import_graph, show, dot };
 
 // A command with its files and options. An option that a command doesn't take
 // has its default here.
@@ -24,6 +24,7 @@ struct CommandLine {
     bool sweep = false;   // by an option, or since that is the command
     bool squeeze = false; // likewise
     bool numbers = false;
+    bool counts = false;
     bool svg = false;
 };
 

@@ -26,6 +26,12 @@ Operators operators(const CommandLine &line) {
     return line.numbers ? Operators::as_numbers : Operators::as_names;
 }
 
+// Prints a sound graph as the line says.
+void print_listing(const CommandLine &line, const Input &graph) {
+    print(graph_listing(read_graph(graph.bytes), operators(line),
+                        line.counts ? Counts::shown : Counts::left_out));
+}
+
 void check(const CommandLine &line) {
     const Input input = read_graph_file(line.files[0]);
     want_sound_graph(input);
@@ -89,7 +95,7 @@ void finish(const CommandLine &line, Input &graph, std::vector<std::string> repo
     if (line.out) {
         write_output(*line.out, graph.bytes);
     } else {
-        print(graph_listing(read_graph(graph.bytes), operators(line)));
+        print_listing(line, graph);
     }
     // Last, so that nothing is called done whose result could not be written.
     for (const std::string &report : reports) {
@@ -111,11 +117,21 @@ void tidy(const CommandLine &line) {
     finish(line, graph, {});
 }
 
+void import_block(const CommandLine &line) {
+    Input graph = read_graph_file(line.files[0]);
+    want_imported(import_graph(graph.bytes), graph);
+    const std::size_t slots = read_graph(graph.bytes).slots.size();
+    finish(line, graph, {"imported: version 1 is version 2 now, with counts for "
+                         + counted(slots, "slot", "slots")});
+}
+
 void show(const CommandLine &line) {
     const Input input = read_any_file(line.files[0]);
     if (starts_with(input, graph_mark)) {
         want_sound_graph(input);
-        print(graph_listing(read_graph(input.bytes), operators(line)));
+        print_listing(line, input);
+    } else if (line.counts && starts_with(input, rule_mark)) {
+        throw bad_usage("--counts is for a graph, and " + input.name + " is a rule", "show");
     } else if (starts_with(input, rule_mark)) {
         want_sound_rule(input);
         print(rule_text(read_rule(input.bytes), operators(line)));
@@ -161,6 +177,8 @@ void run_command(const CommandLine &line) {
     case Command::sweep:
     case Command::squeeze:
         return tidy(line);
+    case Command::import_graph:
+        return import_block(line);
     case Command::show:
         return show(line);
     case Command::dot:

@@ -77,7 +77,7 @@ Fault unless_equal(const std::string &what, long long is, long long wanted) {
     return unless(is == wanted, what, is, std::to_string(wanted));
 }
 
-Fault beginning_fault(const Fields &block, const std::string &mark) {
+Fault beginning_fault(const Fields &block, const std::string &mark, unsigned version) {
     std::string begins;
     for (std::size_t at = 0; at < mark.size(); ++at) {
         begins += static_cast<char>(block.number8(at));
@@ -85,7 +85,7 @@ Fault beginning_fault(const Fields &block, const std::string &mark) {
     return first_of({begins == mark ? "" : "the mark is " + hex(begins) + ", " + hex(mark) + " ("
                                                + mark + ") wanted",
                      unless_equal("byte 3", block.number8(3), 0),
-                     unless_equal("the version", block.number16(4), 1)});
+                     unless_equal("the version", block.number16(4), version)});
 }
 
 Fault cut_header_fault(const Fields &block, std::size_t header_length) {

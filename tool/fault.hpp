@@ -26,7 +26,7 @@ Fault unless(bool holds, const std::string &what, long long is, const std::strin
 Fault unless_equal(const std::string &what, long long is, long long wanted);
 
 // The fields with which both blocks begin: the mark, byte 3 and the version.
-Fault beginning_fault(const Fields &block, const std::string &mark);
+Fault beginning_fault(const Fields &block, const std::string &mark, unsigned version);
 
 // A block that ends before its header does. Nothing else can be said of it.
 Fault cut_header_fault(const Fields &block, std::size_t header_length);

@@ -6,6 +6,7 @@
 
 #include "blocks.hpp"
 #include "input.hpp"
+#include "text.hpp"
 
 namespace leafgraph::tool {
 namespace {
@@ -16,7 +17,8 @@ constexpr std::size_t places = 6; // for inputs, and for attributes
 constexpr std::size_t output_places = 4;
 constexpr unsigned unused_place = 65535;
 
-// The parts of a graph block, sound or not.
+// The parts of a graph block, sound or not. All of them are in the same place in both
+// versions.
 class GraphView {
 public:
     explicit GraphView(Bytes graph) : fields_(graph) {}
@@ -39,6 +41,7 @@ public:
     std::int32_t attribute(std::size_t slot, std::size_t place) const {
         return fields_.signed32(record(slot) + 12 + 4 * place);
     }
+    unsigned stored_count(std::size_t slot) const { return fields_.number16(record(slot) + 40); }
 
 private:
     std::size_t count(std::size_t at) const {
@@ -48,11 +51,11 @@ private:
     Fields fields_;
 };
 
-Fault header_fault(const GraphView &graph) {
+Fault header_fault(const GraphView &graph, unsigned version) {
     const Fields &fields = graph.fields();
     const unsigned slots = graph.slots(), outputs = graph.outputs();
     return first_of(
-        {cut_header_fault(fields, header_length), beginning_fault(fields, graph_mark),
+        {cut_header_fault(fields, header_length), beginning_fault(fields, graph_mark, version),
          unless(1 <= slots && slots <= 512, "N", slots, "1 to 512"),
          length_fault(fields.size(), largest_graph_block, "24 + 48 * " + std::to_string(slots),
                       graph.record(slots)),
@@ -68,14 +71,15 @@ Fault index_fault(const GraphView &graph, std::size_t slot) {
     return unless(!is_projection || index >= 1, "the index", index, "1 or more");
 }
 
-Fault record_fault(const GraphView &graph, std::size_t slot) {
+Fault record_fault(const GraphView &graph, std::size_t slot, unsigned version) {
+    const std::size_t zeros = version == LG_IMPORTED_VERSION ? 40 : 42; // behind a count
     const auto input = [&](std::size_t place) { return graph.input(slot, place); };
     const auto attribute = [&](std::size_t place) { return graph.attribute(slot, place); };
     return first_of(
         {head_fault(graph.fields(), graph.record(slot), "an Empty slot"),
          unused_fault("input place", graph.inputs(slot), places, input, unused_place),
          unused_fault("attribute", graph.attributes(slot) + 1, places + 1, attribute, 0),
-         index_fault(graph, slot), zeros_fault(graph.fields(), graph.record(slot), 40, 48)});
+         index_fault(graph, slot), zeros_fault(graph.fields(), graph.record(slot), zeros, 48)});
 }
 
 // What names a slot that is not there, or that holds no vertex.
@@ -158,21 +162,40 @@ Fault cycle_fault(const GraphView &graph, std::size_t slot) {
     return text;
 }
 
+// "the stored count is 5, 2 wanted: 1 input place and 1 output name it".
+Fault count_fault(const GraphView &graph, std::size_t slot) {
+    unsigned inputs = 0, outputs = 0;
+    for (std::size_t reader = 0; reader < graph.slots(); ++reader) {
+        for (std::size_t place = 0; place < graph.inputs(reader); ++place) {
+            inputs += graph.input(reader, place) == slot ? 1 : 0;
+        }
+    }
+    for (std::size_t place = 0; place < graph.outputs() && place < output_places; ++place) {
+        outputs += graph.output(place) == slot ? 1 : 0;
+    }
+    const Fault fault = unless_equal("the stored count", graph.stored_count(slot), inputs + outputs);
+    return fault.empty() ? ""
+                         : fault + ": " + counted(inputs, "input place", "input places") + " and "
+                               + counted(outputs, "output", "outputs") + " name it";
+}
+
 } // namespace
 
-Fault graph_fault(Reply reply, Bytes block) {
+Fault graph_fault(Reply reply, Bytes block, unsigned version) {
     const GraphView graph(block);
     const Place place = place_in(reply, block);
     switch (reply.code()) {
     case Code::bad_graph_header:
-        return header_fault(graph);
+        return header_fault(graph, version);
     case Code::bad_graph_record:
-        return record_fault(graph, place.number);
+        return record_fault(graph, place.number, version);
     case Code::bad_graph_name:
         return place.kind == PlaceKind::slot ? inputs_fault(graph, place.number)
                                              : output_fault(graph, place.number);
     case Code::graph_has_cycle:
         return cycle_fault(graph, place.number);
+    case Code::bad_graph_count:
+        return count_fault(graph, place.number);
     default:
         return "";
     }

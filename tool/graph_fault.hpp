@@ -8,8 +8,9 @@
 namespace leafgraph::tool {
 
 // What stands in the place that the reply gives for this block: "input 2 names slot 40,
-// which is Empty". It takes any bytes; empty if nothing is found wrong there.
-Fault graph_fault(Reply reply, Bytes graph);
+// which is Empty". The version is the one that the call takes. It takes any bytes; empty if
+// nothing is found wrong there.
+Fault graph_fault(Reply reply, Bytes graph, unsigned version);
 
 } // namespace leafgraph::tool
 

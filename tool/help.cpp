@@ -4,7 +4,7 @@ namespace leafgraph::tool {
 namespace {
 
 const char *const general =
-    R"(Checks graphs and rewriting rules, finds matches, rewrites and tidies graphs.
+    R"(Checks graphs and rules, finds matches, rewrites, tidies and imports graphs.
 
 usage: leafgraph COMMAND FILE... [OPTION...]
 
@@ -14,6 +14,7 @@ usage: leafgraph COMMAND FILE... [OPTION...]
   rewrite GRAPH RULE  rewrite a graph where the rule matches
   sweep GRAPH         empty the slots of what no output needs
   squeeze GRAPH       move what is in a graph to its lowest slots
+  import GRAPH        make a version 2 block of a version 1 block
   show FILE           print a graph or a rule as text
   dot GRAPH [RULE]    draw a graph, and where a rule matches it
   help [COMMAND]      print this, or more about a command
@@ -26,7 +27,7 @@ them.
 
 Standard output has only what is asked for: that a block is sound, a match, a
 text, a drawing or a block. Whatever else there is to say goes to standard error:
-why something is refused, and what a rewriting, a sweep or a squeeze did.
+why something is refused, and what was done to a graph.
 
 The exit status is
   0  if all is done; for 'rewrite --all' that is: no match is left
@@ -59,7 +60,8 @@ of the rule matches. If there is no match, the exit status is 3.
 
 const char *const rewrite =
     R"(usage: leafgraph rewrite GRAPH RULE [--start S] [--all [--max N]]
-                         [--sweep] [--squeeze [--moves FILE]] [-o OUT | --numbers]
+                         [--sweep] [--squeeze [--moves FILE]]
+                         [-o OUT | [--numbers] [--counts]]
 
 Rewrites GRAPH where RULE has its least match, and prints the new graph as text.
 What was done is said on standard error. The file GRAPH is not changed, unless
@@ -72,6 +74,7 @@ OUT is the same file; the file RULE can't be OUT.
   --squeeze  squeeze it after that: see 'help squeeze', for --moves too
   -o OUT     write the new block to OUT, '-' for standard output, and no text
   --numbers  print operators by number and not by name
+  --counts   print behind each slot how many inputs and outputs name it
 
 FILE and then OUT are replaced, each whole or not at all. If anything is refused,
 neither is written; nor if there is no match, for which the exit status is 3: then
@@ -80,7 +83,7 @@ graph is swept and squeezed as asked, FILE and OUT are written, and the exit
 status is 0. The old slots of --moves are those that the last rewriting has left.
 )";
 
-const char *const sweep = R"(usage: leafgraph sweep GRAPH [-o OUT | --numbers]
+const char *const sweep = R"(usage: leafgraph sweep GRAPH [-o OUT | [--numbers] [--counts]]
 
 Empties the slot of every vertex of GRAPH from which no output is reached, and
 prints the new graph as text. Variables stay, read or not, and so does the number
@@ -89,13 +92,14 @@ not changed, unless OUT is the same file.
 
   -o OUT     write the new block to OUT, '-' for standard output, and no text
   --numbers  print operators by number and not by name
+  --counts   print behind each slot how many inputs and outputs name it
 
 OUT is replaced whole or not at all, also where nothing had to go. If GRAPH is
 refused, it is not written, and the exit status is 1.
 )";
 
 const char *const squeeze =
-    R"(usage: leafgraph squeeze GRAPH [--moves FILE] [-o OUT | --numbers]
+    R"(usage: leafgraph squeeze GRAPH [--moves FILE] [-o OUT | [--numbers] [--counts]]
 
 Moves the vertices of GRAPH to its lowest slots, in their old order, and prints
 the new graph as text. Inputs and outputs follow, and the number of slots stays.
@@ -107,17 +111,37 @@ error. The file GRAPH is not changed, unless OUT is the same file.
                 bytes, the lower one first; not GRAPH or where the graph goes
   -o OUT        write the new block to OUT, '-' for standard output, and no text
   --numbers     print operators by number and not by name
+  --counts      print behind each slot how many inputs and outputs name it
 
 Nothing is swept: what nobody reads moves, too. FILE and then OUT are replaced,
 each whole or not at all, also where nothing had to move. If GRAPH is refused,
 neither is written, and the exit status is 1.
 )";
 
-const char *const show = R"(usage: leafgraph show FILE [--numbers]
+const char *const import_graph =
+    R"(usage: leafgraph import GRAPH [-o OUT | [--numbers] [--counts]]
+
+Makes a version 2 block of the version 1 block GRAPH, and prints it as text. The
+graph is the same: the block gets its new version, and for each slot the count of
+the inputs and outputs that name it. That it was done is said on standard error.
+The file GRAPH is not changed, unless OUT is the same file.
+
+  -o OUT     write the new block to OUT, '-' for standard output, and no text
+  --numbers  print operators by number and not by name
+  --counts   print behind each slot how many inputs and outputs name it
+
+OUT is replaced whole or not at all. If GRAPH is refused, it is not written, and
+the exit status is 1. A version 2 block is refused here, and a version 1 block by
+every other command.
+)";
+
+const char *const show = R"(usage: leafgraph show FILE [--numbers] [--counts]
 
 Prints a sound graph or rule as text. Inputs stand in [], attributes in {}.
 
   --numbers  print operators by number and not by name
+  --counts   print behind each slot how many inputs and outputs name it; not of a
+             rule, which has no such counts
 )";
 
 const char *const dot = R"(usage: leafgraph dot GRAPH [RULE [--start S]] [--svg] [-o OUT]
@@ -151,6 +175,8 @@ std::string command_help(Command command) {
         return sweep;
     case Command::squeeze:
         return squeeze;
+    case Command::import_graph:
+        return import_graph;
     case Command::show:
         return show;
     case Command::dot:

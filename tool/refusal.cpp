@@ -1,6 +1,7 @@
 #include "refusal.hpp"
 
 #include "failure.hpp"
+#include "fields.hpp"
 #include "graph_fault.hpp"
 #include "rule_fault.hpp"
 
@@ -17,6 +18,21 @@ std::string hint(const Input &input, const std::string &other_mark, const std::s
     return starts_with(input, other_mark) ? " (it begins as a " + other + " block does)" : "";
 }
 
+// A version 1 block where version 2 is wanted, or the other way round.
+std::string version_hint(Reply reply, const Input &graph, unsigned version) {
+    if (reply.code() != Code::bad_graph_header || !starts_with(graph, graph_mark)) {
+        return "";
+    }
+    if (version == LG_GRAPH_VERSION) {
+        return wants_import(graph.bytes)
+                   ? " (a version 1 block wants importing: leafgraph import GRAPH)"
+                   : "";
+    }
+    return Fields(graph.bytes).number16(4) == LG_GRAPH_VERSION
+               ? " (a version 2 block needs no import)"
+               : "";
+}
+
 // "slot 12: input 2 names slot 40, which is Empty". A refusal whose reason is not found,
 // as that of a later library might be, is told with the reply alone.
 std::string fault_words(Reply reply, const Input &input, const Fault &fault) {
@@ -29,24 +45,32 @@ std::string fault_words(Reply reply, const Input &input, const Fault &fault) {
                : std::string(what(place.kind)) + " " + std::to_string(place.number) + ": " + fault;
 }
 
+std::string refused_with(Reply reply) {
+    return "refused with reply " + std::to_string(reply.number()) + ": ";
+}
+
+// A refused graph, of which this version was wanted.
+std::string graph_refusal(Reply reply, const Input &graph, unsigned version) {
+    return graph.name + ": " + refused_with(reply)
+           + fault_words(reply, graph, graph_fault(reply, graph.bytes, version))
+           + hint(graph, rule_mark, "rule") + version_hint(reply, graph, version);
+}
+
 } // namespace
 
 std::string refusal_line(Reply reply, const Input &graph, const Input &rule) {
-    const std::string number = "reply " + std::to_string(reply.number());
     if (reply.code() == Code::no_match) {
-        return std::string(reply.what()) + " (" + number + ")";
+        return std::string(reply.what()) + " (reply " + std::to_string(reply.number()) + ")";
     }
-    const std::string refused = "refused with " + number + ": ";
     if (reply.bad_graph()) {
-        return graph.name + ": " + refused
-               + fault_words(reply, graph, graph_fault(reply, graph.bytes))
-               + hint(graph, rule_mark, "rule");
+        return graph_refusal(reply, graph, LG_GRAPH_VERSION);
     }
     if (reply.bad_rule()) {
-        return rule.name + ": " + refused + fault_words(reply, rule, rule_fault(reply, rule.bytes))
+        return rule.name + ": " + refused_with(reply)
+               + fault_words(reply, rule, rule_fault(reply, rule.bytes))
                + hint(rule, graph_mark, "graph");
     }
-    return refused + reply.what();
+    return refused_with(reply) + reply.what();
 }
 
 void want_done(Reply reply, const Input &graph, const Input &rule) {
@@ -61,6 +85,12 @@ void want_done(Reply reply, const Input &graph, const Input &rule) {
 // never named.
 void want_done(Reply reply, const Input &block) {
     want_done(reply, block, block);
+}
+
+void want_imported(Reply reply, const Input &graph) {
+    if (!reply.done()) {
+        throw Failure(Status::refused, {graph_refusal(reply, graph, LG_IMPORTED_VERSION)});
+    }
 }
 
 void want_sound_graph(const Input &graph) {

@@ -17,6 +17,7 @@ std::string refusal_line(Reply reply, const Input &graph, const Input &rule);
 // input it is the reply of a call that takes no graph and rule together.
 void want_done(Reply reply, const Input &graph, const Input &rule);
 void want_done(Reply reply, const Input &block);
+void want_imported(Reply reply, const Input &graph); // of an import, which takes version 1
 void want_sound_graph(const Input &graph);
 void want_sound_rule(const Input &rule);
 

@@ -41,7 +41,7 @@ Fault header_fault(const RuleView &rule) {
     const Fields &fields = rule.fields();
     const unsigned sources = rule.sources(), outputs = rule.outputs();
     return first_of({cut_header_fault(fields, RuleView::header_length),
-                     beginning_fault(fields, rule_mark),
+                     beginning_fault(fields, rule_mark, 1),
                      unless(1 <= sources && sources <= 16, "S", sources, "1 to 16"),
                      unless(rule.targets() <= 16, "T", rule.targets(), "0 to 16"),
                      unless(1 <= outputs && outputs <= 2, "K", outputs, "1 or 2"),

@@ -35,12 +35,16 @@ def call(op, inputs, attributes=()):
     return vertex(CALL, op, inputs, attributes)
 
 
-def graph(slots, outputs):
-    block = struct.pack("<4sHHH4H6x", b"LGT", 1, len(slots), len(outputs),
+def graph(slots, outputs, version=2):
+    """Version 2 has in each slot the count of the places that name it; in version 1 there
+    are zeros."""
+    named = list(outputs) + [number for _, _, inputs, _ in slots for number in inputs]
+    block = struct.pack("<4sHHH4H6x", b"LGT", version, len(slots), len(outputs),
                         *padded(outputs, 4, 65535))
-    for kind, op, inputs, attributes in slots:
-        block += struct.pack("<4B6H6i8x", kind, op, len(inputs), len(attributes),
-                             *padded(inputs, 6, 65535), *padded(attributes, 6, 0))
+    for slot, (kind, op, inputs, attributes) in enumerate(slots):
+        block += struct.pack("<4B6H6iH6x", kind, op, len(inputs), len(attributes),
+                             *padded(inputs, 6, 65535), *padded(attributes, 6, 0),
+                             named.count(slot) if version == 2 else 0)
     return block
 
 
@@ -83,6 +87,8 @@ def p7_rule():
 E1 = [IMAGE, IMAGE, call(CONV2D, [0, 1], [1, 1, 1, 1]), call(RELU, [2]), call(RELU, [3]), EMPTY]
 E1_BLOCK = graph(E1, [4])
 TWO_RELUS = rule([WILDCARD, call(RELU, [0]), call(RELU, [1])], [2], [call(RELU, [0])], [16])
+
+COUNTED = [IMAGE, call(ADD, [0, 0]), call(RELU, [1]), EMPTY]
 
 LARGEST = graph([IMAGE] + [call(RELU, [slot]) for slot in range(511)], [511, 0, 0, 510])
 LARGEST_RULE = rule([WILDCARD] + [call(RELU, [below]) for below in range(15)], [15],
@@ -173,6 +179,15 @@ BLOCKS = {
     # Two gains that become one, a relu that no output needs, and an unread Variable.
     "dead-relu.lgt": graph([IMAGE, call(GAIN, [0], [2] * 3), call(GAIN, [1], [3] * 3),
                             call(RELU, [0]), IMAGE], [2]),
+    # Blocks of version 1: E1, the largest and the least.
+    "e1-version-1.lgt": graph(E1, [4], version=1),
+    "largest-version-1.lgt": graph([IMAGE] + [call(RELU, [slot]) for slot in range(511)],
+                                   [511, 0, 0, 510], version=1),
+    "one-version-1.lgt": graph([IMAGE], [0], version=1),
+    # Places count: two inputs of one reader, an output that is named twice, a reader that
+    # no output needs.
+    "counts.lgt": graph(COUNTED, [1, 1]),
+    "counts-version-1.lgt": graph(COUNTED, [1, 1], version=1),
     # Every vertex stands in a higher slot than it could; the outputs are all four.
     "high.lgt": graph([EMPTY, call(ADD, [4, 2]), IMAGE, EMPTY, const(9)], [1, 4, 2, 1]),
     # No block at all.

@@ -2,8 +2,10 @@
 with several. A name begins with the number of the reply that its block gets.
 """
 
-from blocks import (ADD, ANY, CONST, E1, E1_BLOCK, EMPTY, GAIN, IMAGE, PROJ, RELU, TUPLE, TWO_RELUS,
-                    VARIABLE, WILDCARD, ZERO, call, const, graph, rule, vertex)
+from blocks import (ADD, ANY, BLOCKS, CONST, E1, E1_BLOCK, EMPTY, GAIN, IMAGE, PROJ, RELU, TUPLE,
+                    TWO_RELUS, VARIABLE, WILDCARD, ZERO, call, const, graph, rule, vertex)
+
+COUNTED_BLOCK, E1_VERSION_1 = BLOCKS["counts.lgt"], BLOCKS["e1-version-1.lgt"]
 
 
 def damaged(block, changes):
@@ -37,7 +39,7 @@ GRAPH_HEADERS = {
     "20-cut.lgt": E1_BLOCK[:23],
     "20-mark.lgt": damaged(E1_BLOCK, {2: ord("t")}),
     "20-byte-3.lgt": damaged(E1_BLOCK, {3: 1}),
-    "20-version.lgt": damaged(E1_BLOCK, {4: 2}),
+    "20-version.lgt": damaged(E1_BLOCK, {4: 3}),
     "20-no-slots.lgt": damaged(E1_BLOCK, {6: 0}),
     "20-slots.lgt": damaged(E1_BLOCK, {6: 1, 7: 2}),
     "20-no-outputs.lgt": damaged(E1_BLOCK, {8: 0}),
@@ -59,7 +61,8 @@ GRAPH_RECORDS = {
     "21-empty-input.lgt": e1_with(5, {4: 0}),
     "21-unused-attribute.lgt": e1_with(4, {16: 254, 17: 255, 18: 255, 19: 255}),
     "21-index.lgt": e1_reading({3: vertex(PROJ, 0, [2], [-3])}),
-    "21-byte-41.lgt": e1_with(0, {41: 1}),
+    "21-byte-42.lgt": e1_with(0, {42: 1}),
+    "21-byte-47.lgt": e1_with(5, {47: 1}),
 }
 
 GRAPH_NAMES = {
@@ -84,6 +87,30 @@ CYCLES = {
                               call(RELU, [0])], [0]),
 }
 
+# In E1 each vertex has the count 1, and the Empty slot the count 0.
+WRONG_COUNTS = {
+    "24-low.lgt": e1_with(2, {40: 0}),
+    "24-high.lgt": e1_with(4, {40: 5}),
+    "24-high-byte.lgt": e1_with(0, {41: 1}),
+    "24-empty.lgt": e1_with(5, {40: 1}),
+    # Readers and outputs, where places have to be counted.
+    "24-readers.lgt": damaged(COUNTED_BLOCK, {24 + 40: 1}),
+    "24-outputs.lgt": damaged(COUNTED_BLOCK, {24 + 48 + 40: 2}),
+}
+
+# What an import refuses: these are of version 1.
+IMPORTS = {
+    "20-import-version-3.lgt": damaged(E1_VERSION_1, {4: 3}),
+    "20-import-short.lgt": E1_VERSION_1[:-1],
+    "20-import-byte-19.lgt": damaged(E1_VERSION_1, {19: 1}),
+    "21-import-count.lgt": damaged(E1_VERSION_1, {24 + 48 + 40: 1}),
+    "21-import-high-byte.lgt": damaged(E1_VERSION_1, {24 + 48 + 41: 1}),
+    "21-import-kind.lgt": damaged(E1_VERSION_1, {24 + 48 * 2: 9}),
+    "22-import-past.lgt": damaged(E1_VERSION_1, {24 + 48 * 3 + 4: 6}),
+    "22-import-output.lgt": damaged(E1_VERSION_1, {10: 5}),
+    "23-import.lgt": damaged(E1_VERSION_1, {24 + 48 * 3 + 4: 4}),
+}
+
 # The lowest of one kind; then the first kind, wherever its fault stands.
 SEVERAL_GRAPHS = {
     "21-several.lgt": e1_reading({2: vertex(9), 3: vertex(8), 4: vertex(7)}),
@@ -95,6 +122,8 @@ SEVERAL_GRAPHS = {
                                          2: call(RELU, [5])}, [5]), {19: 1}),
     "21-of-all.lgt": e1_reading({0: call(RELU, [0]), 1: call(RELU, [5]), 3: vertex(9)}, [5]),
     "22-of-all.lgt": e1_reading({0: call(RELU, [0]), 3: call(RELU, [5])}),
+    "23-of-all.lgt": damaged(e1_reading({3: call(RELU, [3])}), {24 + 40: 9}),
+    "24-several.lgt": damaged(E1_BLOCK, {24 + 48 * 4 + 40: 9, 24 + 48 + 40: 0}),
 }
 
 
@@ -210,6 +239,6 @@ SEVERAL_RULES = {
     "33-of-all.lgr": two_relus(outputs=([2], [1]), nodes=[(9, 0, 0, 0)]),
 }
 
-FAULTS = {**GRAPH_HEADERS, **GRAPH_RECORDS, **GRAPH_NAMES, **CYCLES, **SEVERAL_GRAPHS,
-          **RULE_HEADERS, **RULE_RECORDS, **ORDERS, **RULE_OUTPUTS, **NODES, **USES,
-          **SEVERAL_RULES}
+FAULTS = {**GRAPH_HEADERS, **GRAPH_RECORDS, **GRAPH_NAMES, **CYCLES, **WRONG_COUNTS,
+          **IMPORTS, **SEVERAL_GRAPHS, **RULE_HEADERS, **RULE_RECORDS, **ORDERS,
+          **RULE_OUTPUTS, **NODES, **USES, **SEVERAL_RULES}

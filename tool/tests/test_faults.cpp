@@ -1,8 +1,9 @@
 // Holds what the tool says of refused blocks against the library: test_faults FILE...
 //
-// The files are sound blocks. Each is damaged again and again, and for each reply of the
-// library there must be words for the fault in its place, and none for a fault that the
-// library would have given before it: neither of an earlier kind nor in a lower place.
+// The files are sound blocks, or graphs of version 1 that can be imported. Each is damaged
+// again and again, and for each reply of the library there must be words for the fault in its
+// place, and none for a fault that the library would have given before it: neither of an
+// earlier kind nor in a lower place.
 
 #include <cstdio>
 #include <exception>
@@ -72,26 +73,40 @@ void expect_agreement(Say say, const std::vector<Code> &kinds, std::size_t place
     }
 }
 
-void note(Reply reply, PlaceKind kind) {
-    seen[std::to_string(reply.number()) + " " + what(kind)]++;
+void note(Reply reply, PlaceKind kind, const std::string &call = "") {
+    seen[call + std::to_string(reply.number()) + " " + what(kind)]++;
 }
 
-void try_graph(const Block &graph) {
-    const Reply reply = check_graph(graph);
+// A graph of which the library said this, where it wanted this version.
+void expect_graph_words(const Block &graph, Reply reply, unsigned version) {
     const PlaceKind kind = place_in(reply, graph).kind;
-    const auto say = [&](Reply asked) { return graph_fault(asked, graph); };
+    const auto say = [&](Reply asked) { return graph_fault(asked, graph, version); };
     const std::size_t slots = Fields(graph).number16(6);
+    std::vector<Code> kinds = {Code::bad_graph_header, Code::bad_graph_record,
+                               Code::bad_graph_name, Code::graph_has_cycle};
+    if (version == LG_GRAPH_VERSION) {
+        kinds.push_back(Code::bad_graph_count);
+    }
     // Where a slot has a bad input, an output with a lower number may be bad, too.
     const bool is_input = reply.code() == Code::bad_graph_name && kind == PlaceKind::slot;
-    expect_agreement(say,
-                     {Code::bad_graph_header, Code::bad_graph_record, Code::bad_graph_name,
-                      Code::graph_has_cycle},
-                     slots, reply, !is_input);
+    expect_agreement(say, kinds, slots, reply, !is_input);
     for (std::size_t slot = 0; is_input && slot < reply.place(); ++slot) {
         expect(place_in(reply_of(reply.code(), slot), graph).kind != PlaceKind::slot,
                "a slot before the one that is given");
     }
-    note(reply, kind);
+    note(reply, kind, version == LG_IMPORTED_VERSION ? "import " : "");
+}
+
+void try_graph(const Block &graph) {
+    expect_graph_words(graph, check_graph(graph), LG_GRAPH_VERSION);
+}
+
+// What was imported is not the block that was damaged.
+void try_import(const Block &graph) {
+    Block lent = graph;
+    const Reply reply = import_graph(lent);
+    expect_graph_words(graph, reply, LG_IMPORTED_VERSION);
+    expect(!reply.done() || check_graph(lent).done(), "what is imported is sound");
 }
 
 void try_rule(const Block &rule) {
@@ -137,13 +152,15 @@ Block read_file(const char *name) {
 void try_file(const char *name) {
     std::mt19937 random(2);
     const Block sound = read_file(name);
-    const bool is_graph = check_graph(sound).done();
-    expect(is_graph || check_rule(sound).done(), std::string(name) + " is sound");
+    Block lent = sound;
+    const bool is_graph = check_graph(sound).done(), is_old = import_graph(lent).done();
+    expect(is_graph || is_old || check_rule(sound).done(), std::string(name) + " is sound");
     for (int time = 0; failures == 0 && time < times_each; ++time) {
         const Block block = damaged(sound, random);
-        is_graph ? try_graph(block) : try_rule(block);
+        is_graph ? try_graph(block) : is_old ? try_import(block) : try_rule(block);
         // Nor do the words for the other kind of block need anything of the bytes.
-        graph_fault(reply_of(Code::graph_has_cycle, random() % 8), block);
+        graph_fault(reply_of(Code::graph_has_cycle, random() % 8), block, LG_GRAPH_VERSION);
+        graph_fault(reply_of(Code::bad_graph_count, random() % 8), block, LG_GRAPH_VERSION);
         rule_fault(reply_of(Code::bad_rule_outputs, 0), block);
         rule_fault(reply_of(Code::bad_rule_expression, random() % 8), block);
     }
@@ -152,6 +169,8 @@ void try_file(const char *name) {
 // Every number, and both kinds of place of the two that have two.
 void expect_all_seen() {
     for (const char *reply : {"20 no place", "21 slot", "22 slot", "22 output", "23 slot",
+                              "24 slot", "import 20 no place", "import 21 slot",
+                              "import 22 slot", "import 22 output", "import 23 slot",
                               "30 no place", "31 source vertex", "31 target vertex",
                               "32 source vertex", "33 no place", "34 node", "34 source vertex",
                               "34 target vertex"}) {
