@@ -1,12 +1,17 @@
 """Assembles readable graphs and rules into the blocks that leafgraph takes.
 
-Usage: assemble.py FOLDER SOURCE...
+Usage: assemble.py [--version-1] FOLDER SOURCE...
 
 Writes FOLDER/NAME.lgt for each source NAME.txt that is a graph, FOLDER/NAME.lgr
-for each one that is a rule. Only the text's form is judged here; whether a block
-is sound is for the library to say. The form is described in README.md.
+for each one that is a rule. A graph block has the true count of each slot. With
+--version-1 graphs are written as version 1, which has no counts and wants importing,
+to FOLDER/NAME_version_1.lgt.
+
+Only the text's form is judged here; whether a block is sound is for the library to
+say. The form is described in README.md.
 """
 
+import collections
 import re
 import struct
 import sys
@@ -23,6 +28,7 @@ BYTE, WORD, SIGNED = (0, 255), (0, 65535), (-2**31, 2**31 - 1)
 RULE_INPUT, TARGET_VERTEX = (0, 15), (0, 239)  # places hold 0 to 15, or 16 and more
 NO_SLOT, NO_PLACE = 65535, 255
 INPUTS = ATTRIBUTES = 6
+WITH_COUNTS, WITHOUT_COUNTS = 2, 1  # the versions of a graph block
 
 VERTEX = re.compile(r"(\S+) ([a-z]+)(?: (\w+))? \[([^][{}]*)\] \{([^][{}]*)\}")
 NUMBER = re.compile(r"0|-?[1-9][0-9]*")
@@ -137,41 +143,53 @@ def parse_vertex(line, words):
 
 # ---- graphs
 
-def slot_record(vertex):
+def inputs_of(vertex):
+    return [number_in(WORD, word, vertex.line) for word in vertex.inputs]
+
+
+def slot_record(vertex, count):
     """The 48 bytes of a slot."""
-    inputs = [number_in(WORD, word, vertex.line) for word in vertex.inputs]
+    inputs = inputs_of(vertex)
     attributes = [number_in(SIGNED, word, vertex.line) for word in vertex.attributes]
-    return struct.pack("<BBBB6H6i8x", vertex.kind, vertex.operator, len(inputs), len(attributes),
-                       *padded(inputs, INPUTS, NO_SLOT, vertex.line),
-                       *padded(attributes, ATTRIBUTES, 0, vertex.line))
+    return struct.pack("<BBBB6H6iH6x", vertex.kind, vertex.operator, len(inputs),
+                       len(attributes), *padded(inputs, INPUTS, NO_SLOT, vertex.line),
+                       *padded(attributes, ATTRIBUTES, 0, vertex.line), count)
 
 
-def take_slots(lines, count):
-    """The records of all slots; those that no line names are Empty."""
-    empty = slot_record(Vertex(0, 0, 0, [], []))
-    records = []
+def take_slots(lines, slots):
+    """The vertices of all slots; those that no line names are Empty."""
+    empty = Vertex(0, 0, 0, [], [])
+    vertices = []
     while lines.next()[1][:1] != ["out"]:
         line, words = lines.take()
         slot, vertex = parse_vertex(line, words)
         if vertex.kind == KINDS["wildcard"]:
             raise Fault(line, "a graph has no wildcard")
-        if not len(records) <= slot < count:
-            raise Fault(line, f"slot {slot} does not ascend below {count}")
-        records += [empty] * (slot - len(records)) + [slot_record(vertex)]
-    return records + [empty] * (count - len(records))
+        if not len(vertices) <= slot < slots:
+            raise Fault(line, f"slot {slot} does not ascend below {slots}")
+        vertices += [empty] * (slot - len(vertices)) + [vertex]
+    return vertices + [empty] * (slots - len(vertices))
 
 
-def graph_block(lines):
+def counts_of(vertices, outputs):
+    """How many input places and outputs name each slot. No sound graph has more than fit."""
+    named = collections.Counter(outputs)
+    for vertex in vertices:
+        named.update(inputs_of(vertex))
+    return [min(named[slot], WORD[1]) for slot in range(len(vertices))]
+
+
+def graph_block(lines, version):
     line, words = lines.expect("graph")
     if len(words) != 1:
         raise Fault(line, "'graph' has one number, that of its slots")
-    count = number_in(WORD, words[0], line)
-    records = take_slots(lines, count)
+    vertices = take_slots(lines, number_in(WORD, words[0], line))
     line, words = lines.expect("out")
     outputs = [number_in(WORD, word, line) for word in words]
-    header = struct.pack("<3sxHHH4H6x", b"LGT", 1, count, len(outputs),
+    header = struct.pack("<3sxHHH4H6x", b"LGT", version, len(vertices), len(outputs),
                          *padded(outputs, 4, NO_SLOT, line))
-    return header + b"".join(records)
+    counts = counts_of(vertices, outputs) if version == WITH_COUNTS else [0] * len(vertices)
+    return header + b"".join(map(slot_record, vertices, counts))
 
 
 # ---- rules
@@ -258,34 +276,37 @@ def rule_block(lines):
 
 # ---- files
 
-def assemble(text):
-    """The suffix of a source's block, and its bytes."""
+def assemble(text, version=WITH_COUNTS):
+    """The suffix of a source's block, and its bytes; the version is that of a graph."""
     lines = Lines(text)
     if lines.next()[1][:1] == ["rule"]:
         return ".lgr", rule_block(lines)
-    block = graph_block(lines)
+    block = graph_block(lines, version)
     line, words = lines.next()
     if words:
         raise Fault(line, "nothing may follow the outputs")
-    return ".lgt", block
+    return (".lgt" if version == WITH_COUNTS else "_version_1.lgt"), block
 
 
-def write_block(folder, source):
+def write_block(folder, source, version):
     """Assembles one file; gives the file written."""
-    suffix, block = assemble(source.read_text(encoding="utf-8"))
+    suffix, block = assemble(source.read_text(encoding="utf-8"), version)
     path = folder / (source.stem + suffix)
     path.write_bytes(block)
     return path
 
 
 def main(arguments):
+    version = WITHOUT_COUNTS if arguments[:1] == ["--version-1"] else WITH_COUNTS
+    if version == WITHOUT_COUNTS:
+        del arguments[0]
     if len(arguments) < 2:
         sys.exit(__doc__.strip())
     folder, *sources = map(Path, arguments)
     folder.mkdir(parents=True, exist_ok=True)
     for source in sources:
         try:
-            write_block(folder, source)
+            write_block(folder, source, version)
         except (Fault, OSError, UnicodeDecodeError) as fault:
             sys.exit(f"{source}: {fault}")
 

@@ -12,6 +12,7 @@ BUILD_EXAMPLE = $(CXX) -std=c++17 $(CXX_WARNINGS) $(CXXFLAGS) -Iinclude -I. -o $
 # are committed, so that nobody needs to.
 blocks:
 	$(PYTHON) -B examples/assemble.py examples/blocks examples/source/*.txt
+	$(PYTHON) -B examples/assemble.py --version-1 examples/blocks examples/source/leaf_pipeline.txt
 	$(PYTHON) -B examples/worked_examples.py
 
 demo: build/leaf_demo
