@@ -34,7 +34,9 @@ int main(int count, char **arguments) {
         for (int file = 1; file < count; file++) {
             const demo::Block block = demo::read_file(arguments[file]);
             const leafgraph::Reply reply = checked(arguments[file], block);
-            std::printf("%s: %s\n", arguments[file], demo::in_words(reply, block).c_str());
+            const bool old = !reply && leafgraph::wants_import(block);
+            std::printf("%s: %s%s\n", arguments[file], demo::in_words(reply, block).c_str(),
+                        old ? " (version 1: it wants importing)" : "");
             sound = sound && reply.done();
         }
     } catch (const std::exception &fault) {

@@ -1,5 +1,5 @@
-// Rewrites the leaf pipeline by six rules, sweeps and squeezes it, and shows that the
-// number, which is measured in one of its branches, stays what it was.
+// Imports the leaf pipeline, rewrites it by six rules, sweeps and squeezes it, and shows that
+// the number, which is measured in one of its branches, stays what it was.
 //
 // Usage: leaf_demo FOLDER, with the folder of the blocks. The exit status is 1 if
 // anything is not as expected.
@@ -97,6 +97,32 @@ double number_of(const Pipeline &pipeline) {
     return pipeline.measured.values.at(0);
 }
 
+void want_done(leafgraph::Reply reply, const Block &block, const char *what) {
+    if (!reply) {
+        throw std::runtime_error(std::string("the pipeline can't be ") + what + ": "
+                                 + in_words(reply, block));
+    }
+}
+
+// ---- the import
+
+// The pipeline as an older converter has stored it, as a block of version 1, imported.
+Pipeline imported(const std::string &folder, Expectations &expectations) {
+    Block block = read_file(folder + "/leaf_pipeline_version_1.lgt");
+    const leafgraph::Reply refused = leafgraph::check_graph(block);
+    std::printf("An older converter stored it as a block of version 1. All but an import refuse "
+                "it:\n\n  %s.\n\n",
+                in_words(refused, block).c_str());
+    expectations.expect(!refused && leafgraph::wants_import(block),
+                        "the old pipeline is no block of version 1");
+    want_done(leafgraph::import_graph(block), block, "imported");
+    std::printf("Imported, it is one of version 2. There each slot has its count: how many input "
+                "places and\noutputs name it.\n\n");
+    expectations.expect(block == read_file(folder + "/leaf_pipeline.lgt"),
+                        "the imported pipeline is not the one that is there as version 2");
+    return run(std::move(block));
+}
+
 // ---- the rules
 
 struct Rule {
@@ -155,7 +181,7 @@ void show_constant(const Application &application, std::size_t slot, bool is_las
     const std::string others = listed(readers(application.after, slot));
     std::printf("    %s in slot %zu %s.\n", in_words(before).c_str(), slot,
                 stays ? ("stays, still read by" + others).c_str() : "goes with its last reader");
-    expectations.expect(stays == (uses(application.before, slot) > 1),
+    expectations.expect(stays == (before.count > 1),
                         "a constant does not stay just where something else reads it");
     expectations.expect(!stays || before.attributes == after.attributes, "a constant changed");
     expectations.expect(stays != is_last, "a constant is not shared, or outlives its readers");
@@ -195,6 +221,7 @@ Pipeline rewritten(const Pipeline &before, const Rule &rule, std::size_t times_e
                         rule.name + " ends with: " + reply.what());
     expectations.expect(kept, rule.name + " changes a result");
     expectations.expect(!after.rounded, "an operation had to round");
+    expectations.expect(has_true_counts(after.graph), "a count is not kept true");
     return after;
 }
 
@@ -208,7 +235,7 @@ void show_gain_that_stays(const Graph &graph, const Rule &gain_over_gain, const 
         const std::size_t lower = graph.slots[upper].inputs[0];
         if (is_call(graph.slots[lower], Operator::gain)) {
             pairs++;
-            expectations.expect(uses(graph, lower) > 1, "a gain that could go is left");
+            expectations.expect(graph.slots[lower].count > 1, "a gain that could go is left");
             expectations.expect(leading_to(graph, graph.outputs[number])[lower],
                                 "the number does not read the gain that is left");
             std::printf("\n  Slot %zu is a gain over the gain in slot %zu, too. But the number "
@@ -276,19 +303,31 @@ void show_boosts(const Pipeline &before, const Pipeline &after, Expectations &ex
                         "the number is taken after a boost");
 }
 
-// The predecessor's fault: one reader too many is moved, and the number is read
-// after the boost.
+// The predecessor's fault: one reader too many is moved, and the number is read after the
+// boost. While the counts are those of before, the check tells.
+Block with_fault(const Pipeline &after, std::size_t mean, std::size_t boost,
+                 Expectations &expectations) {
+    const std::size_t was_read = after.graph.slots[mean].inputs.at(0);
+    Block block = after.block;
+    put_input(block, mean, 0, boost);
+    const leafgraph::Reply told = leafgraph::check_graph(block);
+    std::printf("What the predecessor did: it merged two stages and moved one reader too many. "
+                "Were slot %zu\nto read slot %zu, and nothing else changed, the counts would tell:\n\n"
+                "  %s.\n\n",
+                mean, boost, in_words(told, block).c_str());
+    expectations.expect(told.code() == leafgraph::Code::bad_graph_count, "no count tells");
+    put_count(block, was_read, leafgraph::stored_count(block, was_read) - 1U);
+    put_count(block, boost, leafgraph::stored_count(block, boost) + 1U);
+    return block;
+}
+
 void show_fault(const Pipeline &after, Expectations &expectations) {
     const std::size_t boost = calls(after.graph, Operator::vivid).at(0);
     const std::size_t mean = after.graph.outputs[number];
-    Block block = after.block;
-    put_input(block, mean, 0, boost);
-    const Pipeline faulty = run(std::move(block));
+    const Pipeline faulty = run(with_fault(after, mean, boost, expectations));
     const double right = number_of(after), wrong = number_of(faulty);
-    std::printf("What the predecessor did: it merged two stages and moved one reader too many. "
-                "Were slot %zu\nto read slot %zu, the graph block would still be sound: no check "
-                "of the block alone could tell.\n\n",
-                mean, boost);
+    std::printf("With the counts moved along, the graph block is sound: no check of the block "
+                "alone could tell.\n\n");
     std::printf("  Vivid stages on a path to the number: %zu.\n",
                 boosts_above_number(faulty.graph));
     std::printf("  The number: %.10g instead of %.10g, so the pale leaf reads %.10g %% greener "
@@ -300,17 +339,12 @@ void show_fault(const Pipeline &after, Expectations &expectations) {
 
 // ---- the end
 
-void want_done(leafgraph::Reply reply, const Block &block) {
-    if (!reply) {
-        throw std::runtime_error("the pipeline can't be tidied: " + in_words(reply, block));
-    }
-}
-
 // Sweeps the block, and says what went and which Variables stayed that nobody reads.
 Block swept(const Pipeline &before, Expectations &expectations) {
     Block block = before.block;
-    want_done(leafgraph::sweep(block), block);
+    want_done(leafgraph::sweep(block), block, "swept");
     const Graph after = leafgraph::tool::read_graph(block);
+    expectations.expect(has_true_counts(after), "a sweep does not keep a count true");
     std::vector<std::size_t> gone, unread;
     for (std::size_t slot = 0; slot < after.slots.size(); slot++) {
         const Kind kind = before.graph.slots[slot].kind;
@@ -348,7 +382,7 @@ Pipeline squeezed(Block block, Expectations &expectations) {
     const Graph before = leafgraph::tool::read_graph(block);
     Block list(leafgraph::moves_length(block));
     const auto [reply, moves] = leafgraph::squeeze(block, list);
-    want_done(reply, block);
+    want_done(reply, block, "squeezed");
     Pipeline after = run(std::move(block), moved(leaf_variables(), moves));
     std::string said;
     std::size_t next = 0; // the slot to which the next vertex must go
@@ -359,6 +393,8 @@ Pipeline squeezed(Block block, Expectations &expectations) {
         }
         expectations.expect(moves[slot] == next && after.graph.slots[next].kind
                                 == before.slots[slot].kind, "a vertex is not in its place");
+        expectations.expect(after.graph.slots[next].count == before.slots[slot].count,
+                            "a count does not go with its vertex");
         if (slot != next) {
             said += (said.empty() ? "" : ", ") + std::to_string(slot) + " to "
                     + std::to_string(next);
@@ -397,7 +433,7 @@ bool demonstrated(const std::string &folder) {
                 "screen and a\nnumber come out. The number, the mean green, decides how much "
                 "nitrogen is ordered. It must\nnever be taken after the stage vivid, which boosts "
                 "greens for the screen.\n\n");
-    const Pipeline before = run(read_file(folder + "/leaf_pipeline.lgt"));
+    const Pipeline before = imported(folder, expectations);
     show_graph("before", before.graph, variable_names());
     const Pipeline after = rewritten_by_all(folder, before, expectations);
     show_graph("after", after.graph, variable_names());

@@ -24,6 +24,9 @@ SCRATCH = BUILD / "examples"
 NAMES = ("conv2d_batch_norm.lgr", "e1.lgt", "gain_over_gain.lgr", "identity_removal.lgr",
          "leaf_pipeline.lgt", "mul_by_one.lgr", "relu_over_relu.lgr", "shared_stage_merge.lgr")
 
+# The one that is there as a block of version 1, too, and the name of that block.
+OLD_NAME, IMPORTED_NAME = "leaf_pipeline_version_1.lgt", "leaf_pipeline.lgt"
+
 
 def source_of(block_name):
     return (SOURCES / block_name).with_suffix(".txt").read_text(encoding="utf-8")
@@ -48,20 +51,26 @@ def fresh_folder(name):
 NO_INPUTS, NO_ATTRIBUTES = "ff" * 12, "00" * 24
 UNUSED = "ff" * 5
 
-# Texts and their blocks, the bytes by hand from document 01.
+# Texts and their blocks, the bytes by hand from document 01; of the last eight bytes of a
+# slot the first two are its count.
 BY_HAND = {
     # the listing in request 7/13: a Variable, a relu, an Empty slot
     "graph 3\n0 variable [] {1 3 8 8 1}\n1 call 7 [0] {}\nout 1\n":
-        "4c475400 0100 0300 0100 0100ffffffffffff 000000000000"
+        "4c475400 0200 0300 0100 0100ffffffffffff 000000000000"
         "02000005" + NO_INPUTS + "01000000 03000000 08000000 08000000 01000000 00000000"
-        "0000000000000000"
-        "03070100 0000ffffffffffffffffffff" + NO_ATTRIBUTES + "0000000000000000"
+        "0100000000000000"
+        "03070100 0000ffffffffffffffffffff" + NO_ATTRIBUTES + "0100000000000000"
         "00000000" + NO_INPUTS + NO_ATTRIBUTES + "0000000000000000",
-    # the other kinds, signs, and inputs above 255
+    # the other kinds, signs, inputs above 255, and an output that is named twice
     "graph 2\n0 const [] {-2}\n1 proj [258] {2147483647}\nout 1 0 513 1\n":
-        "4c475400 0100 0200 0400 0100000001020100 000000000000"
-        "01000001" + NO_INPUTS + "feffffff" + "00" * 20 + "0000000000000000"
-        "05000101 0201ffffffffffffffffffff ffffff7f" + "00" * 20 + "0000000000000000",
+        "4c475400 0200 0200 0400 0100000001020100 000000000000"
+        "01000001" + NO_INPUTS + "feffffff" + "00" * 20 + "0100000000000000"
+        "05000101 0201ffffffffffffffffffff ffffff7f" + "00" * 20 + "0200000000000000",
+    # a slot that one reader names twice, and that is an output
+    "graph 2\n0 const [] {5}\n1 call add [0 0] {}\nout 0\n":
+        "4c475400 0200 0200 0100 0000ffffffffffff 000000000000"
+        "01000001" + NO_INPUTS + "05000000" + "00" * 20 + "0300000000000000"
+        "03010200 00000000ffffffffffffffff" + NO_ATTRIBUTES + "0000000000000000",
     # RR of document 01
     "rule\nsource\n0 wildcard [] {}\n1 call relu [0] {}\n2 call relu [1] {}\nout 2\n"
     "target\n0 call relu [s0] {}\nout t0\n":
@@ -138,6 +147,14 @@ class Assembler(unittest.TestCase):
                 self.assertEqual(assemble.assemble(text)[1].hex(),
                                  expected.replace(" ", ""))
 
+    def test_version_1_has_no_counts(self):
+        text = "graph 1\n0 variable [] {1 3 8 8 1}\nout 0\n"
+        suffix, block = assemble.assemble(text, assemble.WITHOUT_COUNTS)
+        with_counts = bytearray(assemble.assemble(text)[1])
+        self.assertEqual((suffix, with_counts[4], with_counts[64]), ("_version_1.lgt", 2, 1))
+        with_counts[4], with_counts[64] = 1, 0
+        self.assertEqual(block, with_counts)
+
     def test_comments_and_spaces_change_nothing(self):
         for text in BY_HAND:
             spaced = "# first\n\n" + text.replace(" ", "   ").replace("\n", "  # x\n\n\t")
@@ -156,22 +173,33 @@ class Assembler(unittest.TestCase):
 
 class Blocks(unittest.TestCase):
     def test_names(self):
-        self.assertEqual(sorted(path.name for path in BLOCKS.iterdir()), sorted(NAMES))
+        self.assertEqual(sorted(path.name for path in BLOCKS.iterdir()),
+                         sorted((*NAMES, OLD_NAME)))
         self.assertEqual(sorted(path.name for path in SOURCES.iterdir()),
                          sorted(Path(name).stem + ".txt" for name in NAMES))
 
     def test_each_is_its_source_assembled(self):
         folder = fresh_folder("assembled")
         sources = sorted(SOURCES.glob("*.txt"))
-        subprocess.run([sys.executable, EXAMPLES / "assemble.py", folder, *sources], check=True)
-        self.assertEqual(sorted(path.name for path in folder.iterdir()), sorted(NAMES))
-        for name in NAMES:
+        assembler = [sys.executable, EXAMPLES / "assemble.py"]
+        old_source = (SOURCES / IMPORTED_NAME).with_suffix(".txt")
+        subprocess.run([*assembler, folder, *sources], check=True)
+        subprocess.run([*assembler, "--version-1", folder, old_source], check=True)
+        self.assertEqual(sorted(path.name for path in folder.iterdir()),
+                         sorted((*NAMES, OLD_NAME)))
+        for name in (*NAMES, OLD_NAME):
             with self.subTest(name):
                 self.assertEqual((BLOCKS / name).read_bytes(), (folder / name).read_bytes())
 
     def test_the_library_takes_each(self):
         said, status = run("check_blocks", *(BLOCKS / name for name in NAMES))
         self.assertEqual((said.count("reply 0, done"), status), (len(NAMES), 0), said)
+
+    def test_the_library_wants_version_1_imported(self):
+        said, status = run("check_blocks", BLOCKS / OLD_NAME)
+        self.assertEqual((said, status),
+                         (f"{BLOCKS / OLD_NAME}: reply 20, bad graph block: its length or its "
+                          "header (version 1: it wants importing)\n", 1))
 
     def test_the_library_refuses_each_when_damaged(self):
         folder = fresh_folder("damaged")
@@ -193,6 +221,16 @@ class Blocks(unittest.TestCase):
         said, status = run("check_blocks", damaged)
         self.assertEqual((said, status),
                          (f"{damaged}: reply 23, bad graph block: it has a cycle, slot 3\n", 1))
+
+    def test_the_library_says_which_count(self):
+        block = bytearray((BLOCKS / "e1.lgt").read_bytes())
+        block[24 + 48 * 2 + 40] = 7
+        damaged = fresh_folder("miscounted") / "e1.lgt"
+        damaged.write_bytes(block)
+        said, status = run("check_blocks", damaged)
+        self.assertEqual((said, status),
+                         (f"{damaged}: reply 24, bad graph block: a stored count of readers is "
+                          "not the true one, slot 2\n", 1))
 
 
 # ---- the demo
@@ -240,7 +278,7 @@ CHANGES = (
     ("leaf_pipeline.lgt", {"24 variable [] {1 1 1 1 1}": "24 const [] {3}"},
      "not one Variable is there that nobody reads"),
     ("leaf_pipeline.lgt", {"9 call relu [8]": "9 call relu [10]"},
-     "the pipeline is refused: reply 23, bad graph block: it has a cycle, slot 9"),
+     "the pipeline can't be imported: reply 23, bad graph block: it has a cycle, slot 9"),
 )
 
 
@@ -253,6 +291,13 @@ def changed(text, changes):
     return text
 
 
+def put_changed(folder, name, text):
+    """Writes the block of a text into a folder of blocks, of the pipeline both versions."""
+    (folder / name).write_bytes(assemble.assemble(text)[1])
+    if name == IMPORTED_NAME:
+        (folder / OLD_NAME).write_bytes(assemble.assemble(text, assemble.WITHOUT_COUNTS)[1])
+
+
 class Demo(unittest.TestCase):
     def test_golden_output(self):
         said, status = run("leaf_demo", BLOCKS)
@@ -263,10 +308,22 @@ class Demo(unittest.TestCase):
         for name, changes, complaint in CHANGES:
             folder = fresh_folder("changed")
             shutil.copytree(BLOCKS, folder, dirs_exist_ok=True)
-            text = changed(source_of(name), changes)
-            (folder / name).write_bytes(assemble.assemble(text)[1])
+            put_changed(folder, name, changed(source_of(name), changes))
             said, status = run("leaf_demo", folder)
             with self.subTest(name, changes=changes):
+                self.assertEqual(status, 1, said)
+                self.assertIn("NOT AS EXPECTED: " + complaint, said)
+
+    def test_pipelines_that_are_not_of_their_version(self):
+        for name, other, complaint in (
+                (OLD_NAME, IMPORTED_NAME, "the old pipeline is no block of version 1"),
+                (OLD_NAME, IMPORTED_NAME, "the pipeline can't be imported: reply 20"),
+                (IMPORTED_NAME, OLD_NAME, "the imported pipeline is not the one")):
+            folder = fresh_folder("exchanged")
+            shutil.copytree(BLOCKS, folder, dirs_exist_ok=True)
+            shutil.copyfile(BLOCKS / other, folder / name)
+            said, status = run("leaf_demo", folder)
+            with self.subTest(name, complaint=complaint):
                 self.assertEqual(status, 1, said)
                 self.assertIn("NOT AS EXPECTED: " + complaint, said)
 
@@ -287,11 +344,19 @@ class Tool(unittest.TestCase):
 
     def test_what_it_prints_assembles_to_the_block(self):
         for name in NAMES:
-            for options in ((), ("--numbers",)):
+            counts = () if name.endswith(".lgr") else (("--counts",),)
+            for options in ((), ("--numbers",), *counts):
                 said, status = run("leafgraph", "show", BLOCKS / name, *options)
                 with self.subTest(name, options=options):
                     self.assertEqual(status, 0, said)
                     self.assertEqual(assemble.assemble(said)[1], (BLOCKS / name).read_bytes())
+
+
+    def test_it_imports_the_block_of_version_1(self):
+        out = fresh_folder("imported") / IMPORTED_NAME
+        said, status = run("leafgraph", "import", BLOCKS / OLD_NAME, "-o", out)
+        self.assertEqual(status, 0, said)
+        self.assertEqual(out.read_bytes(), (BLOCKS / IMPORTED_NAME).read_bytes())
 
 
 if __name__ == "__main__":

@@ -40,6 +40,22 @@ std::size_t occurrences(const std::vector<unsigned> &slots, std::size_t slot) {
     return static_cast<std::size_t>(std::count(slots.begin(), slots.end(), slot));
 }
 
+// How many input places and outputs name this slot.
+std::size_t uses(const Graph &graph, std::size_t slot) {
+    std::size_t total = occurrences(graph.outputs, slot);
+    for (const Slot &reader : graph.slots) {
+        total += occurrences(reader.inputs, slot);
+    }
+    return total;
+}
+
+// Writes two bytes of a slot's record. A header has 24 bytes, and a record 48.
+void put_number(Block &block, std::size_t slot, std::size_t place, std::size_t number) {
+    const std::size_t at = 24 + 48 * slot + place;
+    block.at(at) = static_cast<std::uint8_t>(number % 256);
+    block.at(at + 1) = static_cast<std::uint8_t>(number / 256);
+}
+
 } // namespace
 
 Block read_file(const std::string &path) {
@@ -59,10 +75,11 @@ std::string in_words(leafgraph::Reply reply, const Block &block) {
 }
 
 void put_input(Block &block, std::size_t slot, std::size_t place, std::size_t named) {
-    // A header of 24 bytes, records of 48, inputs from byte 4 of a record on.
-    const std::size_t at = 24 + 48 * slot + 4 + 2 * place;
-    block.at(at) = static_cast<std::uint8_t>(named % 256);
-    block.at(at + 1) = static_cast<std::uint8_t>(named / 256);
+    put_number(block, slot, 4 + 2 * place, named);
+}
+
+void put_count(Block &block, std::size_t slot, std::size_t count) {
+    put_number(block, slot, 40, count);
 }
 
 bool is_call(const Slot &slot, Operator op) {
@@ -93,12 +110,13 @@ std::vector<bool> leading_to(const Graph &graph, std::size_t slot) {
     return leads;
 }
 
-std::size_t uses(const Graph &graph, std::size_t slot) {
-    std::size_t total = occurrences(graph.outputs, slot);
-    for (const Slot &reader : graph.slots) {
-        total += occurrences(reader.inputs, slot);
+bool has_true_counts(const Graph &graph) {
+    for (std::size_t slot = 0; slot < graph.slots.size(); slot++) {
+        if (graph.slots[slot].count != uses(graph, slot)) {
+            return false;
+        }
     }
-    return total;
+    return true;
 }
 
 std::string in_words(const Slot &slot) {

@@ -35,8 +35,12 @@ Block read_file(const std::string &path);
 // What a check says about this block: `reply 23, bad graph block: it has a cycle, slot 9`.
 std::string in_words(leafgraph::Reply reply, const Block &block);
 
-// Writes into a sound block that input place `place` of this slot names `named`.
+// Writes into a sound block that input place `place` of this slot names `named`. The counts
+// are left as they were.
 void put_input(Block &block, std::size_t slot, std::size_t place, std::size_t named);
+
+// Writes into a sound block that so many places name this slot.
+void put_count(Block &block, std::size_t slot, std::size_t count);
 
 bool is_call(const Slot &slot, Operator op);
 
@@ -49,8 +53,9 @@ std::vector<bool> leading_to(const Graph &graph, std::size_t slot);
 // The slots of all vertices that read this one, ascending.
 std::vector<std::size_t> readers(const Graph &graph, std::size_t slot);
 
-// How many input places and outputs name this slot.
-std::size_t uses(const Graph &graph, std::size_t slot);
+// Whether each slot's count is the number of input places and outputs that name it. The
+// library has checked that, too; this counts anew.
+bool has_true_counts(const Graph &graph);
 
 // A vertex in words, such as `gain(10) {3 2 4}`.
 std::string in_words(const Slot &slot);

@@ -48,10 +48,11 @@ void show_graph(const char *when, const Graph &graph, const Names &variable_name
                 "photograph.\n\n",
                 when, leafgraph::tool::count_vertices(graph), graph.slots.size(),
                 stages(graph, true).size());
-    std::printf("  slot  vertex                                  needed for\n");
+    std::printf("  slot  count  vertex                                  needed for\n");
     for (std::size_t slot = 0; slot < graph.slots.size(); slot++) {
         if (graph.slots[slot].kind != Kind::empty) {
-            std::printf("  %4zu  %s\n", slot, line_of(graph, slot, variable_names).c_str());
+            std::printf("  %4zu  %5u  %s\n", slot, graph.slots[slot].count,
+                        line_of(graph, slot, variable_names).c_str());
         }
     }
     std::printf("  The screen shows slot %u, the number is slot %u.\n", graph.outputs[screen],
