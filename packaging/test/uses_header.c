@@ -9,5 +9,6 @@ int main(void) {
     const uint64_t reply = lg_check_rule(none, sizeof none);
     printf("leafgraph %s from C: reply %u\n", LEAFGRAPH_VERSION, lg_reply_number(reply));
     return lg_reply_number(reply) == LG_BAD_RULE_HEADER && lg_is_bad_rule(reply)
-           && lg_is_bad_graph(lg_sweep(none, sizeof none)) ? 0 : 1;
+           && lg_is_bad_graph(lg_sweep(none, sizeof none))
+           && lg_is_bad_graph(lg_import(none, sizeof none)) ? 0 : 1;
 }

@@ -8,6 +8,7 @@ int main() {
     const leafgraph::Reply reply = leafgraph::check_graph({nullptr, 0});
     std::printf("leafgraph %s from C++: %s\n", LEAFGRAPH_VERSION, reply.what());
     const bool squeezed = leafgraph::squeeze({nullptr, 0}, {nullptr, 0}).done();
+    const bool imported = leafgraph::import_graph({nullptr, 0}).done();
     return reply.code() == leafgraph::Code::bad_graph_header && reply.bad_graph() && !squeezed
-               ? 0 : 1;
+                   && !imported ? 0 : 1;
 }
