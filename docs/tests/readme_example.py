@@ -3,10 +3,10 @@
 
     readme_example.py OUT.cpp
 
-The program takes a graph and a rule file; it fails if the example does not
-rewrite the one by the other until no match is left, does not tidy a graph with a gap, or is content with a bad graph,
-with a cycle in it or with a rule that always matches again. What the example says of those is
-compared with readme_example.stdout (make/docs.mk).
+The program takes a graph and a rule file; it fails if the example does not rewrite the one by
+the other until no match is left, does not do the same with that graph as a block of version 1,
+does not tidy a graph with a gap, or is content with a bad graph, with a cycle in one of either
+version, or with a rule that always matches again. What the example says of those is compared with readme_example.stdout (make/docs.mk).
 """
 
 import re
@@ -43,11 +43,15 @@ int main(int count, char **names) {
     std::vector<unsigned char> graph = bytes_of(names[1]);
     const std::vector<unsigned char> before = graph, rule = bytes_of(names[2]);
     if (!shorten(graph, rule) || graph == before || !leafgraph::check_graph(graph)) return 1;
+    std::vector<unsigned char> old = before, old_cyclic;
+    make_version_1(old.data());
+    old_cyclic = old;
+    if (!shorten(old, rule) || old != graph) return 1;
     std::vector<unsigned char> gap = with_a_gap();
     if (!shorten(gap, rule) || gap[24] != blocks::variable || gap[10] != 1) return 1;
     std::vector<unsigned char> bad = {1, 2, 3}, cyclic = before;
-    cyclic[24 + 48 * 3 + 4] = 4; // slot 3 now reads slot 4, which reads slot 3
-    if (shorten(bad, rule) || shorten(cyclic, rule)) return 1;
+    cyclic[24 + 48 * 3 + 4] = old_cyclic[24 + 48 * 3 + 4] = 4; // slots 3 and 4 read each other
+    if (shorten(bad, rule) || shorten(cyclic, rule) || shorten(old_cyclic, rule)) return 1;
     if (shorten(graph, endless_rule()) || !leafgraph::check_graph(graph)) return 1;
     std::printf("the example of README.md: as expected\\n");
     return 0;
