@@ -9,7 +9,7 @@ A fenced block of FORMATS.md says by its first line what it is:
     changes OLD NEW    a line 'OFFSET BEFORE -> AFTER # comment' each, made to the
                        hex block OLD; becomes DIR/NEW.bin
     show NAME          what `leafgraph show` prints of it; becomes DIR/NAME.txt, or
-                       with a word --numbers behind it DIR/NAME.numbers.txt
+                       with an option such as --numbers behind it DIR/NAME.numbers.txt
 
 Any other fenced block is passed over. Exits 1 with a message, and writes
 nothing, if an offset is not the number of bytes before it, a changed byte is

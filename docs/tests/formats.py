@@ -4,9 +4,9 @@
     formats.py TOOL
 
 Each block of the page that has a text must be sound and be shown as that text, its
-rewritings must have the page's maps and leave the page's bytes, its sweep and its squeeze
-must leave the page's bytes and moves, and what the page
-says of refused blocks must be what the tool says. Exit status 1 if one does not.
+rewritings must have the page's maps and leave the page's bytes, its sweep, its squeeze and
+its import must leave the page's bytes and moves, and what the page says of refused blocks
+must be what the tool says. Exit status 1 if one does not.
 """
 
 import re
@@ -42,17 +42,20 @@ REWRITINGS = (
 )
 
 
-# The graphs that are swept or squeezed: the command, the graph, the list of moves (of a
-# squeeze), the new graph.
-TIDYINGS = (
+# The graphs that are swept, squeezed or imported: the command, the graph, the list of moves
+# (of a squeeze), the new graph.
+CHANGED_ALONE = (
     ("sweep", "dead-graph", None, "swept-graph"),
     ("squeeze", "swept-graph", "squeezed-moves", "squeezed-graph"),
+    ("import", "old-graph", None, "e1-graph"),
 )
 
 
 # The refused blocks: the command, and the name that the page gives the file.
 REFUSED = (
     ("cyclic-graph", "check", "cyclic.lgt"),
+    ("miscounted-graph", "check", "miscounted.lgt"),
+    ("old-graph", "check", "old.lgt"),
     ("removed-rule", "check-rule", "removed.lgr"),
 )
 
@@ -114,10 +117,10 @@ def rewritings_hold(tool, folder, files):
     return count
 
 
-def tidyings_hold(tool, folder, files):
-    """Each list of moves, and the block that a sweep or a squeeze leaves."""
+def changes_alone_hold(tool, folder, files):
+    """Each list of moves, and the block that a sweep, a squeeze or an import leaves."""
     count = 0
-    for command, graph, moves, left in TIDYINGS:
+    for command, graph, moves, left in CHANGED_ALONE:
         written = folder / "moves"
         options = [] if moves is None else ["--moves", written]
         made = run(tool, command, folder / f"{graph}.bin", *options, "-o", "-")
@@ -140,7 +143,8 @@ def main(arguments):
                 (folder / file).write_bytes(content)
             tool = str(Path(arguments[0]).resolve())
             count = (blocks_hold(tool, folder, files) + rewritings_hold(tool, folder, files)
-                     + tidyings_hold(tool, folder, files) + refusals_hold(tool, folder, page)
+                     + changes_alone_hold(tool, folder, files)
+                     + refusals_hold(tool, folder, page)
                      + quotes_hold(page))
     except (Fault, KeyError, ValueError, IndexError) as fault:
         print(f"{PAGE.name}: {fault}", file=sys.stderr)
