@@ -6,7 +6,8 @@
 The program takes a graph and a rule file; it fails if the example does not rewrite the one by
 the other until no match is left, does not do the same with that graph as a block of version 1,
 does not tidy a graph with a gap, or is content with a bad graph, with a cycle in one of either
-version, or with a rule that always matches again. What the example says of those is compared with readme_example.stdout (make/docs.mk).
+version, or with a rule that always matches again. What the example says of those is compared
+with readme_example.stdout (make/docs.mk).
 """
 
 import re
