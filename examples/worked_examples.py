@@ -39,6 +39,7 @@ CALLS_FILE = EXAMPLES.parent / "crates" / "worked_examples" / "stdin"
 HEAD = "# Written by examples/worked_examples.py, which says what the lines are.\n"
 
 HEADER_BYTES, SLOT_BYTES, PATTERN_BYTES = 24, 48, 16
+COUNT_AT = 40  # in a slot
 GROUP = 4  # bytes that stand together in a line
 START_BYTES = 8
 
@@ -56,6 +57,16 @@ class Call(NamedTuple):
 
 def block(text):
     return assemble.assemble(text)[1]
+
+
+def version_1(text):
+    return assemble.assemble(text, assemble.WITHOUT_COUNTS)[1]
+
+
+def counting(graph, slot, count):
+    """The block with another count in a slot."""
+    at = HEADER_BYTES + SLOT_BYTES * slot + COUNT_AT
+    return graph[:at] + count.to_bytes(2, "little") + graph[at + 2:]
 
 
 def source(name):
@@ -94,6 +105,10 @@ def reversed_chain(slots):
 
 E1 = source("e1")
 RR = source("relu_over_relu")
+
+# Slot 0 has the count 2, by two input places of one reader; so has slot 1, which is both
+# outputs.
+NAMED_TWICE = changed(graph_of([VARIABLE, "call add [0 0] {}"], 1), "out 1", "out 1 1")
 
 SELF_READING = graph_of([VARIABLE, relu(1)], 0)
 LAST_SLOT_CYCLE = graph_of([VARIABLE, "call add [0 2] {}", relu(1)], 1)
@@ -193,6 +208,10 @@ CALLS = [
     check_graph("E1 one byte long", block(E1) + b"\0"),
     check_graph("self-reading slot", block(SELF_READING)),
     check_graph("cycle through the last slot", block(LAST_SLOT_CYCLE)),
+    check_graph("E1 as version 1", version_1(E1)),
+    check_graph("E1 with a wrong count", counting(block(E1), 2, 0)),
+    check_graph("slots named twice", block(NAMED_TWICE)),
+    check_graph("slots named twice and counted once", counting(block(NAMED_TWICE), 1, 1)),
     check_graph("empty", b""),
 
     check_rule("RR", block(RR)),
