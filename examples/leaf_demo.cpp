@@ -312,8 +312,8 @@ Block with_fault(const Pipeline &after, std::size_t mean, std::size_t boost,
     put_input(block, mean, 0, boost);
     const leafgraph::Reply told = leafgraph::check_graph(block);
     std::printf("What the predecessor did: it merged two stages and moved one reader too many. "
-                "Were slot %zu\nto read slot %zu, and nothing else changed, the counts would tell:\n\n"
-                "  %s.\n\n",
+                "Were slot %zu\nto read slot %zu, and nothing else changed, the counts would "
+                "tell:\n\n  %s.\n\n",
                 mean, boost, in_words(told, block).c_str());
     expectations.expect(told.code() == leafgraph::Code::bad_graph_count, "no count tells");
     put_count(block, was_read, leafgraph::stored_count(block, was_read) - 1U);

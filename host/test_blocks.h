@@ -11,8 +11,8 @@
 #include "shared_constants.h"
 #include "sweep_squeeze.h"
 
-/* Names of version 1, whose numbers 2 and 3 are gone. Were one of them still in the
- * header, this would not compile. */
+/* Names of the library's version 1, whose numbers 2 and 3 are gone. Were one of them still
+ * in the header, this would not compile. */
 enum { LG_BAD_GRAPH, LG_BAD_RULE };
 
 /* The six attributes of records, each in four bytes. */

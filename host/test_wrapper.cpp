@@ -517,7 +517,8 @@ void test_words() {
     expect(texts.size() == 7, "each kind of place has words of its own");
 }
 
-// Whether an enumeration still has the name that version 1 had for all bad graphs.
+// Whether an enumeration still has the name that the library's version 1 had for all bad
+// graphs.
 template <class Enumeration, class = void>
 constexpr bool has_bad_graph = false;
 template <class Enumeration>

@@ -173,7 +173,8 @@ Fault count_fault(const GraphView &graph, std::size_t slot) {
     for (std::size_t place = 0; place < graph.outputs() && place < output_places; ++place) {
         outputs += graph.output(place) == slot ? 1 : 0;
     }
-    const Fault fault = unless_equal("the stored count", graph.stored_count(slot), inputs + outputs);
+    const Fault fault
+        = unless_equal("the stored count", graph.stored_count(slot), inputs + outputs);
     return fault.empty() ? ""
                          : fault + ": " + counted(inputs, "input place", "input places") + " and "
                                + counted(outputs, "output", "outputs") + " name it";
