@@ -18,7 +18,7 @@ fn main() {
 }
 
 fn checks() {
-    let graphs: [(&str, Vec<u8>); 11] = [
+    let graphs: [(&str, Vec<u8>); 15] = [
         ("N = 0", chain(0).block()),
         ("N = 1", chain(1).block()),
         ("N = 512", chain(512).block()),
@@ -29,6 +29,10 @@ fn checks() {
         ("E1 one byte long", longer(e1().block())),
         ("self-reading slot", self_reading().block()),
         ("cycle through the last slot", last_slot_cycle().block()),
+        ("E1 as version 1", e1().version_1_block()),
+        ("E1 with a wrong count", counting(e1().block(), 2, 0)),
+        ("slots named twice", named_twice().block()),
+        ("slots named twice and counted once", counting(named_twice().block(), 1, 1)),
         ("empty", vec![]),
     ];
     for (name, block) in graphs {
@@ -137,6 +141,17 @@ fn shorter(mut block: Vec<u8>) -> Vec<u8> {
 fn longer(mut block: Vec<u8>) -> Vec<u8> {
     block.push(0);
     block
+}
+
+/// The block with another count, below 256, in a slot.
+fn counting(mut block: Vec<u8>, slot: usize, count: u8) -> Vec<u8> {
+    block[24 + 48 * slot + 40] = count;
+    block
+}
+
+/// Slot 0 by two input places of one reader, slot 1 by both outputs.
+fn named_twice() -> GraphParts {
+    GraphParts::new(vec![variable(), add(0, 0)], &[1, 1])
 }
 
 fn self_reading() -> GraphParts {
