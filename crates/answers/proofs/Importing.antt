@@ -7,13 +7,13 @@ use Prim.Native.Nat.{ℕ, _+_, _<_}
 use native.Mathlib.Omega.{arith}
 use borrow.Author.Tests.{eqb-true}
 use lib.Dec.{eqb}
-use lib.ListN.{length, getD}
+use lib.ListN.{length}
 use Rattle.definitions.specs.Fields.{byteAt, u16At}
 use Rattle.definitions.specs.declared.Refusal.{Refusal}
 use Rattle.definitions.specs.declared.Reply.{Reply}
 use Rattle.definitions.specs.declared.Reply.the-variants.{Done, Refused}
 use Rattle.definitions.specs.Reply.{badGraphHeader, numberIn}
-use Rattle.definitions.specs.Graph.{headerBytes, slotBytes, versionOffset, graphVersion, importVersion, slotCount, recordAt, storedCount, Graph, graphOf, trueCount, headerBlock, blockAs, graphBlock, headerFits, replyAs, SoundAs, SoundGraph}
+use Rattle.definitions.specs.Graph.{headerBytes, slotBytes, versionOffset, graphVersion, importVersion, slotCount, recordAt, storedCount, Graph, graphOf, trueCount, blockAs, graphBlock, headerFits, SoundAs, SoundGraph}
 use Rattle.definitions.specs.Faults.{FaultAs, header, form}
 use Rattle.definitions.specs.Import.{importReply, importGraph}
 use Rattle.laws.proofs.Lists.{needed, fails}

@@ -1,7 +1,7 @@
 -- Which bytes of a record are kept: two blocks with the same slot in one place differ there in the bytes of the count alone, and not in these
 -- where the counts are the same.
 -- Assumes nothing.
-use mathlib.Core.Path.{_≡_, sym, ap, ap₂, _∙_}
+use mathlib.Core.Path.{_≡_, sym, ap, _∙_}
 use mathlib.Core.List.{List}
 use Prim.Native.Nat.{ℕ, _+_, _<_}
 use lib.ListN.{length, getD}

@@ -16,7 +16,7 @@ use lib.ListN.{length}
 use Rattle.definitions.specs.Lists.{member}
 use Rattle.definitions.specs.Fields.{Bytes, byteAt, u16At}
 use Rattle.definitions.specs.Reply.{badMapLength, badGraphHeader, badGraphRecord, badGraphName, graphHasCycle, badGraphCount, badRuleHeader, badRuleRecord, badRuleOrder, badRuleOutputs, badRuleExpression, noMatch, noResult, noRoom, newCycle, badMovesLength, packed, numberIn, placeIn, valueIn}
-use Rattle.definitions.specs.Graph.{headerBytes, slotBytes, unusedPlace, importVersion, slotCount, renamed, Graph, graphOf, slotOf, isVertex, graphBlock, graphReply, SoundAs, SoundGraph}
+use Rattle.definitions.specs.Graph.{headerBytes, slotBytes, unusedPlace, importVersion, slotCount, renamed, graphOf, slotOf, isVertex, graphBlock, graphReply, SoundAs, SoundGraph}
 use Rattle.definitions.specs.Rule.{sourceCount, ruleOf, ruleReply, SoundRule}
 use Rattle.definitions.specs.Faults.{FaultAs, GraphFault, RuleFault}
 use Rattle.definitions.specs.Match.{readAttribute, MatchFrom, LeastFrom}

@@ -5,16 +5,16 @@ use mathlib.Core.Path.{_≡_, sym, ap, fun-ext, _∙_}
 use mathlib.Core.Bool.{true, false, not, _||_}
 use mathlib.Core.List.{List}
 use mathlib.Core.Logic.{⊎-elim}
-use Prim.Native.Nat.{ℕ, _+_, _*_, _^_, _<_, _≤_}
+use Prim.Native.Nat.{ℕ, _+_, _^_, _<_, _≤_}
 use native.Mathlib.Omega.{arith}
 use borrow.Author.Tests.{leb-true, ltb-true, ltb-false}
 use lib.Dec.{eqb, ltb, leb}
 use lib.ListN.{length, getD, take, drop, List·getD-eq-default}
 use lib.Seq.{take-at}
-use Rattle.definitions.specs.Fields.{byteAt, signed, filled}
+use Rattle.definitions.specs.Fields.{byteAt, signed}
 use Rattle.definitions.specs.Operators.{kindEmpty, kindProj, shapeFits}
 use Rattle.definitions.specs.Paths.{Acyclic}
-use Rattle.definitions.specs.Graph.{headerBytes, slotBytes, tailOffset, tailBytes, slotLimit, outputLimit, inputLimit, attributeLimit, unusedPlace, graphVersion, slotCount, recordAt, storedCount, Slot, Graph, emptySlot, slotFrom, graphOf, slotOf, inputsOf, isVertex, trueCount, readsOf, countTail, recordBlock, recordsBlock, headerBlock, blockAs, graphBlock, atLeastOne, zerosOffset, lowestOnCycle, hasCycle, SoundAs, SoundGraph}
+use Rattle.definitions.specs.Graph.{headerBytes, slotBytes, tailOffset, tailBytes, slotLimit, outputLimit, inputLimit, attributeLimit, unusedPlace, graphVersion, slotCount, recordAt, storedCount, Slot, Graph, emptySlot, slotFrom, graphOf, slotOf, inputsOf, isVertex, trueCount, readsOf, countTail, recordBlock, recordsBlock, headerBlock, blockAs, graphBlock, atLeastOne, lowestOnCycle, hasCycle, SoundAs, SoundGraph}
 use Rattle.laws.proofs.Lists.{decided, and-left, and-right}
 use Rattle.laws.proofs.Members.{mem-at}
 use Rattle.laws.proofs.Sums.{count-length}

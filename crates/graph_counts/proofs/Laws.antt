@@ -2,13 +2,13 @@
 -- Assumes nothing.
 use mathlib.Core.Path.{_≡_, refl, sym, ap, ap₂, _∙_}
 use mathlib.Core.List.{List, _++_, append-assoc}
-use Prim.Native.Nat.{ℕ, _+_, _-_, _*_, _<_, _≤_}
+use Prim.Native.Nat.{ℕ, _+_, _-_, _<_, _≤_}
 use native.Mathlib.Omega.{arith}
 use lib.ListN.{length, take, drop, replicate, length-append, length-drop}
 use lib.Seq.{length-take-le, take-at, drop-at, take-add, take-take, drop-drop}
 use Rattle.definitions.specs.Lists.{tabulate, concatMap}
 use Rattle.definitions.specs.Fields.{u16Bytes}
-use Rattle.definitions.specs.Graph.{headerBytes, slotBytes, tailOffset, tailBytes, countOffset, countBytes, inputLimit, attributeLimit, slotCount, recordAt, Slot, Graph, graphOf, slotOf, trueCount, countTail, slotBlock, recordBlock, headerBlock, blockAs}
+use Rattle.definitions.specs.Graph.{headerBytes, slotBytes, tailBytes, countOffset, countBytes, inputLimit, attributeLimit, slotCount, recordAt, Slot, Graph, graphOf, slotOf, trueCount, countTail, slotBlock, recordBlock, blockAs}
 use Rattle.laws.proofs.Parts.{putPart, part-more, part-rest}
 use Rattle.laws.proofs.Pieces.{pieces-same}
 use Rattle.graph_fields.specs.Layout.{WholeGraph}

@@ -7,7 +7,6 @@ use native.Mathlib.Omega.{arith}
 use lib.ListN.{length, getD}
 use Rattle.definitions.specs.Graph.{slotLimit, slotCount, recordAt, graphOf, trueCount}
 use Rattle.graph_fields.specs.Layout.{WholeGraph}
-use Rattle.graph_records.specs.Records.{slotAt}
 use Rattle.graph_slots.specs.Written.{Halfway}
 use Rattle.graph_slots.proofs.Laws.{halfway-write, halfway-all, halfway-slot}
 use Rattle.graph_counts.specs.Recounted.{withCount, recounted}

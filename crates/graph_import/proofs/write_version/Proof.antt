@@ -1,8 +1,6 @@
 -- The part that is lent on comes back as the two bytes of the version.
 -- Assumes nothing.
 use mathlib.Core.Path.{ap}
-use mathlib.Core.List.{List}
-use Prim.Native.Nat.{ℕ}
 use Rattle.definitions.specs.Lists.{concatMap}
 use Rattle.definitions.specs.Fields.{u16Bytes}
 use Rattle.laws.proofs.Parts.{putPart}

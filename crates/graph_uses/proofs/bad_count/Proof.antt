@@ -8,7 +8,6 @@ use native.Mathlib.Omega.{arith}
 use borrow.Author.Tests.{eq-eqb, ne-eqb}
 use borrow.Author.Count.{below-more, below-none}
 use borrow.Author.Needs.{needs}
-use lib.ListN.{getD}
 use Rattle.definitions.specs.Graph.{slotLimit, slotCount, storedCount, graphOf, trueCount, badCount}
 use Rattle.laws.proofs.Lists.{lowest-none, lowest-found}
 use Rattle.graph_uses.proofs.bad_count.Statement.{statement}

@@ -5,7 +5,7 @@ use mathlib.Core.List.{List, _++_}
 use Prim.Native.Nat.{ℕ, _<_}
 use native.Mathlib.Omega.{arith}
 use lib.ListN.{length, take, replicate}
-use Rattle.definitions.specs.Graph.{tailBytes, recordAt, graphOf, slotOf, slotBlock}
+use Rattle.definitions.specs.Graph.{tailBytes, recordAt, graphOf, slotBlock}
 use Rattle.definitions.specs.Rule.{ruleOf}
 use Rattle.definitions.specs.Rewriting.{newSlot}
 use Rattle.laws.proofs.Rewriting.{new-slot-at}
