@@ -37,7 +37,7 @@ def read_results(text):
 
 
 def operation(call):
-    """The first word of the call: check, match, rewrite, sweep or squeeze."""
+    """The first word of the call: check, match, rewrite, sweep, squeeze or import."""
     return call.replace(":", " ").split()[0]
 
 
@@ -125,8 +125,11 @@ LOOK = "match: look"
 # Okabe and Ito's colours, which the colour-blind can tell apart too.
 COLOURS = {
     "check graph: a chain": "#0072B2",
+    "check graph: one slot in all places": "#D55E00",
     "match: 1 output, last slot": "#0072B2",
     "match: 1 output, none": "#56B4E9",
+    "match: 1 output, first slots": "#F0E442",
+    "match: 1 output, first slots, read outside": "#999999",
     "match: 2 outputs, last pair": "#D55E00",
     "match: 2 outputs, none": "#E69F00",
     "match: attributes, last pair": "#CC79A7",
@@ -151,6 +154,9 @@ COLOURS = {
     "squeeze: a dead chain": "#0072B2",
     "squeeze: all live": "#D55E00",
     "squeeze: every second slot Empty": "#009E73",
+    "import: a chain": "#0072B2",
+    "import: a chain, reversed": "#CC79A7",
+    "import: one slot in all places": "#D55E00",
 }
 OTHER = "#009E73"
 INK, GRID, FRAME, EQUAL, LIMIT = "#222222", "#E4E4E4", "#666666", "#444444", "#B22222"
@@ -171,7 +177,7 @@ def panel_of(call):
 
 def is_thin(call):
     """Whether a call has a thin line with open squares: it may run together with a thick one."""
-    return "2 outputs" in call if panel_of(call) == LOOK else call.endswith(("none", "all live"))
+    return "2 outputs" in call if panel_of(call) == LOOK else call.endswith(("none", "all live", "read outside"))
 
 
 def text(x, y, words, more=""):

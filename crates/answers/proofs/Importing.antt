@@ -27,19 +27,17 @@ use Rattle.encoding.proofs.Headers.{version-apart}
 use Rattle.encoding.proofs.Blocks.{block-length, header-held, block-back, block-sound}
 use Rattle.encoding.proofs.Graphs.{table-as, words-of, canonical-as}
 use Rattle.answers.specs.Written.{OutsideVersion, OutsideCount, SameByte}
-use Rattle.answers.specs.Statements.{CheckedGraph, Imported, formNumbers, Verdict, Imports, ImportReplies, ImportedOnce, OldRefused}
+use Rattle.answers.specs.Statements.{CheckedGraph, Imported, formNumbers, Verdict, Imports, ImportReplies, OneVersion}
 use Rattle.answers.proofs.Faults.{form-numbered}
 use Rattle.answers.proofs.Blocks.{verdict, graph-verdict}
 use Rattle.answers.proofs.Records.{other-bytes}
 
 -- a header is of one version
-one-version : (block : List ℕ) (version other : ℕ) → (version ≡ other → ⊥) → headerFits version block ≡ true → headerFits other block ≡ false
+other-version : (block : List ℕ) (version : ℕ) → (u16At block versionOffset ≡ version → ⊥) → headerFits version block ≡ false
 unfolding headerFits
-one-version block version other apart fits =
-    let known : u16At block versionOffset ≡ version =
-    eqb-true (u16At block versionOffset) version (needed (eqb (u16At block versionOffset) version) fits (λ f. simp (f, and-false))) in
-    fails (λ also. apart (sym known ∙ eqb-true (u16At block versionOffset) other
-    (needed (eqb (u16At block versionOffset) other) also (λ f. simp (f, and-false)))))
+other-version block version other =
+    fails (λ fits. other (eqb-true (u16At block versionOffset) version
+    (needed (eqb (u16At block versionOffset) version) fits (λ f. simp (f, and-false)))))
 
 module _ (graph : List ℕ) (reply : ℕ) (graphAfter : List ℕ) (contract : Imported graph reply graphAfter) where
   abbrev g : Graph
@@ -117,17 +115,13 @@ module _ (graph : List ℕ) (reply : ℕ) (graphAfter : List ℕ) (contract : Im
   pub import-replies : ImportReplies graph reply graphAfter
   import-replies = record { verdict = judged; refusalKeeps = refusal-keeps; imports = imports }
 
--- ---- one version here, and the other everywhere else
+  -- ---- one version here
 
-pub import-once : (graph : List ℕ) (reply : ℕ) (graphAfter : List ℕ) → Imported graph reply graphAfter → numberIn reply ≡ 0
-    → ImportedOnce graphAfter
-import-once graph reply graphAfter contract h again graphAgain second =
-    let header-new = after-sound graph reply graphAfter contract h .form .header in
-    let says = judged graphAfter again graphAgain second .fault badGraphHeader 0 .1
-    (header (one-version graphAfter graphVersion importVersion (λ e. omega arith) header-new)) .1 in
-    (says, refusal-keeps graphAfter again graphAgain second (λ e. omega (arith, says .number)))
+  pub import-version : OneVersion importVersion graph reply
+  import-version other = judged .fault badGraphHeader 0 .1 (header (other-version graph importVersion other)) .1
 
-pub old-refused : (graph : List ℕ) (reply : ℕ) → CheckedGraph graph reply → OldRefused graph reply
-old-refused graph reply contract old =
-    graph-verdict graph reply contract .fault badGraphHeader 0 .1
-    (form (header (one-version graph importVersion graphVersion (λ e. omega arith) (old .header)))) .1
+-- ---- and the other everywhere else
+
+pub check-version : (graph : List ℕ) (reply : ℕ) → CheckedGraph graph reply → OneVersion graphVersion graph reply
+check-version graph reply contract other =
+    graph-verdict graph reply contract .fault badGraphHeader 0 .1 (form (header (other-version graph graphVersion other))) .1

@@ -5,13 +5,13 @@ use mathlib.Core.List.{List}
 use Prim.Native.Nat.{ℕ, _+_, _*_, _^_}
 use native.Mathlib.Omega.{arith}
 use Rattle.definitions.specs.Reply.{numberIn, placeIn, valueIn}
-use Rattle.definitions.specs.Graph.{graphOf, graphBlock}
+use Rattle.definitions.specs.Graph.{graphVersion, importVersion, graphOf, graphBlock}
 use Rattle.definitions.specs.Rule.{sourceCount, ruleOf}
 use Rattle.definitions.specs.Results.{Meaning}
 use Rattle.encoding.proofs.Graphs.{canonical}
 use Rattle.answers.specs.Written.{imagesIn}
 use Rattle.answers.specs.Rewritten.{Due}
-use Rattle.answers.specs.Statements.{Says, CheckedGraph, CheckedRule, Searched, Rewrote, Swept, Squeezed, Imported, GraphVerdict, RuleVerdict, OneBlock, MatchReplies, Yields, RewriteReplies, Demand3, SweepReplies, SweepKeeps, SweptTwice, SqueezeReplies, SqueezeKeeps, SqueezedTwice, ImportReplies, ImportedOnce, OldRefused}
+use Rattle.answers.specs.Statements.{Says, CheckedGraph, CheckedRule, Searched, Rewrote, Swept, Squeezed, Imported, GraphVerdict, RuleVerdict, OneBlock, MatchReplies, Yields, RewriteReplies, Demand3, SweepReplies, SweepKeeps, SweptTwice, SqueezeReplies, SqueezeKeeps, SqueezedTwice, ImportReplies, OneVersion}
 use Rattle.answers.proofs.Blocks.{graph-verdict, rule-verdict}
 use Rattle.answers.proofs.Matching.{match-replies}
 use Rattle.answers.proofs.Rewriting.{block-replies, due, replied, listed, refusal-keeps, written}
@@ -19,7 +19,7 @@ use Rattle.answers.proofs.Demands.{yields-sound, yields-table, demand-3
 use Rattle.answers.proofs.Unchanged.{keeps-record, keeps-constant}
 use Rattle.answers.proofs.Sweeping.{sweep-replies, sweep-keeps, sweep-twice}
 use Rattle.answers.proofs.Squeezing.{squeeze-replies, squeeze-keeps, squeeze-twice}
-use Rattle.answers.proofs.Importing.{import-replies, import-once, old-refused}
+use Rattle.answers.proofs.Importing.{import-replies, import-version, check-version}
 
 -- Number and place are all that the C side gets: what is said of them is said of the whole reply.
 pub whole-word : (reply n p : ℕ) → Says reply n p → reply ≡ n + 2 ^ 8 * p
@@ -30,8 +30,8 @@ whole-word reply n p says = omega (arith, says .number, says .place, says .value
 pub checked-graph : (graph : List ℕ) (reply : ℕ) → CheckedGraph graph reply → GraphVerdict graph reply
 checked-graph = graph-verdict
 
-pub checked-old : (graph : List ℕ) (reply : ℕ) → CheckedGraph graph reply → OldRefused graph reply
-checked-old = old-refused
+pub checked-version : (graph : List ℕ) (reply : ℕ) → CheckedGraph graph reply → OneVersion graphVersion graph reply
+checked-version = check-version
 
 -- two sound blocks of one graph
 pub one-block : OneBlock
@@ -107,5 +107,5 @@ module _ (graph : List ℕ) (reply : ℕ) (graphAfter : List ℕ) (contract : Im
   pub imported : ImportReplies graph reply graphAfter
   imported = import-replies graph reply graphAfter contract
 
-  pub imported-once : numberIn reply ≡ 0 → ImportedOnce graphAfter
-  imported-once = import-once graph reply graphAfter contract
+  pub imported-version : OneVersion importVersion graph reply
+  imported-version = import-version graph reply graphAfter contract

@@ -16,7 +16,7 @@ use lib.ListN.{length}
 use Rattle.definitions.specs.Lists.{member}
 use Rattle.definitions.specs.Fields.{Bytes, byteAt, u16At}
 use Rattle.definitions.specs.Reply.{badMapLength, badGraphHeader, badGraphRecord, badGraphName, graphHasCycle, badGraphCount, badRuleHeader, badRuleRecord, badRuleOrder, badRuleOutputs, badRuleExpression, noMatch, noResult, noRoom, newCycle, badMovesLength, packed, numberIn, placeIn, valueIn}
-use Rattle.definitions.specs.Graph.{headerBytes, slotBytes, unusedPlace, importVersion, slotCount, renamed, graphOf, slotOf, isVertex, graphBlock, graphReply, SoundAs, SoundGraph}
+use Rattle.definitions.specs.Graph.{headerBytes, slotBytes, unusedPlace, versionOffset, importVersion, slotCount, renamed, graphOf, slotOf, isVertex, graphBlock, graphReply, SoundAs, SoundGraph}
 use Rattle.definitions.specs.Rule.{sourceCount, ruleOf, ruleReply, SoundRule}
 use Rattle.definitions.specs.Faults.{FaultAs, GraphFault, RuleFault}
 use Rattle.definitions.specs.Match.{readAttribute, MatchFrom, LeastFrom}
@@ -104,7 +104,7 @@ pub record Verdict (Sound : Type 0) (Fault : ℕ → ℕ → Type 0) (bad : List
   pub plain : numberIn reply ≡ 0 → placeIn reply ≡ 0
   pub value : valueIn reply ≡ 0
 
--- "20 to 23 replace 2", and "24 after 23". Follows from CheckedGraph
+-- "20 to 23 replace 2", and "a wrong count is 24, [...] after 23". Follows from CheckedGraph
 abbrev pub GraphVerdict : List ℕ → ℕ → Type 0
 GraphVerdict graph reply = Verdict (SoundGraph graph) (GraphFault graph) graphNumbers reply
 
@@ -112,7 +112,7 @@ GraphVerdict graph reply = Verdict (SoundGraph graph) (GraphFault graph) graphNu
 abbrev pub RuleVerdict : List ℕ → ℕ → Type 0
 RuleVerdict rule reply = Verdict (SoundRule rule) (RuleFault rule) ruleNumbers reply
 
--- "A sound block is the block of its graph": so two sound blocks of bytes that stand for one graph are the same bytes, and what an
+-- A sound block is the block of its graph: so two sound blocks of bytes that stand for one graph are the same bytes, and what an
 -- operation says of the graph at the return it says of every byte. Follows from the definitions.
 abbrev pub OneBlock : Type 0
 OneBlock = (one other : List ℕ) → Bytes one → Bytes other → SoundGraph one → SoundGraph other → graphOf one ≡ graphOf other → one ≡ other
@@ -131,7 +131,7 @@ blockNumbers = badMapLength ∷ graphNumbers ++ ruleNumbers
 pub record BlockReplies (graph rule map : List ℕ) (reply : ℕ) : Type 0 where
   -- "1: map buffer isn't 32 bytes"
   pub wrongMap : (numberIn reply ≡ badMapLength) ↔ (length map ≡ mapBytes → ⊥)
-  -- "20 to 23 replace 2", and "24 after 23": a bad graph block
+  -- "20 to 23 replace 2", and "a wrong count is 24, [...] after 23": a bad graph block
   pub wrongGraph : (member (numberIn reply) graphNumbers ≡ true) ↔ ((length map ≡ mapBytes) × (SoundGraph graph → ⊥))
   -- "30 to 34 replace 3": a bad rule block
   pub wrongRule : (member (numberIn reply) ruleNumbers ≡ true)
@@ -188,7 +188,7 @@ pub record Yields (graph rule images graphAfter : List ℕ) : Type 0 where
   pub table : graphOf graphAfter ≡ newGraph (graphOf graph) (ruleOf rule) images values
   pub sound : SoundGraph graphAfter
   -- "Nothing else changes" is said by `block`. A part of it, by bytes: a vertex that stays and reads no replaced output keeps every byte
-  -- of its record, and its count may change alone, where other places name it than before.
+  -- of its record but its count, and that too unless more or fewer places name it than before.
   pub records : (k : ℕ) → T (stays (graphOf graph) (ruleOf rule) images k) → ReadsNone (graphOf graph) (ruleOf rule) images k
       → KeepsRecord graph graphAfter k
   -- "It is removed only if all its reads come from images of non-input source vertices and no graph output names it; otherwise it is a
@@ -223,8 +223,8 @@ pub record Demand3 {ℓ} {R : Type ℓ} (m : Meaning R) (graph rule graphAfter m
 
 -- ==== what follows: the sweep
 
--- What an accepted sweep leaves. Together this is every byte: a slot that is Empty in a sound block has one content, and a count is the true
--- one.
+-- What an accepted sweep leaves. Of blocks of bytes this is together every byte: a slot that is Empty in a sound block has one content, and a
+-- count is the true one.
 pub record Sweeps (graph graphAfter : List ℕ) : Type 0 where
   -- "Every vertex from which no graph output is reached becomes Empty, except Variables": Empty after is what was so, and these
   pub empty : (v : ℕ) → (isVertex (graphOf graphAfter) v ≡ false)
@@ -310,7 +310,7 @@ SqueezedTwice graphAfter movesAfter =
 
 -- ==== what follows: the import
 
--- What an accepted import leaves. Together this is every byte.
+-- What an accepted import leaves. Of blocks of bytes this is together every byte.
 pub record Imports (graph graphAfter : List ℕ) : Type 0 where
   -- "An import turns a sound version 1 block into version 2", which stands for the same graph: so every result is the same
   pub sound : SoundGraph graphAfter
@@ -327,11 +327,7 @@ pub record ImportReplies (graph : List ℕ) (reply : ℕ) (graphAfter : List ℕ
   pub refusalKeeps : (numberIn reply ≡ 0 → ⊥) → graphAfter ≡ graph
   pub imports : numberIn reply ≡ 0 → Imports graph graphAfter
 
--- "Any other version is 20", of version 2 too: a second import is refused, and changes nothing. Follows from Imported and reply 0.
-abbrev pub ImportedOnce : List ℕ → Type 0
-ImportedOnce graphAfter =
-    (reply : ℕ) (again : List ℕ) → Imported graphAfter reply again → Says reply badGraphHeader 0 × (again ≡ graphAfter)
-
--- And of version 1 everywhere else: a block that the import takes is refused by the check. Follows from CheckedGraph.
-abbrev pub OldRefused : List ℕ → ℕ → Type 0
-OldRefused graph reply = SoundAs importVersion graph → Says reply badGraphHeader 0
+-- "Any other version is 20". The check takes version 2 alone, and every operation but the import tells the check's faults; the import takes
+-- version 1 alone, so that no second import follows the first. Follows from CheckedGraph with version 2, and from Imported with version 1.
+abbrev pub OneVersion : ℕ → List ℕ → ℕ → Type 0
+OneVersion version graph reply = (u16At graph versionOffset ≡ version → ⊥) → Says reply badGraphHeader 0

@@ -57,6 +57,7 @@ pub data FaultAs (version : ℕ) (block : List ℕ) : ℕ → ℕ → Type 0 whe
       → None (BadOutput (graphOf block)) → Lowest (OnCycle (inputsOf (graphOf block))) v → FaultAs version block graphHasCycle v
 
 pub data GraphFault (block : List ℕ) : ℕ → ℕ → Type 0 where
+  -- 20 to 23: by the rules of version 2
   form : {n p : ℕ} → FaultAs graphVersion block n p → GraphFault block n p
   -- 24: "a wrong count is 24, place the lowest such slot, after 23"
   count : {k : ℕ} → SoundAs graphVersion block → Lowest (BadCount block) k → GraphFault block badGraphCount k

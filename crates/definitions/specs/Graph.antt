@@ -192,7 +192,7 @@ blockAs version counts g =
 abbrev pub graphBlock : Graph → List ℕ
 graphBlock g = blockAs graphVersion (trueCount g) g
 
--- ---- faults, by kind, in document 01's order
+-- ---- faults, by kind, in the papers' order
 
 -- 1 to 4 outputs; the unused places hold 65535
 unfoldable pub outputPlacesFit : List ℕ → Bool
@@ -249,15 +249,21 @@ hasCycle g = ltb (lowestOnCycle g) (length (g .slots))
 unfoldable pub badCount : List ℕ → ℕ → Bool
 badCount block k = not (eqb (storedCount block k) (trueCount (graphOf block) k))
 
--- the kinds of fault that a block of either version can have; an output is looked at after all inputs
-unfoldable pub faultsAs : ℕ → List ℕ → List Fault
-faultsAs version block =
+-- header, records and names; an output is looked at after all inputs
+unfoldable pub nameFaults : ℕ → List ℕ → List Fault
+nameFaults version block =
     fault badGraphHeader (flag (not (headerFits version block)))
     ∷ fault badGraphRecord (place (slotCount block) (lowest (badRecord version block) (slotCount block)))
     ∷ fault badGraphName (place (slotCount block) (lowest (badInputs (graphOf block)) (slotCount block)))
     ∷ fault badGraphName (place (outputCount block) (lowest (badOutput (graphOf block)) (outputCount block)))
-    ∷ fault graphHasCycle (place (slotCount block) (lowestOnCycle (graphOf block)))
     ∷ []
+
+unfoldable pub cycleFaults : List ℕ → List Fault
+cycleFaults block = fault graphHasCycle (place (slotCount block) (lowestOnCycle (graphOf block))) ∷ []
+
+-- the kinds of fault that a block of either version can have
+unfoldable pub faultsAs : ℕ → List ℕ → List Fault
+faultsAs version block = nameFaults version block ++ cycleFaults block
 
 -- "a wrong count is 24, place the lowest such slot, after 23"
 unfoldable pub countFaults : List ℕ → List Fault

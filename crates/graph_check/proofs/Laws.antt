@@ -2,7 +2,7 @@
 -- Assumes nothing.
 use mathlib.Core.Path.{_≡_, refl, sym, ap, _∙_}
 use mathlib.Core.Bool.{true, false}
-use mathlib.Core.List.{List, [], _∷_, _++_}
+use mathlib.Core.List.{List, _++_}
 use mathlib.Core.Logic.{⊎-elim}
 use Prim.Native.Nat.{ℕ, _+_, _<_, _≤_}
 use native.Mathlib.Omega.{arith}
@@ -13,8 +13,8 @@ use Rattle.definitions.specs.declared.Reply.the-variants.{Refused}
 use Rattle.definitions.specs.Lists.{lowest, all}
 use Rattle.definitions.specs.Fields.{byteAt}
 use Rattle.definitions.specs.Operators.{shapeFits}
-use Rattle.definitions.specs.Reply.{badGraphHeader, badGraphRecord, badGraphName, graphHasCycle, badGraphCount, done, refusedAt, refused, Fault, fault, flag, place, judged}
-use Rattle.definitions.specs.Graph.{unusedPlace, graphVersion, slotCount, outputCount, recordAt, Slot, graphOf, inputsOf, isVertex, headerFits, recordFits, badRecord, badInputs, badOutput, badCount, lowestOnCycle, faultsAs, countFaults, replyAs, graphReply}
+use Rattle.definitions.specs.Reply.{badGraphHeader, badGraphRecord, badGraphName, graphHasCycle, badGraphCount, done, refusedAt, refused, flag, place, judged}
+use Rattle.definitions.specs.Graph.{unusedPlace, graphVersion, slotCount, outputCount, recordAt, Slot, graphOf, inputsOf, isVertex, headerFits, recordFits, badRecord, badInputs, badOutput, badCount, lowestOnCycle, nameFaults, cycleFaults, faultsAs, countFaults, replyAs, graphReply}
 use Rattle.laws.proofs.Lists.{decided, lowest-passed, all-at}
 use Rattle.laws.proofs.Faults.{by-place}
 use Rattle.laws.proofs.Reply.{done-or-refused, judged-next, judged-first}
@@ -22,7 +22,7 @@ use Rattle.laws.proofs.Graph.{vertex-inside, length-slots, slot-of, length-inpu
 use Rattle.laws.proofs.Operators.{few-inputs, few-attributes}
 use Rattle.graph_fields.specs.Layout.{WholeGraph, ReadableGraph, Closed, OutputsNamed}
 use Rattle.graph_uses.specs.Countable.{CountableGraph}
-use Rattle.graph_check.specs.Stages.{earlyFaults, earlyReply, Passed}
+use Rattle.graph_check.specs.Stages.{earlyReply, Passed}
 
 -- where no input is bad, every input names a slot
 pub closed : (block : List ℕ) → ReadableGraph block → slotCount block ≤ lowest (badInputs (graphOf block)) (slotCount block) → Closed block
@@ -75,29 +75,29 @@ module _ (version : ℕ) (block : List ℕ) where
   -- ---- the reply, fault by fault: each kind refuses, with its place, once those before it do not
 
   pub early-header : headerFits version block ≡ false → refused badGraphHeader ≡ earlyReply version block
-  unfolding earlyFaults flag judged
+  unfolding nameFaults flag judged
   early-header h = simp h
 
   module _ (header : headerFits version block ≡ true) where
     pub early-record : lowest (badRecord version block) (slotCount block) < slotCount block
         → refusedAt badGraphRecord (lowest (badRecord version block) (slotCount block)) ≡ earlyReply version block
-    unfolding earlyFaults flag place judged
+    unfolding nameFaults flag place judged
     early-record l = simp (header, lt-ltb _ _ l)
 
     module _ (records : slotCount block ≤ lowest (badRecord version block) (slotCount block)) where
       pub early-input : lowest (badInputs (graphOf block)) (slotCount block) < slotCount block
           → refusedAt badGraphName (lowest (badInputs (graphOf block)) (slotCount block)) ≡ earlyReply version block
-      unfolding earlyFaults flag place judged
+      unfolding nameFaults flag place judged
       early-input l = simp (header, le-ltb _ _ records, lt-ltb _ _ l)
 
       module _ (inputs : slotCount block ≤ lowest (badInputs (graphOf block)) (slotCount block)) where
         pub early-output : lowest (badOutput (graphOf block)) (outputCount block) < outputCount block
             → refusedAt badGraphName (lowest (badOutput (graphOf block)) (outputCount block)) ≡ earlyReply version block
-        unfolding earlyFaults flag place judged
+        unfolding nameFaults flag place judged
         early-output l = simp (header, le-ltb _ _ records, le-ltb _ _ inputs, lt-ltb _ _ l)
 
         pub early-done : outputCount block ≤ lowest (badOutput (graphOf block)) (outputCount block) → done ≡ earlyReply version block
-        unfolding earlyFaults flag place judged
+        unfolding nameFaults flag place judged
         early-done l = simp (header, le-ltb _ _ records, le-ltb _ _ inputs, le-ltb _ _ l)
 
   -- where none of them does, each is passed
@@ -116,33 +116,30 @@ module _ (version : ℕ) (block : List ℕ) where
 
   -- ---- and then a cycle
 
-  abbrev cycleFaults : List Fault
-  cycleFaults = fault graphHasCycle (place (slotCount block) (lowestOnCycle (graphOf block))) ∷ []
-
-  in-stages : replyAs version block ≡ judged (earlyFaults version block ++ cycleFaults)
-  unfolding replyAs faultsAs earlyFaults
+  in-stages : replyAs version block ≡ judged (nameFaults version block ++ cycleFaults block)
+  unfolding replyAs faultsAs
   in-stages = refl
 
   pub early-refused : {why : Refusal} → earlyReply version block ≡ Refused why → replyAs version block ≡ Refused why
-  early-refused e = in-stages ∙ judged-first (earlyFaults version block) cycleFaults e
+  early-refused e = in-stages ∙ judged-first (nameFaults version block) (cycleFaults block) e
 
   pub told-early : {why : Refusal} → Refused why ≡ earlyReply version block → Refused why ≡ replyAs version block
   told-early e = sym (early-refused (sym e))
 
   module _ (early : done ≡ earlyReply version block) where
-    then-cycle : judged cycleFaults ≡ replyAs version block
-    then-cycle = sym (in-stages ∙ judged-next (earlyFaults version block) cycleFaults (sym early))
+    then-cycle : judged (cycleFaults block) ≡ replyAs version block
+    then-cycle = sym (in-stages ∙ judged-next (nameFaults version block) (cycleFaults block) (sym early))
 
     pub refused-cycle : lowestOnCycle (graphOf block) < slotCount block
         → refusedAt graphHasCycle (lowestOnCycle (graphOf block)) ≡ replyAs version block
-    unfolding place judged
+    unfolding cycleFaults place judged
     refused-cycle l =
-        let told : refusedAt graphHasCycle (lowestOnCycle (graphOf block)) ≡ judged cycleFaults = simp (lt-ltb _ _ l) in
+        let told : refusedAt graphHasCycle (lowestOnCycle (graphOf block)) ≡ judged (cycleFaults block) = simp (lt-ltb _ _ l) in
         told ∙ then-cycle
 
     pub sound : slotCount block ≤ lowestOnCycle (graphOf block) → done ≡ replyAs version block
-    unfolding place judged
-    sound l = let told : done ≡ judged cycleFaults = simp (le-ltb _ _ l) in told ∙ then-cycle
+    unfolding cycleFaults place judged
+    sound l = let told : done ≡ judged (cycleFaults block) = simp (le-ltb _ _ l) in told ∙ then-cycle
 
 -- ---- what is known of a block that passed
 

@@ -73,7 +73,7 @@ pub fn check(graph: &[u8]) -> Reply
     let slots = slot_count(graph);
     let looped = lowest_on_cycle(graph);
     let wrong = bad_count(graph);
-    // A wrong count is told only where there is no cycle.
+    // A wrong count is told only where there is no cycle. Both are looked for before either is told, so that their order is these two tests.
     if looped < slots {
         return refuse_at(GRAPH_HAS_CYCLE, looped as u32);
     }

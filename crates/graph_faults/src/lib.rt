@@ -13,8 +13,8 @@ use fields::i32_at;
 use graph_fields::slot_count;
 use operators::shape_fits;
 use runs::WORD_BYTES;
-use runs::four_words_filled;
 use runs::is_filled;
+use runs::three_words_filled;
 use runs::two_words_filled;
 use runs::word_ends_zero;
 use runs::word_filled;
@@ -68,7 +68,7 @@ fn unused_attributes_fit(graph: &[u8], at: usize, attributes: usize) -> bool
     if to < from + WORD_BYTES {
         return is_filled(graph, from, to, 0);
     }
-    four_words_filled(graph, from, to, 0)
+    three_words_filled(graph, from, to, 0)
 }
 
 // Whether the last bytes of the record at `at` are zero: its tail, but for the count where the version has one.

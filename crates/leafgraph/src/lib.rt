@@ -12,7 +12,7 @@ pub extern "C" fn lg_check_graph(graph: &[u8]) -> u64
     pack(graph_check::check(graph))
 }
 
-// Checks a rule block: 0, or 30 to 34 with a place.
+// Checks a rule block: 0, or 30 to 34, all but 30 and 33 with a place.
 #[no_mangle]
 pub extern "C" fn lg_check_rule(rule: &[u8]) -> u64
     ensures { λ r. ⌜ CheckedRule (now (rule .entry)) r ⌝ }

@@ -1,5 +1,5 @@
-// What is asked of a slot before its inputs are entered: the look at its kind, operator and counts, which turns away most slots, and then
-// how often it is named.
+// What is asked of a slot before its inputs are entered: the look at its kind, operator and numbers of inputs and attributes, which turns away
+// most slots, and then how often it is named, by the count that it stores.
 use definitions::KIND_EMPTY;
 use fields::widened;
 use graph_fields::attribute_count;

@@ -22,8 +22,8 @@ ghost use Rattle.definitions.specs.Operations as operation;
 ghost use Rattle.new_plan.specs.Planned.{Matched, Planned};
 
 // What a rewriting at this match comes to: refusal 5, 6 or 7, in that order, or done with the new table in `table`. The cycle is
-// looked for in the new table, and the room counted after the removal. Counts are made last, once for the whole table: so they are true
-// also where a place was redirected away from a slot that stays, or to one.
+// looked for in the new table, and the room counted after the removal. Counts are made last, once for the whole table: so they are true also
+// of a slot that stays, which loses the places of removed vertices, and may get those of target vertices and redirected ones.
 pub fn plan(graph: &[u8], rule: &[u8], images: &[u16; SIDE_CAPACITY], table: &mut [u8]) -> Reply
     requires { ⌜ Matched (now graph) (now rule) (now images) ⌝ }
     requires { ⌜ length (now table) ≡ length (now graph) ⌝ }

@@ -67,11 +67,11 @@ pub fn two_words_filled(block: &[u8], from: usize, to: usize, value: u8) -> bool
     word_filled(block, to - WORD_BYTES, value)
 }
 
-// The same where they are one word to four words long: two pairs of words, which may overlap too. There is no loop, so that nothing
-// depends on the length but where the words stand.
-pub fn four_words_filled(block: &[u8], from: usize, to: usize, value: u8) -> bool
+// The same where they are one word to three words long: a pair of words as above, and the last word, which may overlap it. There is no loop, so
+// that nothing depends on the length but where the words stand.
+pub fn three_words_filled(block: &[u8], from: usize, to: usize, value: u8) -> bool
     requires { ⌜ from + wordBytes ≤ to ⌝ }
-    requires { ⌜ to ≤ from + 4 * wordBytes ⌝ }
+    requires { ⌜ to ≤ from + 3 * wordBytes ⌝ }
     requires { ⌜ to ≤ length (now block) ⌝ }
     ensures { λ r. ⌜ r ≡ filled (now (block .entry)) from to value ⌝ }
 {
@@ -79,6 +79,6 @@ pub fn four_words_filled(block: &[u8], from: usize, to: usize, value: u8) -> boo
     if !two_words_filled(block, from, middle, value) {
         return false;
     }
-    let rest = lesser(middle, to - WORD_BYTES);
-    two_words_filled(block, rest, to, value)
+    let last = to - WORD_BYTES;
+    word_filled(block, last, value)
 }

@@ -76,7 +76,7 @@ afterCycle : Counting
 unfolding variable relu block
 afterCycle = checking (set (block (variable ∷ relu 1 ∷ []) (0 ∷ [])) 64 9) (refusedAt 23 1)
 
--- version 1 is refused here, and version 2 by the import
+-- version 1 is refused by the check, and version 2 by the import
 oldVersion : Counting
 unfolding oldSums
 oldVersion = checking oldSums (refused 20)

@@ -1,4 +1,4 @@
-// Document 01's run-only examples for the checks and for matching, a check each of an old version, of wrong counts and of slots that are
+// Document 01's run-only examples for the checks and for matching, checks of an old version, of wrong counts and of slots that are
 // named twice, P9's values as the code finds them, and what rewriting makes of P1, P3, P4, P7, P8 and P10. The calls are data: they are
 // read from stdin, a file that examples/worked_examples.py writes from readable sources and whose lines it describes. What this prints is
 // held to the stored stdout, which the second program under reference/ wrote.

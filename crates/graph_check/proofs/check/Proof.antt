@@ -5,9 +5,9 @@ use mathlib.Core.List.{List}
 use Prim.Native.Nat.{ℕ}
 use native.Mathlib.Omega.{arith}
 use Rattle.definitions.specs.Reply.{graphHasCycle, badGraphCount, done, refusedAt}
-use Rattle.definitions.specs.Graph.{graphVersion, replyAs}
+use Rattle.definitions.specs.Graph.{graphVersion, nameFaults, replyAs}
 use Rattle.laws.proofs.Reply.{done-plain, judged-valueless}
-use Rattle.graph_check.specs.Stages.{earlyFaults, earlyReply, Passed}
+use Rattle.graph_check.specs.Stages.{earlyReply, Passed}
 use Rattle.graph_check.proofs.Laws.{passed, early-refused, refused-cycle, sound, passed-readable, passed-closed, passed-countable, refused-form, refused-count, counted}
 use borrow.Author.Needs.{needs}
 use Rattle.graph_check.proofs.check.Statement.{statement}
@@ -34,7 +34,7 @@ module _ (c : tie.After-enum-told) where
   graph = c .before .before .before .before .args .graph .now
 
   early : earlyReply graphVersion graph ≡ done
-  early = done-plain (judged-valueless (earlyFaults graphVersion graph)) (sym (c .before .before .check-names .ensures) ∙ c .enum-told .given .1)
+  early = done-plain (judged-valueless (nameFaults graphVersion graph)) (sym (c .before .before .check-names .ensures) ∙ c .enum-told .given .1)
 
   known : Passed graphVersion graph
   known = passed graphVersion graph early

@@ -5,8 +5,9 @@ use mathlib.Core.List.{List}
 use Prim.Native.Nat.{ℕ}
 use native.Mathlib.Omega.{arith}
 use Rattle.definitions.specs.Reply.{graphHasCycle, done, refusedAt}
+use Rattle.definitions.specs.Graph.{nameFaults}
 use Rattle.laws.proofs.Reply.{done-plain, judged-valueless}
-use Rattle.graph_check.specs.Stages.{earlyFaults, earlyReply, Passed}
+use Rattle.graph_check.specs.Stages.{earlyReply, Passed}
 use Rattle.graph_check.proofs.Laws.{passed, early-refused, refused-cycle, sound, passed-readable, passed-closed}
 use borrow.Author.Needs.{needs}
 use Rattle.graph_check.proofs.judge.Statement.{statement}
@@ -39,7 +40,7 @@ module _ (c : tie.After-enum-told) where
   graph = start .args .graph .now
 
   early : earlyReply version graph ≡ done
-  early = done-plain (judged-valueless (earlyFaults version graph)) (sym (c .before .before .check-names .ensures) ∙ c .enum-told .given .1)
+  early = done-plain (judged-valueless (nameFaults version graph)) (sym (c .before .before .check-names .ensures) ∙ c .enum-told .given .1)
 
   known : Passed version graph
   known = passed version graph early
