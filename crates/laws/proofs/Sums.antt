@@ -10,7 +10,7 @@ use native.Mathlib.Numerals.{add-one}
 use native.Mathlib.Omega.{arith}
 use borrow.Author.Tests.{ltb-true, ltb-false, eqb-true, eqb-false, eq-eqb, ne-eqb, not-true}
 use lib.Dec.{eqb, ltb}
-use lib.ListN.{length}
+use lib.ListN.{length, getD}
 use Rattle.definitions.specs.Lists.{total, filter, member, count, distinct, range, tabulate}
 use Rattle.laws.proofs.Lists.{decided, bit, and-left, and-right}
 use Rattle.laws.proofs.Ranges.{range-more}
@@ -77,6 +77,23 @@ total-part f (suc n) w l = ⊎-elim
     (λ (t : ltb w n ≡ false). let e : w ≡ n = omega (arith, ltb-false w n t) in rw e (omega arith))
     (decided (ltb w n))
 
+-- where there is nothing from m on
+pub total-low : (f : ℕ → ℕ) (n m : ℕ) → m ≤ n → ((w : ℕ) → m ≤ w → f w ≡ 0) → total f n ≡ total f m
+unfolding total
+total-low f zero m l none = let e : m ≡ 0 = omega arith in rw e
+total-low f (suc n) m l none = ⊎-elim
+    (λ (t : ltb n m ≡ true). let e : m ≡ suc n = omega (arith, ltb-true n m t) in rw e)
+    (λ (t : ltb n m ≡ false).
+    let past = ltb-false n m t in
+    omega (arith, total-low f n m past none, none n past))
+    (decided (ltb n m))
+
+-- the first, and those after it
+total-first : (f : ℕ → ℕ) (n : ℕ) → total f (suc n) ≡ f 0 + total (λ k. f (suc k)) n
+unfolding total
+total-first f zero = omega arith
+total-first f (suc n) = omega (arith, total-first f n)
+
 -- ---- a sum over a list of numbers
 
 pub sumOver : (ℕ → ℕ) → List ℕ → ℕ
@@ -105,6 +122,13 @@ pub sum-range : (f : ℕ → ℕ) (n : ℕ) → sumOver f (range 0 n) ≡ total 
 unfolding total sumOver
 sum-range f zero = unfold range tabulate in refl
 sum-range f (suc n) = ap (sumOver f) (range-more n) ∙ sum-append f (range 0 n) (n ∷ []) ∙ omega (arith, sum-range f n)
+
+-- place by place
+pub sum-places : (f : ℕ → ℕ) (xs : List ℕ) (d : ℕ) → sumOver f xs ≡ total (λ k. f (getD xs k d)) (length xs)
+unfolding sumOver
+sum-places f [] d = unfold total in refl
+sum-places f (x ∷ xs) d =
+    ap (λ (s : ℕ). f x + s) (sum-places f xs d) ∙ sym (total-first (λ k. f (getD (x ∷ xs) k d)) (length xs))
 
 -- ---- the numbers of a list, and the others
 

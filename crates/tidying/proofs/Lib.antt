@@ -1,3 +1,4 @@
 pub mod Carried
 pub mod Swept
 pub mod Squeezed
+pub mod Counts

@@ -120,7 +120,7 @@ module _ (g : Graph) (table : Table g) where
   -- ---- what a vertex that stays reads stays
 
   -- an Empty slot and a Variable read nothing
-  leaf-reads : (k v : ℕ) → eqb (slotOf g k .kind) kindCall ≡ false → rowOf (slotOf g k .kind) .greatest ≡ 0 → k < length (g .slots)
+  pub leaf-reads : (k v : ℕ) → eqb (slotOf g k .kind) kindCall ≡ false → rowOf (slotOf g k .kind) .greatest ≡ 0 → k < length (g .slots)
       → Reads (inputsOf g) k v → ⊥
   leaf-reads k v other none l e =
       let s = slotOf g k in
