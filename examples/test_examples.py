@@ -229,7 +229,7 @@ class Blocks(unittest.TestCase):
         damaged.write_bytes(block)
         said, status = run("check_blocks", damaged)
         self.assertEqual((said, status),
-                         (f"{damaged}: reply 24, bad graph block: a stored count of readers is "
+                         (f"{damaged}: reply 24, bad graph block: a stored count is "
                           "not the true one, slot 2\n", 1))
 
 

@@ -64,8 +64,8 @@ enum {
                                  Place: the lowest slot with such an input; only
                                  where there is none, the lowest output, 0 to 3 */
     LG_GRAPH_HAS_CYCLE = 23,  /* a cycle. Place: the lowest slot on one */
-    LG_BAD_GRAPH_COUNT = 24,  /* a stored count of readers that is not the true
-                                 one. Place: the lowest such slot */
+    LG_BAD_GRAPH_COUNT = 24,  /* a stored count that is not the true one. Place:
+                                 the lowest such slot */
 
     /* Bad rule blocks: lg_is_bad_rule. */
     LG_BAD_RULE_HEADER = 30,     /* the length, or a field of the header, unused

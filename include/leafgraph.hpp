@@ -72,7 +72,7 @@ constexpr const char *what(Code code) noexcept {
     case Code::graph_has_cycle:
         return "bad graph block: it has a cycle";
     case Code::bad_graph_count:
-        return "bad graph block: a stored count of readers is not the true one";
+        return "bad graph block: a stored count is not the true one";
     case Code::bad_rule_header:
         return "bad rule block: its length or its header";
     case Code::bad_rule_record:
