@@ -12,7 +12,7 @@ static_assert(LG_DONE == 0 && LG_BAD_MAP_LENGTH == 1 && LG_NO_MATCH == 4 && LG_N
 static_assert(LG_BAD_GRAPH_HEADER == 20 && LG_BAD_GRAPH_RECORD == 21 && LG_BAD_GRAPH_NAME == 22
                   && LG_GRAPH_HAS_CYCLE == 23 && LG_BAD_GRAPH_COUNT == 24,
               "numbers for a bad graph");
-static_assert(LG_GRAPH_VERSION == 2 && LG_IMPORTED_VERSION == 1, "versions of a graph block");
+static_assert(LG_GRAPH_VERSION == 2 && LG_VERSION_TO_IMPORT == 1, "versions of a graph block");
 static_assert(LG_BAD_RULE_HEADER == 30 && LG_BAD_RULE_RECORD == 31 && LG_BAD_RULE_ORDER == 32
                   && LG_BAD_RULE_OUTPUTS == 33 && LG_BAD_RULE_EXPRESSION == 34,
               "numbers for a bad rule");

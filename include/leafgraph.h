@@ -15,7 +15,7 @@
  * - A graph block is one of version 2 (LG_GRAPH_VERSION). Each of its slots has its
  *   count: how many input places and graph outputs name it. Places count, not readers:
  *   where a vertex reads a slot twice, that is two. What is written has true counts.
- *   Only lg_import takes another version, which is version 1, and no other.
+ *   lg_import alone takes another version: version 1, and only that.
  * - There is no state: calls may be made from any number of threads at once,
  *   as long as no buffer is written by one call while another one uses it.
  * - No memory is allocated. Each function's Stack line says how much stack to
@@ -101,8 +101,8 @@ enum {
                             moves, for a slot that was Empty */
 
     /* Bytes 4 and 5 of a graph block. */
-    LG_GRAPH_VERSION = 2,   /* with counts: lg_import makes it, all else takes it */
-    LG_IMPORTED_VERSION = 1 /* without them: lg_import takes it */
+    LG_GRAPH_VERSION = 2,    /* with counts: lg_import makes it, all else takes it */
+    LG_VERSION_TO_IMPORT = 1 /* without them: lg_import takes it */
 };
 
 /* The number of a reply: bits 0 to 7. Compare this, and not the whole reply,

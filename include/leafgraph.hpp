@@ -433,7 +433,7 @@ inline Reply import_graph(WritableBytes graph) noexcept {
 inline bool wants_import(Bytes graph) noexcept {
     return !detail::is_null(graph) && detail::byte_at(graph, 0) == 'L'
            && detail::byte_at(graph, 1) == 'G' && detail::byte_at(graph, 2) == 'T'
-           && detail::number16_at(graph, 4) == LG_IMPORTED_VERSION
+           && detail::number16_at(graph, 4) == LG_VERSION_TO_IMPORT
            && graph.size() == detail::record_at(detail::number16_at(graph, 6));
 }
 

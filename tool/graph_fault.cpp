@@ -72,7 +72,7 @@ Fault index_fault(const GraphView &graph, std::size_t slot) {
 }
 
 Fault record_fault(const GraphView &graph, std::size_t slot, unsigned version) {
-    const std::size_t zeros = version == LG_IMPORTED_VERSION ? 40 : 42; // behind a count
+    const std::size_t zeros = version == LG_VERSION_TO_IMPORT ? 40 : 42; // behind a count
     const auto input = [&](std::size_t place) { return graph.input(slot, place); };
     const auto attribute = [&](std::size_t place) { return graph.attribute(slot, place); };
     return first_of(

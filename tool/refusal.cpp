@@ -89,7 +89,7 @@ void want_done(Reply reply, const Input &block) {
 
 void want_imported(Reply reply, const Input &graph) {
     if (!reply.done()) {
-        throw Failure(Status::refused, {graph_refusal(reply, graph, LG_IMPORTED_VERSION)});
+        throw Failure(Status::refused, {graph_refusal(reply, graph, LG_VERSION_TO_IMPORT)});
     }
 }
 

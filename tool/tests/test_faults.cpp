@@ -94,7 +94,7 @@ void expect_graph_words(const Block &graph, Reply reply, unsigned version) {
         expect(place_in(reply_of(reply.code(), slot), graph).kind != PlaceKind::slot,
                "a slot before the one that is given");
     }
-    note(reply, kind, version == LG_IMPORTED_VERSION ? "import " : "");
+    note(reply, kind, version == LG_VERSION_TO_IMPORT ? "import " : "");
 }
 
 void try_graph(const Block &graph) {
@@ -105,7 +105,7 @@ void try_graph(const Block &graph) {
 void try_import(const Block &graph) {
     Block lent = graph;
     const Reply reply = import_graph(lent);
-    expect_graph_words(graph, reply, LG_IMPORTED_VERSION);
+    expect_graph_words(graph, reply, LG_VERSION_TO_IMPORT);
     expect(!reply.done() || check_graph(lent).done(), "what is imported is sound");
 }
 
