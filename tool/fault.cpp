@@ -77,6 +77,10 @@ Fault unless_equal(const std::string &what, long long is, long long wanted) {
     return unless(is == wanted, what, is, std::to_string(wanted));
 }
 
+Fault version_fault(unsigned is, unsigned wanted) {
+    return unless_equal("the version", is, wanted);
+}
+
 Fault beginning_fault(const Fields &block, const std::string &mark, unsigned version) {
     std::string begins;
     for (std::size_t at = 0; at < mark.size(); ++at) {
@@ -85,7 +89,7 @@ Fault beginning_fault(const Fields &block, const std::string &mark, unsigned ver
     return first_of({begins == mark ? "" : "the mark is " + hex(begins) + ", " + hex(mark) + " ("
                                                + mark + ") wanted",
                      unless_equal("byte 3", block.number8(3), 0),
-                     unless_equal("the version", block.number16(4), version)});
+                     version_fault(block.number16(4), version)});
 }
 
 Fault cut_header_fault(const Fields &block, std::size_t header_length) {

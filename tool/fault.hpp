@@ -25,6 +25,9 @@ Fault unless(bool holds, const std::string &what, long long is, const std::strin
 // A field that must have this one number.
 Fault unless_equal(const std::string &what, long long is, long long wanted);
 
+// A version that is not the wanted one.
+Fault version_fault(unsigned is, unsigned wanted);
+
 // The fields with which both blocks begin: the mark, byte 3 and the version.
 Fault beginning_fault(const Fields &block, const std::string &mark, unsigned version);
 

@@ -1,7 +1,6 @@
 #include "refusal.hpp"
 
 #include "failure.hpp"
-#include "fields.hpp"
 #include "graph_fault.hpp"
 #include "rule_fault.hpp"
 
@@ -18,17 +17,13 @@ std::string hint(const Input &input, const std::string &other_mark, const std::s
     return starts_with(input, other_mark) ? " (it begins as a " + other + " block does)" : "";
 }
 
-// A version 1 block where version 2 is wanted, or the other way round.
-std::string version_hint(Reply reply, const Input &graph, unsigned version) {
-    if (reply.code() != Code::bad_graph_header || !starts_with(graph, graph_mark)) {
-        return "";
+// Where the version is what is told: of version 1 where version 2 is wanted, or the other
+// way round. The block may have further faults, which the call for its version tells.
+std::string version_hint(const Fault &fault) {
+    if (fault == version_fault(LG_VERSION_TO_IMPORT, LG_GRAPH_VERSION)) {
+        return " (a version 1 block wants importing: leafgraph import GRAPH)";
     }
-    if (version == LG_GRAPH_VERSION) {
-        return wants_import(graph.bytes)
-                   ? " (a version 1 block wants importing: leafgraph import GRAPH)"
-                   : "";
-    }
-    return Fields(graph.bytes).number16(4) == LG_GRAPH_VERSION
+    return fault == version_fault(LG_GRAPH_VERSION, LG_VERSION_TO_IMPORT)
                ? " (a version 2 block needs no import)"
                : "";
 }
@@ -51,9 +46,9 @@ std::string refused_with(Reply reply) {
 
 // A refused graph, of which this version was wanted.
 std::string graph_refusal(Reply reply, const Input &graph, unsigned version) {
-    return graph.name + ": " + refused_with(reply)
-           + fault_words(reply, graph, graph_fault(reply, graph.bytes, version))
-           + hint(graph, rule_mark, "rule") + version_hint(reply, graph, version);
+    const Fault fault = graph_fault(reply, graph.bytes, version);
+    return graph.name + ": " + refused_with(reply) + fault_words(reply, graph, fault)
+           + hint(graph, rule_mark, "rule") + version_hint(fault);
 }
 
 } // namespace

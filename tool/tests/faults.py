@@ -102,6 +102,7 @@ WRONG_COUNTS = {
 IMPORTS = {
     "20-import-version-3.lgt": damaged(E1_VERSION_1, {4: 3}),
     "20-import-short.lgt": E1_VERSION_1[:-1],
+    "20-import-byte-3.lgt": damaged(E1_VERSION_1, {3: 1}),
     "20-import-byte-19.lgt": damaged(E1_VERSION_1, {19: 1}),
     "21-import-count.lgt": damaged(E1_VERSION_1, {24 + 48 + 40: 1}),
     "21-import-high-byte.lgt": damaged(E1_VERSION_1, {24 + 48 + 41: 1}),
