@@ -121,7 +121,7 @@ void import_block(const CommandLine &line) {
     Input graph = read_graph_file(line.files[0]);
     want_imported(import_graph(graph.bytes), graph);
     const std::size_t slots = read_graph(graph.bytes).slots.size();
-    finish(line, graph, {"imported: version 1 is version 2 now, with counts for "
+    finish(line, graph, {"imported: it is a version 2 block now, with counts for "
                          + counted(slots, "slot", "slots")});
 }
 
