@@ -41,7 +41,6 @@ public:
     std::int32_t attribute(std::size_t slot, std::size_t place) const {
         return fields_.signed32(record(slot) + 12 + 4 * place);
     }
-    unsigned stored_count(std::size_t slot) const { return fields_.number16(record(slot) + 40); }
 
 private:
     std::size_t count(std::size_t at) const {
@@ -163,7 +162,8 @@ Fault cycle_fault(const GraphView &graph, std::size_t slot) {
 }
 
 // "the stored count is 5, 2 wanted: 1 input place and 1 output name it".
-Fault count_fault(const GraphView &graph, std::size_t slot) {
+Fault count_fault(Bytes block, std::size_t slot) {
+    const GraphView graph(block);
     unsigned inputs = 0, outputs = 0;
     for (std::size_t reader = 0; reader < graph.slots(); ++reader) {
         for (std::size_t place = 0; place < graph.inputs(reader); ++place) {
@@ -174,7 +174,7 @@ Fault count_fault(const GraphView &graph, std::size_t slot) {
         outputs += graph.output(place) == slot ? 1 : 0;
     }
     const Fault fault
-        = unless_equal("the stored count", graph.stored_count(slot), inputs + outputs);
+        = unless_equal("the stored count", stored_count(block, slot), inputs + outputs);
     return fault.empty() ? ""
                          : fault + ": " + counted(inputs, "input place", "input places") + " and "
                                + counted(outputs, "output", "outputs") + " name it";
@@ -196,7 +196,7 @@ Fault graph_fault(Reply reply, Bytes block, unsigned version) {
     case Code::graph_has_cycle:
         return cycle_fault(graph, place.number);
     case Code::bad_graph_count:
-        return count_fault(graph, place.number);
+        return count_fault(block, place.number);
     default:
         return "";
     }
