@@ -12,6 +12,7 @@
 //   place_in says what the place of a refused block counts.
 // - The numbers of a map and of a list of moves are read by index (Map, Moves), and so
 //   are the counts that a graph block stores (stored_count).
+// - wants_import says whether a block is one of version 1, for import_graph.
 //
 // Nothing here throws, allocates or keeps state. What leafgraph.h says about
 // threads and stack holds here too.

@@ -10,8 +10,9 @@ use crate::graph::{Graph, Version, MAX_SLOTS, VERSION};
 pub const FALSE_COUNT: Fault = "a stored count is not the number of places that name the slot";
 pub const OTHER_BYTES: Fault = "an import has changed more than the version and the counts";
 
-/// FALSE_COUNT where it holds of what is to be a block of version 2. The numbers in
-/// all used places are put in order: those of one slot stand together.
+/// FALSE_COUNT where a count of a block of version 2 is false, and also where the
+/// block is not sound in all else. The numbers in all used places are put in order:
+/// those of one slot stand together.
 pub fn count_faults(block: &[u8]) -> Vec<Fault> {
     let Ok(graph) = Graph::parse_but_counts(block, Version::Two) else {
         return vec![FALSE_COUNT];
