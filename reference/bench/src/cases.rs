@@ -110,14 +110,14 @@ const REWRITINGS: [(&str, u64, Graph, Rule, Course); 4] = [
 
 /// A call that changes a graph in place: a sweep, a squeeze or an import, on a graph
 /// and a list. Only a squeeze takes the list.
-type Cleanup = fn(&mut [u8], &mut [u8]) -> u64;
+type InPlace = fn(&mut [u8], &mut [u8]) -> u64;
 
 /// Each of them in the library and in the second program.
-const SWEEP: [Cleanup; 2] =
+const SWEEP: [InPlace; 2] =
     [|graph, _| leafgraph_proved::sweep(graph), |graph, _| leafgraph_reference::sweep(graph)];
-const SQUEEZE: [Cleanup; 2] = [leafgraph_proved::squeeze, leafgraph_reference::squeeze];
+const SQUEEZE: [InPlace; 2] = [leafgraph_proved::squeeze, leafgraph_reference::squeeze];
 
-const CLEANUPS: [(&str, Graph, [Cleanup; 2]); 7] = [
+const CLEANUPS: [(&str, Graph, [InPlace; 2]); 7] = [
     ("sweep: a dead chain", dead_chain, SWEEP),
     ("sweep: all live", chain, SWEEP),
     ("sweep: all live, reversed", reversed_chain, SWEEP),
@@ -128,7 +128,7 @@ const CLEANUPS: [(&str, Graph, [Cleanup; 2]); 7] = [
 ];
 
 /// Of either program; an import takes no list.
-const IMPORT: [Cleanup; 2] =
+const IMPORT: [InPlace; 2] =
     [|graph, _| leafgraph_proved::import(graph), |graph, _| leafgraph_reference::import(graph)];
 
 const IMPORTS: [(&str, Graph); 3] = [
@@ -166,7 +166,7 @@ pub fn rewritings() -> Vec<Case> {
 /// Each timed call copies the graph first, as in the rewritings.
 pub fn cleanups() -> Vec<Case> {
     let of_all_sizes = |(name, graph, programs): (_, Graph, _)| {
-        SIZES.map(|slots| cleanup(name, graph(slots).block(), slots.into(), programs))
+        SIZES.map(|slots| in_place(name, graph(slots).block(), slots.into(), programs))
     };
     CLEANUPS.into_iter().flat_map(of_all_sizes).collect()
 }
@@ -174,7 +174,7 @@ pub fn cleanups() -> Vec<Case> {
 /// Blocks of version 1. Each timed call copies the block first, as in the rewritings.
 pub fn imports() -> Vec<Case> {
     let of_all_sizes = |(name, graph): (_, Graph)| {
-        SIZES.map(|slots| cleanup(name, graph(slots).version_1_block(), slots.into(), IMPORT))
+        SIZES.map(|slots| in_place(name, graph(slots).version_1_block(), slots.into(), IMPORT))
     };
     IMPORTS.into_iter().flat_map(of_all_sizes).collect()
 }
@@ -267,15 +267,15 @@ fn rewriting(
 }
 
 /// The list stands behind the graph, so that both are compared.
-fn cleanup(name: &'static str, graph: Vec<u8>, slots: usize, programs: [Cleanup; 2]) -> Case {
-    let [proved, second] = programs.map(|cleanup| -> Program {
+fn in_place(name: &'static str, graph: Vec<u8>, slots: usize, programs: [InPlace; 2]) -> Case {
+    let [proved, second] = programs.map(|call| -> Program {
         let graph = graph.clone();
         Box::new(move |lent| {
             lent.clear();
             lent.extend_from_slice(black_box(&graph));
             lent.resize(graph.len() + 2 * slots, 0);
             let (table, list) = lent.split_at_mut(graph.len());
-            Answer { reply: cleanup(table, list), map: [0; MAP_LENGTH] }
+            Answer { reply: call(table, list), map: [0; MAP_LENGTH] }
         })
     });
     Case { name, slots: Some(slots), reply: DONE, proved, second }

@@ -182,6 +182,7 @@ impl Input {
             seed: mixed(u64::from_le_bytes(head[..8].try_into().expect("eight bytes"))),
         }
     }
+
     /// The same with the graph's block in the other version: with true counts, or
     /// without counts. None where it is of neither version.
     pub fn in_other_version(&self) -> Option<Input> {

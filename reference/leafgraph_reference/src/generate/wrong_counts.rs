@@ -56,8 +56,8 @@ fn readers(graph: &GraphParts) -> Vec<u16> {
 }
 
 /// Input places alone, of the readers of which this holds.
-fn of_readers(graph: &GraphParts, counts: impl Fn(usize) -> bool) -> Vec<u16> {
-    let readers = graph.slots.iter().enumerate().filter(|(slot, _)| counts(*slot));
+fn of_readers(graph: &GraphParts, is_counted: impl Fn(usize) -> bool) -> Vec<u16> {
+    let readers = graph.slots.iter().enumerate().filter(|(slot, _)| is_counted(*slot));
     graph.times_in(readers.flat_map(|(_, vertex)| &vertex.inputs))
 }
 
