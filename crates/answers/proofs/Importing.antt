@@ -1,7 +1,7 @@
 -- What the replies of an import mean, and what an accepted one leaves. Theorems from the contract of lg_import alone.
 -- Assumes nothing.
 use mathlib.Core.Path.{_≡_, refl, sym, ap, _∙_}
-use mathlib.Core.Bool.{true, false, and-false}
+use mathlib.Core.Bool.{false, and-false}
 use mathlib.Core.List.{List}
 use Prim.Native.Nat.{ℕ, _+_, _<_}
 use native.Mathlib.Omega.{arith}

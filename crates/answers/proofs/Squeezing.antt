@@ -16,7 +16,7 @@ use Rattle.definitions.specs.Lists.{member}
 use Rattle.definitions.specs.Fields.{u16Bytes}
 use Rattle.definitions.specs.Operators.{kindVariable}
 use Rattle.definitions.specs.Reply.{done, badMovesLength, refused, packed, numberIn, placeIn, valueIn}
-use Rattle.definitions.specs.Graph.{graphVersion, slotCount, Graph, renamed, graphOf, slotOf, isVertex, isVariable, recordAt, trueCount, graphBlock, graphReply, SoundGraph}
+use Rattle.definitions.specs.Graph.{graphVersion, slotCount, storedCount, Graph, renamed, graphOf, slotOf, isVertex, isVariable, recordAt, trueCount, graphBlock, graphReply, SoundGraph}
 use Rattle.definitions.specs.Faults.{GraphFault}
 use Rattle.definitions.specs.Squeeze.{movedTo, squeeze, movesBlock, movesReply, squeezeReply, squeezeGraph, squeezeMoves}
 use Rattle.definitions.specs.Results.{Meaning}
@@ -32,6 +32,7 @@ use Rattle.encoding.proofs.Pieces.{length-numbered, numbered-at}
 use Rattle.encoding.proofs.Blocks.{few-slots, block-length, block-back, block-sound}
 use Rattle.encoding.proofs.Graphs.{table-of, words-of, canonical}
 use Rattle.tidying.proofs.Carried.{Carries}
+use Rattle.tidying.proofs.Counts.{squeezed-count}
 use Rattle.tidying.proofs.Squeezed.{vertexCount, comesFrom, count-most, moved-empty, moved-below, moved-from, moved-order, from-vertex, from-moved, squeezed-size, moved-slot, vertex-low, squeezed-table, squeezed-words, squeezed-acyclic, moved-self, squeezed-twice}
 use Rattle.answers.specs.Tidied.{wentTo, Renumbers}
 use Rattle.answers.specs.Statements.{Says, graphNumbers, squeezeNumbers, Squeezed, GraphVerdict, Squeezes, SqueezeReplies, SqueezeKeeps, SqueezedTwice}
@@ -269,6 +270,23 @@ module _ (graph moves : List ℕ) (reply : ℕ) (graphAfter movesAfter : List �
     unfolding squeeze
     outputs-after = ap (λ (t : Graph). t .outputs) same-table ∙ sym (went-all (graphOf graph .outputs) (sound .form .outputs))
 
+    counts-after : (v : ℕ) → isVertex (graphOf graph) v ≡ true → storedCount graphAfter (to v) ≡ storedCount graph v
+    counts-after v t =
+        let g = graphOf graph in
+        let inside : to v < slotCount graphAfter =
+        omega (
+          arith,
+          went v t,
+          moved-below g v t,
+          count-most g,
+          squeezed-size g,
+          length-slots graphAfter,
+          ap (λ (t : Graph). length (t .slots)) same-table,
+        ) in
+        let old : v < slotCount graph = omega (arith, vertex-inside g v t, length-slots graph) in
+        after-sound .counts (to v) inside ∙ ap (λ (t : Graph). trueCount t (to v)) same-table ∙ ap (trueCount (squeeze g)) (went v t)
+        ∙ squeezed-count g table v t ∙ sym (sound .counts v old)
+
     rest-after : (k : ℕ) → isVertex (graphOf graphAfter) k ≡ true
         → (v : ℕ) × (isVertex (graphOf graph) v ≡ true) × (to v ≡ k)
     rest-after k t =
@@ -288,6 +306,7 @@ module _ (graph moves : List ℕ) (reply : ℕ) (graphAfter movesAfter : List �
       movesSize = ap length listed ∙ list-length graph sound;
       records = slot-after;
       outputs = outputs-after;
+      counts = counts-after;
       rest = rest-after;
       size = same-size;
       sound = after-sound;

@@ -16,7 +16,7 @@ use lib.ListN.{length}
 use Rattle.definitions.specs.Lists.{member}
 use Rattle.definitions.specs.Fields.{Bytes, byteAt, u16At}
 use Rattle.definitions.specs.Reply.{badMapLength, badGraphHeader, badGraphRecord, badGraphName, graphHasCycle, badGraphCount, badRuleHeader, badRuleRecord, badRuleOrder, badRuleOutputs, badRuleExpression, noMatch, noResult, noRoom, newCycle, badMovesLength, packed, numberIn, placeIn, valueIn}
-use Rattle.definitions.specs.Graph.{headerBytes, slotBytes, unusedPlace, versionOffset, importVersion, slotCount, renamed, graphOf, slotOf, isVertex, graphBlock, graphReply, SoundAs, SoundGraph}
+use Rattle.definitions.specs.Graph.{headerBytes, slotBytes, unusedPlace, versionOffset, importVersion, slotCount, storedCount, renamed, graphOf, slotOf, isVertex, graphBlock, graphReply, SoundAs, SoundGraph}
 use Rattle.definitions.specs.Rule.{sourceCount, ruleOf, ruleReply, SoundRule}
 use Rattle.definitions.specs.Faults.{FaultAs, GraphFault, RuleFault}
 use Rattle.definitions.specs.Match.{readAttribute, MatchFrom, LeastFrom}
@@ -269,6 +269,8 @@ pub record Squeezes (graph graphAfter movesAfter : List ℕ) : Type 0 where
   pub records : (v : ℕ) → isVertex (graphOf graph) v ≡ true
       → slotOf (graphOf graphAfter) (wentTo movesAfter v) ≡ renamed (wentTo movesAfter) (slotOf (graphOf graph) v)
   pub outputs : graphOf graphAfter .outputs ≡ map (wentTo movesAfter) (graphOf graph .outputs)
+  -- a count goes with its vertex
+  pub counts : (v : ℕ) → isVertex (graphOf graph) v ≡ true → storedCount graphAfter (wentTo movesAfter v) ≡ storedCount graph v
   -- the rest is Empty
   pub rest : (k : ℕ) → isVertex (graphOf graphAfter) k ≡ true
       → (v : ℕ) × (isVertex (graphOf graph) v ≡ true) × (wentTo movesAfter v ≡ k)
