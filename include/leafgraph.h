@@ -191,8 +191,7 @@ uint64_t lg_find_match(const uint8_t *graph, size_t graph_len,
  * What a Const of the rule matches stays, with every byte of its slot but its
  * count, if it is a graph output, or if it is read by a vertex that is not matched
  * or that a rule input matches. Else it is removed, too: so it goes with its last
- * reader. The count of one that stays goes down by the input places of removed
- * vertices that named it.
+ * reader. One that stays keeps its count, too, if as many places name it as before.
  *
  * Reads:   graph_len bytes at graph, rule_len bytes at rule.
  * Writes:  on LG_DONE, the graph_len bytes at graph: the new graph block, of
@@ -217,9 +216,8 @@ uint64_t lg_rewrite(uint8_t *graph, size_t graph_len,
 /* Sweeps a graph: every vertex from which no graph output is reached becomes
  * Empty, except Variables, which all stay, read or not. A vertex that an output
  * names reaches itself, and stays. What stays keeps every byte of its slot but its
- * count, which goes down by the input places of swept vertices that named it; where
- * none did, the count is kept, too. The header is as it was: the number of slots and
- * the outputs are the same.
+ * count, and that, too, if as many places name it as before. The header is as it
+ * was: the number of slots and the outputs are the same.
  * Whatever the operators, constants, tuples and projections mean, every vertex
  * that stays has the result that it had.
  *

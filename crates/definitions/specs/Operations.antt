@@ -1,4 +1,4 @@
--- Checking, matching and rewriting: for any bytes, what is replied and what stands in the lent blocks at the return. Sweep and Squeeze have
+-- Checking, matching and rewriting: for any bytes, what is replied and what stands in the lent blocks at the return. Sweep, Squeeze and Import have
 -- files of their own.
 -- Assumes nothing.
 use mathlib.Core.Bool.{cond}
