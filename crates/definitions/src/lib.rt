@@ -20,8 +20,6 @@ pub const TAIL_BYTES: usize = SLOT_BYTES - TAIL_OFFSET;
 // A tail starts with the record's count.
 pub const COUNT_OFFSET: usize = TAIL_OFFSET;
 
-pub const COUNT_BYTES: usize = 2;
-
 pub const SLOT_LIMIT: usize = 512;
 
 pub const OUTPUT_LIMIT: usize = 4;

@@ -21,6 +21,7 @@ use Rattle.graph_records.specs.Records.{slotAt}
 use Rattle.graph_slots.specs.Written.{SlotWritten, Halfway}
 use Rattle.graph_slots.proofs.Laws.{drop-further}
 use Rattle.graph_uses.specs.Countable.{CountableGraph}
+use Rattle.writing.specs.Numbers.{withU16}
 use Rattle.graph_counts.specs.Recounted.{withCount, recounted}
 
 abbrev zeroBytes : ℕ
@@ -36,13 +37,20 @@ module _ (k n : ℕ) (graph : List ℕ) (inside : recordAt (k + 1) ≤ length gr
   end = at + countBytes
 
   abbrev written : List ℕ
-  written = putPart at end graph (u16Bytes n)
+  written = withU16 at n graph
+
+  -- a part that is lent on and comes back
+  as-part : written ≡ putPart at end graph (u16Bytes n)
+  unfolding withU16
+  as-part =
+      let e : at + (end - at) ≡ end = omega arith in
+      ap (λ (rest : List ℕ). take at graph ++ (u16Bytes n ++ rest)) (sym (drop-drop (end - at) at graph ∙ ap (λ (m : ℕ). drop m graph) e))
 
   count-size : length (u16Bytes n) ≡ end - at
   count-size = length-u16 n ∙ omega arith
 
   rest : drop end written ≡ drop end graph
-  rest = part-rest at end graph (u16Bytes n) (omega arith) count-size (omega arith)
+  rest = ap (drop end) as-part ∙ part-rest at end graph (u16Bytes n) (omega arith) count-size (omega arith)
 
   -- the record's bytes before the count, and behind it
   fields : take at graph ≡ take (recordAt k) graph ++ take countOffset (slotAt graph (recordAt k))
@@ -64,11 +72,11 @@ module _ (k n : ℕ) (graph : List ℕ) (inside : recordAt (k + 1) ≤ length gr
       ∙ drop-at (take (countOffset + countBytes) slot) (take zeroBytes (drop (countOffset + countBytes) slot)) (countOffset + countBytes) long)
 
   pub count-written : SlotWritten k (withCount n (slotAt graph (recordAt k))) graph written
-  unfolding withCount
+  unfolding withU16
   count-written =
       let slot = slotAt graph (recordAt k) in
       let next : recordAt (k + 1) ≡ end + zeroBytes = omega arith in
-      let more = part-more at end graph (u16Bytes n) (omega arith) count-size (take at graph) (omega arith) refl in
+      let more = ap (take end) as-part ∙ part-more at end graph (u16Bytes n) (omega arith) count-size (take at graph) (omega arith) refl in
       record {
         front = ap (λ (m : ℕ). take m written) next ∙ take-add end zeroBytes written
             ∙ ap₂ _++_ (more ∙ ap (λ (t : List ℕ). t ++ u16Bytes n) fields) (ap (take zeroBytes) rest ∙ zeros)
@@ -84,7 +92,7 @@ module _ (block : List ℕ) (whole : WholeGraph block) where
   record-with k = withCount (trueCount (graphOf block) k) (slotAt block (recordAt k))
 
   pub with-length : (n k : ℕ) → k < slotCount block → length (withCount n (slotAt block (recordAt k))) ≡ slotBytes
-  unfolding withCount slotAt
+  unfolding withU16 slotAt
   with-length n k l =
       let slot = take slotBytes (drop (recordAt k) block) in
       let long : length slot ≡ slotBytes = length-take-le slotBytes (drop (recordAt k) block) (simp length-drop (omega (arith, whole .size))) in
@@ -124,7 +132,7 @@ module _ (block : List ℕ) (whole : WholeGraph block) where
 -- a record that stores one count, with another in its place
 with-count : (n old : ℕ) (s : Slot) → length (s .inputs) ≤ inputLimit → length (s .attributes) ≤ attributeLimit
     → withCount n (slotBlock (countTail old) s) ≡ slotBlock (countTail n) s
-unfolding withCount countTail
+unfolding withU16 countTail
 with-count n old s fewInputs fewAttributes =
     let fields = front s ++ inputPlaces s ++ attributePlaces s in
     let zeros : List ℕ = replicate zeroBytes 0 in

@@ -1,12 +1,11 @@
 // The counts of a graph block, all stored anew: they are counted once, over the whole table, and then each record gets its own. Whatever has
 // changed in the table before, every count is true after.
-use definitions::COUNT_BYTES;
 use definitions::COUNT_OFFSET;
 use definitions::HEADER_BYTES;
 use definitions::SLOT_BYTES;
 use graph_fields::slot_count;
 use graph_uses::count_uses;
-use writing::put_u16s;
+use writing::put_u16_at;
 ghost use mathlib.Core.Path.{_≡_};
 ghost use Prim.Native.Nat.{_+_, _≤_};
 ghost use lib.ListN.{length};
@@ -22,9 +21,7 @@ fn store_count(graph: &mut [u8], k: usize, count: u16)
     ensures { λ r. ⌜ SlotWritten k (withCount count (slotAt (now (graph .entry)) (recordAt k))) (now (graph .entry)) (now (graph .exit)) ⌝ }
 {
     let at = HEADER_BYTES + SLOT_BYTES * k + COUNT_OFFSET;
-    let end = at + COUNT_BYTES;
-    let number = [count];
-    put_u16s(&mut graph[at..end], &number);
+    put_u16_at(graph, at, count);
 }
 
 // Stores every slot's true count.

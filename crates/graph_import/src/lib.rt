@@ -6,22 +6,9 @@ use definitions::Reply;
 use definitions::VERSION_OFFSET;
 use graph_check::judge;
 use graph_counts::store_counts;
-use writing::put_u16s;
+use writing::put_u16_at;
 ghost use mathlib.Core.Path.{_≡_};
-ghost use Prim.Native.Nat.{_≤_};
-ghost use lib.ListN.{length};
-ghost use Rattle.definitions.specs.Graph.{headerBytes};
 ghost use Rattle.definitions.specs.Import.{importReply, importGraph};
-ghost use Rattle.graph_import.specs.Version.{withVersion};
-
-// Writes the version that every other operation takes.
-fn write_version(graph: &mut [u8])
-    requires { ⌜ headerBytes ≤ length (now graph) ⌝ }
-    ensures { λ r. ⌜ now (graph .exit) ≡ withVersion (now (graph .entry)) ⌝ }
-{
-    let version = [GRAPH_VERSION as u16];
-    put_u16s(&mut graph[VERSION_OFFSET..VERSION_OFFSET + 2], &version);
-}
 
 // Imports the lent graph, or says what is wrong with it by the rules of version 1 and leaves it as it is.
 pub fn import(graph: &mut [u8]) -> Reply
@@ -32,7 +19,7 @@ pub fn import(graph: &mut [u8]) -> Reply
         Reply::Refused(refusal) => return Reply::Refused(refusal),
         Reply::Done(_) => {}
     }
-    write_version(graph);
+    put_u16_at(graph, VERSION_OFFSET, GRAPH_VERSION as u16);
     store_counts(graph);
     Reply::Done(0)
 }

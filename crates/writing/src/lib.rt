@@ -1,9 +1,10 @@
-// Numbers, zeros and other bytes, written into a part of a block that the caller lends on.
+// Numbers, zeros and other bytes, written into a part of a block that the caller lends on, and one number at its place in a block.
 ghost use mathlib.Core.Path.{_≡_};
-ghost use Prim.Native.Nat.{_*_};
+ghost use Prim.Native.Nat.{_+_, _*_, _≤_};
 ghost use lib.ListN.{length, replicate};
 ghost use Rattle.definitions.specs.Lists.{concatMap};
 ghost use Rattle.definitions.specs.Fields.{u16Bytes, u32Bytes};
+ghost use Rattle.writing.specs.Numbers.{withU16};
 
 // Writes 16-bit numbers, each as two bytes, the lower one first.
 pub fn put_u16s(part: &mut [u8], numbers: &[u16])
@@ -18,6 +19,16 @@ pub fn put_u16s(part: &mut [u8], numbers: &[u16])
         part[2 * i + 1] = (number / 256 % 256) as u8;
         i += 1;
     }
+}
+
+// Writes one 16-bit number into a block, from byte `at` on. Every other byte stays.
+pub fn put_u16_at(block: &mut [u8], at: usize, number: u16)
+    requires { ⌜ at + 2 ≤ length (now block) ⌝ }
+    ensures { λ r. ⌜ now (block .exit) ≡ withU16 at number (now (block .entry)) ⌝ }
+{
+    let end = at + 2;
+    let numbers = [number];
+    put_u16s(&mut block[at..end], &numbers);
 }
 
 // Writes 32-bit words, each as four bytes, the lowest one first.

@@ -69,12 +69,15 @@ module _ (c : tie.After-enum-told) where
   table = table-as importVersion graph sound
 
 -- past the new version, the block is made of the same graph
-versioned : (v : tie.After-write-version)
-    → let b = v .before .before in v .write-version .last .0 ≡ blockAs graphVersion (storedCount (graph b)) (graphOf (graph b))
-versioned v = let b = v .before .before in v .write-version .ensures ∙ with-version (graph b) (sound b) (bytes b)
+versioned : (v : tie.After-put-u16-at)
+    → let b = v .before .before in v .put-u16-at .last .0 ≡ blockAs graphVersion (storedCount (graph b)) (graphOf (graph b))
+versioned v = let b = v .before .before in v .put-u16-at .ensures ∙ with-version (graph b) (sound b) (bytes b)
 
-write-version-requires : tie.Need-write-version-requires
-write-version-requires c κs = omega (arith, readable-as importVersion (graph (c .before)) (sound (c .before)) .whole .size)
+cast-put-u16-at : tie.Need-cast-put-u16-at
+cast-put-u16-at c = search needs
+
+put-u16-at-requires : tie.Need-put-u16-at-requires
+put-u16-at-requires c κs = omega (arith, readable-as importVersion (graph (c .before)) (sound (c .before)) .whole .size)
 
 store-counts-requires : tie.Need-store-counts-requires
 store-counts-requires c κs =
@@ -106,7 +109,8 @@ import-spec =
     same-length
     returns
     enum-told
-    write-version-requires
+    cast-put-u16-at
+    put-u16-at-requires
     store-counts-requires
     same-length-2
     returns-2)
