@@ -15,4 +15,5 @@ pub mod Operations
 pub mod Sweep
 pub mod Squeeze
 pub mod Import
+pub mod ReadElsewhere
 pub mod Results

@@ -1,5 +1,5 @@
--- Checking, matching and rewriting: for any bytes, what is replied and what stands in the lent blocks at the return. Sweep, Squeeze and Import have
--- files of their own.
+-- Checking, matching and rewriting: for any bytes, what is replied and what stands in the lent blocks at the return. Sweep, Squeeze, Import and
+-- ReadElsewhere are files of their own.
 -- Assumes nothing.
 use mathlib.Core.Bool.{cond}
 use mathlib.Core.List.{List, [], _∷_}
@@ -11,8 +11,8 @@ use lib.ListN.{length}
 use Rattle.definitions.specs.declared.Refusal.{Refusal}
 use Rattle.definitions.specs.declared.Reply.{Reply}
 use Rattle.definitions.specs.declared.Reply.the-variants.{Done, Refused}
-use Rattle.definitions.specs.Lists.{padded, concatMap}
-use Rattle.definitions.specs.Fields.{u16Bytes}
+use Rattle.definitions.specs.Lists.{tabulate, padded, concatMap}
+use Rattle.definitions.specs.Fields.{u16At, u16Bytes}
 use Rattle.definitions.specs.Reply.{done, badMapLength, noMatch, noResult, noRoom, newCycle, refusal, refused, packed, firstRefusal}
 use Rattle.definitions.specs.Graph.{unusedPlace, Graph, graphOf, graphBlock, graphReply, hasCycle}
 use Rattle.definitions.specs.Rule.{Rule, ruleOf, ruleReply}
@@ -49,6 +49,10 @@ mapBytes = 2 * mapPlaces
 
 unfoldable pub mapBlock : List ℕ → List ℕ
 mapBlock images = concatMap u16Bytes (padded mapPlaces unusedPlace images)
+
+-- and this is how it is read: its first n numbers
+unfoldable pub imagesIn : List ℕ → ℕ → List ℕ
+imagesIn map n = tabulate n (λ j. u16At map (2 * j))
 
 unfoldable pub mapReply : List ℕ → Reply
 mapReply map = cond (eqb (length map) mapBytes) done (refused badMapLength)

@@ -61,9 +61,19 @@ newCycle = 7
 abbrev pub badMovesLength : ℕ
 badMovesLength = 40
 
--- done, without a value: no request names one yet
+abbrev pub notAMatch : ℕ
+notAMatch = 41
+
+abbrev pub noSuchVertex : ℕ
+noSuchVertex = 42
+
+-- done, without a value
 abbrev pub done : Reply
 done = Done 0
+
+-- done, with the answer to a question: "yes is value 1"
+unfoldable pub answered : Bool → Reply
+answered holds = Done (cond holds 1 0)
 
 -- no request names a value beside the place yet
 unfoldable pub refusalAt : ℕ → ℕ → Refusal

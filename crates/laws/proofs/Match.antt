@@ -3,15 +3,17 @@
 use mathlib.Core.Path.{_≡_, ap}
 use mathlib.Core.Bool.{Bool, true, false, not}
 use mathlib.Core.List.{List, map, List·Memᴰ, Memᴰ·map, Memᴰ·of-map}
-use Prim.Native.Nat.{ℕ, _<_}
+use Prim.Native.Nat.{ℕ, _*_, _<_}
 use native.Mathlib.Omega.{arith}
 use borrow.Author.Tests.{not-true}
 use lib.ListN.{length, getD}
 use Rattle.definitions.specs.Lists.{filter, distinct, range}
+use Rattle.definitions.specs.Fields.{u16At}
 use Rattle.definitions.specs.Graph.{unusedPlace, Graph, inputsOf, isVertex}
 use Rattle.definitions.specs.Rule.{Rule, sourceInputs, isRuleInput}
 use Rattle.definitions.specs.Match.{imageOf, imagesWhere, innerImages, Match}
-use Rattle.laws.proofs.Lists.{true-not-false, getD-any}
+use Rattle.definitions.specs.Operations.{imagesIn}
+use Rattle.laws.proofs.Lists.{true-not-false, getD-any, length-tabulate, getD-tabulate}
 use Rattle.laws.proofs.Graph.{vertex-inside}
 use Rattle.laws.proofs.Rule.{wild-input}
 use Rattle.laws.proofs.Members.{holds, mem-range, range-mem}
@@ -21,6 +23,17 @@ use Rattle.laws.proofs.Filtered.{filter-mem, filter-holds, mem-filter, 
 pub image-at : (images : List ℕ) (j : ℕ) → j < length images → imageOf images j ≡ getD images j 0
 unfolding imageOf
 image-at images j l = getD-any images j unusedPlace 0 l
+
+-- the images that a map holds
+module _ (map : List ℕ) (n : ℕ) where
+  pub images-length : length (imagesIn map n) ≡ n
+  unfolding imagesIn
+  images-length = simp length-tabulate
+
+  -- number j has its low byte at 2j and its high byte after that
+  pub images-at : (j d : ℕ) → j < n → getD (imagesIn map n) j d ≡ u16At map (2 * j)
+  unfolding imagesIn
+  images-at j d l = rw getD-tabulate
 
 -- a match's images are slots
 pub image-inside : (g : Graph) (r : Rule) (images : List ℕ) (j : ℕ) → Match g r images → j < length (r .source)

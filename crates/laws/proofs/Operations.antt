@@ -1,10 +1,11 @@
--- No request names a value yet: every reply is without one. The replies that are not about a lent block are without a place, too.
+-- Replies are without a value, but for an answer to a question, which is 0 or 1. Those that are not about a lent block are without a place,
+-- too.
 -- Assumes nothing.
 use mathlib.Core.Path.{_≡_, refl, subst}
 use mathlib.Core.Bool.{Bool, true, false, cond}
 use mathlib.Core.List.{List, [], _∷_, _++_}
 use mathlib.Core.Option.{Option, none, some}
-use Prim.Native.Nat.{ℕ, _*_}
+use Prim.Native.Nat.{ℕ, _*_, _<_}
 use native.Mathlib.Omega.{arith}
 use lib.Dec.{eqb}
 use lib.IntN.{ℤ}
@@ -12,7 +13,7 @@ use lib.ListN.{length}
 use Rattle.definitions.specs.declared.Refusal.{Refusal}
 use Rattle.definitions.specs.declared.Reply.{Reply}
 use Rattle.definitions.specs.declared.Reply.the-variants.{Done, Refused}
-use Rattle.definitions.specs.Reply.{done, badMapLength, badMovesLength, noMatch, noResult, noRoom, newCycle, refusalAt, refusal, refused, firstRefusal}
+use Rattle.definitions.specs.Reply.{badMapLength, badMovesLength, notAMatch, noSuchVertex, noMatch, noResult, noRoom, newCycle, answered, refusalAt, refusal, refused, valueBeside, valueLimit, firstRefusal}
 use Rattle.definitions.specs.Graph.{graphVersion, importVersion, slotCount, Graph, graphOf, hasCycle, faultsAs, countFaults, replyAs, graphReply}
 use Rattle.definitions.specs.Rule.{sideLimit, Rule, ruleOf, ruleFaults, ruleReply}
 use Rattle.definitions.specs.Match.{readAttribute, leastMatch}
@@ -20,7 +21,8 @@ use Rattle.definitions.specs.Rewriting.{targetResults, hasRoom, newGraph}
 use Rattle.definitions.specs.Operations.{mapBytes, mapReply, blocksReply, matched, findMatch, Rewritten, accepted, turnedDown, rewrittenWith, rewritten, replaced, rewrite}
 use Rattle.definitions.specs.Squeeze.{movesReply, squeezeReply}
 use Rattle.definitions.specs.Import.{importReply}
-use Rattle.laws.proofs.Reply.{Valueless, Plain, plain-done, plain-refused, refused-valueless, judged-valueless}
+use Rattle.definitions.specs.ReadElsewhere.{isMatchMap, isInner, elsewhereAnswer, askedReply, elsewhereReply}
+use Rattle.laws.proofs.Reply.{Valueless, Plain, plain-done, plain-refused, refused-valueless, test-valueless, valueless-fits, judged-valueless}
 
 -- ---- the lent blocks
 
@@ -38,11 +40,7 @@ rule-valueless block = judged-valueless (ruleFaults sideLimit block)
 
 pub map-valueless : (map : List ℕ) → Valueless (mapReply map)
 unfolding mapReply
-map-valueless map = either (eqb (length map) mapBytes)
-  where
-    either : (b : Bool) → Valueless (cond b done (refused badMapLength))
-    either true = plain-done .value
-    either false = refused-valueless badMapLength 0
+map-valueless map = test-valueless badMapLength (eqb (length map) mapBytes)
 
 first-valueless : (reply : Reply) (replies : List Reply) → Valueless reply → Valueless (firstRefusal replies)
     → Valueless (firstRefusal (reply ∷ replies))
@@ -67,11 +65,7 @@ import-valueless block = as-valueless importVersion block
 
 pub moves-valueless : (graph moves : List ℕ) → Valueless (movesReply graph moves)
 unfolding movesReply
-moves-valueless graph moves = either (eqb (length moves) (2 * slotCount graph))
-  where
-    either : (b : Bool) → Valueless (cond b done (refused badMovesLength))
-    either true = plain-done .value
-    either false = refused-valueless badMovesLength 0
+moves-valueless graph moves = test-valueless badMovesLength (eqb (length moves) (2 * slotCount graph))
 
 pub squeeze-valueless : (graph moves : List ℕ) → Valueless (squeezeReply graph moves)
 unfolding squeezeReply firstRefusal
@@ -96,6 +90,50 @@ match-valueless graph rule start map = by (blocksReply graph rule map) refl
     by : (reply : Reply) → blocksReply graph rule map ≡ reply → Valueless (findMatch graph rule start map .reply)
     by (Done value) e = rw (e, findMatch) (matched-plain graph rule start map .value)
     by (Refused why) e = rw (e, findMatch) (subst Valueless e (blocks-valueless graph rule map))
+
+-- ---- asking whether an image is read elsewhere
+
+module _ (graph rule map : List ℕ) (vertex : ℕ) where
+  -- the stages, in the papers' order
+  pub elsewhere-refused : {why : Refusal} → blocksReply graph rule map ≡ Refused why → elsewhereReply graph rule map vertex ≡ Refused why
+  unfolding elsewhereReply
+  elsewhere-refused e = rw (e, elsewhereReply)
+
+  pub elsewhere-asked : {value : ℕ} → blocksReply graph rule map ≡ Done value
+      → elsewhereReply graph rule map vertex ≡ askedReply graph rule map vertex
+  unfolding elsewhereReply
+  elsewhere-asked e = rw (e, elsewhereReply)
+
+  pub asked-no-match : isMatchMap graph rule map ≡ false → askedReply graph rule map vertex ≡ refused notAMatch
+  unfolding askedReply
+  asked-no-match f = rw f
+
+  module _ (match : isMatchMap graph rule map ≡ true) where
+    pub asked-no-vertex : isInner (ruleOf rule) vertex ≡ false → askedReply graph rule map vertex ≡ refused noSuchVertex
+    unfolding askedReply
+    asked-no-vertex f = rw (match, f)
+
+    pub asked-answer : isInner (ruleOf rule) vertex ≡ true
+        → askedReply graph rule map vertex ≡ answered (elsewhereAnswer graph rule map vertex)
+    unfolding askedReply
+    asked-answer t = rw (match, t)
+
+  -- the answer fits in the bits that a value has
+  pub elsewhere-fits : valueBeside (elsewhereReply graph rule map vertex) < valueLimit
+  unfolding askedReply answered valueBeside
+  elsewhere-fits = by (blocksReply graph rule map) refl
+    where
+      asked : (match inner holds : Bool)
+          → valueBeside (cond match (cond inner (answered holds) (refused noSuchVertex)) (refused notAMatch)) < valueLimit
+      asked true true true = omega arith
+      asked true true false = omega arith
+      asked true false holds = valueless-fits {reply = refused noSuchVertex} refl (refused-valueless noSuchVertex 0)
+      asked false inner holds = valueless-fits {reply = refused notAMatch} refl (refused-valueless notAMatch 0)
+
+      by : (reply : Reply) → blocksReply graph rule map ≡ reply → valueBeside (elsewhereReply graph rule map vertex) < valueLimit
+      by (Done value) e =
+          rw (elsewhere-asked e) (asked (isMatchMap graph rule map) (isInner (ruleOf rule) vertex) (elsewhereAnswer graph rule map vertex))
+      by (Refused why) e = valueless-fits (elsewhere-refused e) (subst Valueless e (blocks-valueless graph rule map))
 
 -- ---- rewriting
 

@@ -1,6 +1,7 @@
 -- A list of faults is answered by the first that holds, and by done where none does; a list of replies by its first refusal.
 -- Assumes nothing.
 use mathlib.Core.Path.{_≡_, refl, sym, ap, _∙_}
+use mathlib.Core.Bool.{Bool, true, false, cond}
 use mathlib.Core.List.{List, [], _∷_, _++_}
 use mathlib.Core.Option.{none, some}
 use Prim.Native.Nat.{ℕ, _<_, _^_}
@@ -48,6 +49,11 @@ refused-valueless n p = refl
 pub plain-refused : (n : ℕ) → Plain (refused n)
 unfolding refusalAt indexOf valueBeside
 plain-refused n = record { index = refl; value = refl }
+
+-- a test that is done or refuses
+pub test-valueless : (n : ℕ) (passes : Bool) → Valueless (cond passes done (refused n))
+test-valueless n true = plain-done .value
+test-valueless n false = refused-valueless n 0
 
 -- such a value fits in the bits that a value has
 pub valueless-fits : {reply answer : Reply} → reply ≡ answer → Valueless answer → valueBeside reply < valueLimit

@@ -43,6 +43,11 @@ pub const NEW_CYCLE: u8 = 7;
 // The list of moves is not 2N bytes.
 pub const BAD_MOVES_LENGTH: u8 = 40;
 
+// The map is no match, and the number is no source vertex or that of a rule input.
+pub const NOT_A_MATCH: u8 = 41;
+
+pub const NO_SUCH_VERTEX: u8 = 42;
+
 // The refusal with this number and this place. No request names a value beside the place yet.
 pub fn refuse_at(number: u8, index: u32) -> Reply
     ensures { λ r. ⌜ r ≡ answer.refusedAt number index ⌝ }
@@ -58,6 +63,16 @@ pub fn refuse(number: u8) -> Reply
     ensures { λ r. ⌜ r ≡ answer.refused number ⌝ }
 {
     refuse_at(number, 0)
+}
+
+// Done, with the answer to a question: value 1 is yes, and 0 is no.
+pub fn answer_with(yes: bool) -> Reply
+    ensures { λ r. ⌜ r ≡ answer.answered yes ⌝ }
+{
+    if yes {
+        return Reply::Done(1);
+    }
+    Reply::Done(0)
 }
 
 // The first of two replies that refuses, or done.

@@ -4,7 +4,7 @@
 use mathlib.Core.Path.{_≡_, sym, ap, _∙_, subst}
 use mathlib.Core.Bool.{true, false}
 use mathlib.Core.List.{List, [], _∷_, _++_, List·Memᴰ}
-use mathlib.Core.Logic.{⊎-elim}
+use mathlib.Core.Logic.{_↔_, ⊎-elim}
 use mathlib.Core.Option.{none, some, Option·some-injective, Option·none-ne-some}
 use Prim.Native.Nat.{ℕ, zero, suc, _+_, _<_, _≤_}
 use native.Mathlib.Nat.{not-suc-le-zero, le-of-suc-le-suc}
@@ -50,6 +50,14 @@ module _ (g : Graph) (r : Rule) where
   unfolding attempt
   attempt-match chosen images m e = rw (← e, test-complete g r images m)
 
+-- A map is a match exactly where one attempt at its own output images gives it.
+pub match-attempted : (g : Graph) (r : Rule) → Fixing r → (images : List ℕ)
+    → Match g r images ↔ (attempt g r (outputImages r images) ≡ some images)
+match-attempted g r fixing images = (
+  λ m. attempt-match g r (outputImages r images) images m (images-fixed g r fixing images m),
+  λ e. attempt-some g r (outputImages r images) images e .0,
+)
+
 module _ (g : Graph) (r : Rule) (fixing : Fixing r) (s : ℕ) where
   -- the choices that are tried
   abbrev tried : List (List ℕ)
@@ -84,8 +92,7 @@ module _ (g : Graph) (r : Rule) (fixing : Fixing r) (s : ℕ) where
       (match-numbers images from) (match-first images from)
 
   match-succeeds : (images : List ℕ) → MatchFrom g r s images → attempt g r (outputImages r images) ≡ some images
-  match-succeeds images from =
-      attempt-match g r (outputImages r images) images (from .isMatch) (images-fixed g r fixing images (from .isMatch))
+  match-succeeds images from = match-attempted g r fixing images .0 (from .isMatch)
 
   -- where a result comes from: a choice that is tried, and is not after another that succeeds
   source : (best : List ℕ) → leastMatch g r s ≡ some best

@@ -10,4 +10,5 @@ pub mod Choices
 pub mod Least
 pub mod Fields
 pub mod Inside
+pub mod Elsewhere
 pub mod Counts

@@ -3,3 +3,4 @@ pub mod SharedConstants
 pub mod Faults
 pub mod Tidying
 pub mod Counts
+pub mod ReadElsewhere
