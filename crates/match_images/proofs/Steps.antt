@@ -26,7 +26,7 @@ use Rattle.match_images.proofs.Maps.{match-sends, match-agrees, match-f
 
 module _ {g : Graph} {r : Rule} {next : ℕ} {images : List ℕ} {Asked : List ℕ → Type 0} {end : ℕ} where
   -- no match that has these images meets what is asked, and nothing is written
-  no-step : length images ≡ sideCapacity → ((whole : List ℕ) → Match g r whole → Extends next images whole → Asked whole → ⊥)
+  pub no-step : length images ≡ sideCapacity → ((whole : List ℕ) → Match g r whole → Extends next images whole → Asked whole → ⊥)
       → Step g r next images Asked end false images
   no-step size none = record {
     size = size;
@@ -50,7 +50,7 @@ module _ {g : Graph} {r : Rule} {next : ℕ} {images : List ℕ} {Asked : List �
   }
 
   -- two steps, one after the other
-  then-step : {First Second : List ℕ → Type 0} {mid start past : ℕ} {passed ok : Bool} {before made : List ℕ}
+  pub then-step : {First Second : List ℕ → Type 0} {mid start past : ℕ} {passed ok : Bool} {before made : List ℕ}
       → Step g r next images First mid passed before → passed ≡ true → mid ≡ start → next ≤ start
       → Step g r start before Second past ok made → past ≡ end
       → ((whole : List ℕ) → Match g r whole → Asked whole → First whole × Second whole)
@@ -65,6 +65,22 @@ module _ {g : Graph} {r : Rule} {next : ℕ} {images : List ℕ} {Asked : List �
     forced = λ whole m x asked.
         let last = two .forced whole m (λ i l. one .forced whole m x (parts whole m asked .0) .1 i (omega arith)) (parts whole m asked .1) in
         (last .0, λ i l. last .1 i (omega arith));
+  }
+
+  -- of two steps the second fails
+  pub second-fails : {First Second : List ℕ → Type 0} {mid past : ℕ} {before made : List ℕ} {ok : Bool}
+      → Step g r next images First mid true before → next ≤ mid → Step g r mid before Second past ok made → ok ≡ false
+      → ((whole : List ℕ) → Match g r whole → Asked whole → First whole × Second whole)
+      → Step g r next images Asked end false made
+  second-fails one more two f parts = record {
+    size = two .size;
+    kept = λ i l. two .kept i (omega arith) ∙ one .kept i l;
+    rest = λ i l. two .rest i l ∙ one .rest i l;
+    partial = λ t. absurd (true-not-false t refl);
+    meets = λ t. absurd (true-not-false t refl);
+    forced = λ whole m x asked.
+        let both = parts whole m asked in
+        absurd (true-not-false (two .forced whole m (one .forced whole m x (both .0) .1) (both .1) .0) f);
   }
 
 -- ---- a vertex

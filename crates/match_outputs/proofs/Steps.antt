@@ -105,9 +105,9 @@ blank-after size rest b = record { size = size; rest = λ i l. rest i l ∙ b .r
 
 -- ---- the first output's step: nothing is mapped before it
 
-pub nothing-mapped : (g : Graph) (r : Rule) (images : List ℕ) → Blank r images → Partial g r 0 images
-nothing-mapped g r images b = record {
-  size = b .size;
+pub nothing-mapped : (g : Graph) (r : Rule) (images : List ℕ) → length images ≡ sideCapacity → Partial g r 0 images
+nothing-mapped g r images size = record {
+  size = size;
   small = omega arith;
   vertices = λ i l. absurd (omega arith);
   injective = λ i k l m h. absurd (omega arith);

@@ -19,7 +19,7 @@ ghost use Rattle.matching.specs.Ready.{VertexReady, VertexDone, Candidat
 
 // Matches source vertex j with slot v. A vertex that has its image is compared, not entered again; another is looked at first, and its
 // inputs are entered only where v is a candidate. Where it succeeds, the images are those of the first `next` vertices and of all up to j.
-fn match_vertex(
+pub fn match_vertex(
     graph: &[u8],
     rule: &[u8],
     demands: &[u16; SIDE_CAPACITY],

@@ -98,7 +98,7 @@ match-candidate-requires c κs =
           (headIn (head a .pattern-head .result)) (head a .pattern-head .ensures) (a .loop .slot)
           (a .loop .inv .0 .looked (c .before .loop-test .taken));
       fresh = omega arith;
-      partial = nothing-mapped (g k) (r k) (a .loop .images) (a .loop .inv .1);
+      partial = nothing-mapped (g k) (r k) (a .loop .images) (a .loop .inv .1 .size);
       order = first-in-order (graphBlock k) (ruleBlock k) (s .pre .sound) (root k) [] (s .pre .listed);
     }
 

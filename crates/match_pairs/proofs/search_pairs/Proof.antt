@@ -164,7 +164,7 @@ match-candidate-requires c κs =
           (headIn (head l .pattern-head .result)) (head l .pattern-head .ensures) (a .search .first)
           (a .search .inv .0 .looked (c .before .search-test .taken));
       fresh = omega arith;
-      partial = nothing-mapped (g k) (r k) (a .search .images) (a .search .inv .1);
+      partial = nothing-mapped (g k) (r k) (a .search .images) (a .search .inv .1 .size);
       order = first-in-order (graphBlock k) (ruleBlock k) (s .pre .sound) (o k) (q k ∷ []) (s .pre .listed);
     }
 

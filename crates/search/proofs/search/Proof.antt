@@ -1,9 +1,8 @@
 -- The demands are what a search asks for, and the outputs are those that the rule lists.
 -- Assumes nothing.
 use native.Mathlib.Omega.{arith}
-use Rattle.graph_check.proofs.Readable.{graph-readable, graph-closed}
-use Rattle.rule_check.proofs.Readable.{rule-readable, rule-layered, output-counts}
-use Rattle.matching.proofs.Sound.{rule-matchable}
+use Rattle.rule_check.proofs.Readable.{rule-readable, output-counts}
+use Rattle.matching.proofs.Sound.{rule-countable, sound-setting}
 use Rattle.match_look.specs.Setting.{Setting}
 use Rattle.search.proofs.Outputs.{one-output, two-outputs}
 use Rattle.search.proofs.search.Statement.{statement}
@@ -12,8 +11,7 @@ use Rattle.search.proofs.search.Tie as tie
 count-demands-requires : tie.Need-count-demands-requires
 count-demands-requires c κs =
     let s = c .before .before in
-    let block = s .args .rule .now in
-    record { readable = rule-readable block (s .pre .1); layered = rule-layered block (s .pre .1) }
+    rule-countable (s .args .rule .now) (s .pre .1)
 
 source-output-requires : tie.Need-source-output-requires
 source-output-requires c κs =
@@ -37,13 +35,8 @@ setting : (d : Counted)
     → Setting (start d .args .graph .now) (start d .args .rule .now) (d .before .before .count-demands .result)
 setting d =
     let s = start d in
-    record {
-      readable = graph-readable (s .args .graph .now) (s .pre .0);
-      closed = graph-closed (s .args .graph .now) (s .pre .0);
-      matchable = rule-matchable (s .args .rule .now) (s .pre .1);
-      counts = s .pre .0 .counts;
-      demands = d .before .before .count-demands .ensures;
-    }
+    let demands = d .before .before .count-demands in
+    sound-setting (s .args .graph .now) (s .args .rule .now) (demands .result) (s .pre .0) (s .pre .1) (demands .ensures)
 
 search-one-requires : tie.Need-search-one-requires
 search-one-requires c κs =
