@@ -24,6 +24,9 @@ NO_FACT = [
     (re.compile(r"has no field|this tuple has \d+ components"), "what is known moved"),
 ]
 
+# An error that stands where another has left a gap.
+FOLLOWS = re.compile(r"` was not admitted ")
+
 # What the lines of an edit begin with that are no comment.
 WORDS = ("file:", "old:", "new:")
 
@@ -36,9 +39,13 @@ def says_what_is_wrong(edit):
 
 def first_error(log):
     """The first error with the lines that belong to it; None if there is none.
-    A function without a proof file has no error, but a note of what is not proved."""
+    A function without a proof file has no error, but a note of what is not proved.
+    An error that something else was not admitted follows from another error or note,
+    and is passed over: those of callers may stand before it."""
     lines = log.read_text(encoding="utf-8", errors="replace").split("\n")
     for at, line in enumerate(lines):
+        if FOLLOWS.search(line):
+            continue
         if ": error:" in line or ": it is not proved that " in line:
             return " ".join(lines[at:at + 3])
     return None
