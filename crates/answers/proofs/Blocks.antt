@@ -14,7 +14,7 @@ use Rattle.definitions.specs.declared.Refusal.{Refusal}
 use Rattle.definitions.specs.declared.Reply.{Reply}
 use Rattle.definitions.specs.declared.Reply.the-variants.{Refused}
 use Rattle.definitions.specs.Lists.{member}
-use Rattle.definitions.specs.Reply.{done, badMapLength, refusalAt, refusedAt, refused, numberOf, indexOf, packed, numberIn, placeIn, valueIn, firstRefusal}
+use Rattle.definitions.specs.Reply.{done, badMapLength, refusalAt, refusedAt, refused, numberOf, indexOf, valueBeside, packed, numberIn, placeIn, valueIn, firstRefusal}
 use Rattle.definitions.specs.Graph.{graphReply, SoundGraph}
 use Rattle.definitions.specs.Rule.{ruleReply, SoundRule}
 use Rattle.definitions.specs.Faults.{GraphFault, RuleFault}
@@ -22,7 +22,7 @@ use Rattle.definitions.specs.Operations.{Outcome, Returned, outcome, atReturn, 
 use Rattle.laws.proofs.Lists.{decided, true-not-false}
 use Rattle.laws.proofs.Members.{member-left, mem-member, member-mem}
 use Rattle.laws.proofs.Faults.{Judges, done-every, either}
-use Rattle.laws.proofs.Reply.{number-packed, place-packed, value-packed, Valueless, Plain, plain-done, refused-valueless, first-done, first-refused}
+use Rattle.laws.proofs.Reply.{number-packed, place-packed, value-packed, Valueless, plain-done, refused-valueless, first-done, first-refused}
 use Rattle.graph_check.proofs.Sound.{graph-judged}
 use Rattle.rule_check.proofs.Sound.{rule-judged}
 use Rattle.answers.specs.Statements.{Says, graphNumbers, ruleNumbers, Good, blockNumbers, BlockReplies, Verdict, CheckedGraph, GraphVerdict, CheckedRule, RuleVerdict}
@@ -153,13 +153,13 @@ module _ (graph rule before : List ℕ) where
 -- ---- an operation on lent blocks
 
 -- An operation whose outcome is `whole`: a bad block is refused at once, and `rest` is what good blocks come to. Its own numbers are none
--- of the blocks', and its replies have no place and no value.
+-- of the blocks', and its replies have no place.
 pub record Staged (graph rule before : List ℕ) (whole rest : Outcome) : Type 0 where
   pub refusing : (x : Refusal) → blocksReply graph rule before ≡ Refused x → whole ≡ outcome (Refused x) graph before
   pub passing : blocksReply graph rule before ≡ done → whole ≡ rest
   pub own : member (numberOf (rest .reply)) blockNumbers ≡ false
   pub small : numberOf (rest .reply) < 2 ^ 8
-  pub plain : Plain (rest .reply)
+  pub placeless : indexOf (rest .reply) ≡ 0
 
 -- a graph's numbers and a rule's are among the blocks'
 graph-block : (n : ℕ) → member n graphNumbers ≡ true → member n blockNumbers ≡ true
@@ -213,7 +213,9 @@ module _ {graph rule before : List ℕ} {whole rest : Outcome} (staged : Staged 
 
   -- at the return from a call on good blocks: what the rest comes to
   pub record Passes : Type 0 where
-    pub says : Says reply (numberOf (rest .reply)) 0
+    pub number : numberIn reply ≡ numberOf (rest .reply)
+    pub place : placeIn reply ≡ 0
+    pub value : valueIn reply ≡ valueBeside (rest .reply)
     pub leftGraph : graphAfter ≡ rest .graph
     pub leftMap : after ≡ rest .map
 
@@ -223,13 +225,11 @@ module _ {graph rule before : List ℕ} {whole rest : Outcome} (staged : Staged 
   pub passes : Good graph rule before → Passes
   passes good =
       let end = ends rest (passed good) in
-      let plain = staged .plain in
-      let small : Small (numberOf (rest .reply)) (indexOf (rest .reply)) = record {
-        number = staged .small;
-        place = omega (arith, plain .index);
-      } in
+      let index : indexOf (rest .reply) < 2 ^ 32 = omega (arith, staged .placeless) in
       record {
-        says = subst (Says reply (numberOf (rest .reply))) (plain .index) (read (rest .reply) small (plain .value) reply (end .0));
+        number = ap numberIn (end .0) ∙ number-packed (rest .reply) (staged .small);
+        place = ap placeIn (end .0) ∙ place-packed (rest .reply) (staged .small) index ∙ staged .placeless;
+        value = ap valueIn (end .0) ∙ value-packed (rest .reply) (staged .small) index;
         leftGraph = end .1;
         leftMap = end .2;
       }
@@ -239,12 +239,12 @@ module _ {graph rule before : List ℕ} {whole rest : Outcome} (staged : Staged 
     wrongMap : (length before ≡ mapBytes → ⊥) → Refuses badMapLength 0 → Stage
     wrongGraph : {n p : ℕ} → length before ≡ mapBytes → GraphFault graph n p → Refuses n p → Stage
     wrongRule : {n p : ℕ} → length before ≡ mapBytes → SoundGraph graph → RuleFault rule n p → Refuses n p → Stage
-    allGood : {n : ℕ} → Good graph rule before → member n blockNumbers ≡ false → Says reply n 0 → Stage
+    allGood : Good graph rule before → Passes → Stage
 
   -- every call comes to one of these stages
   stage-rule : length before ≡ mapBytes → SoundGraph graph → Stage
   stage-rule size sound = ⊎-elim
-      (λ (soundRule : SoundRule rule). allGood (size, sound, soundRule) (staged .own) (passes (size, sound, soundRule) .says))
+      (λ (soundRule : SoundRule rule). allGood (size, sound, soundRule) (passes (size, sound, soundRule)))
       (λ (f : (n : ℕ) × (p : ℕ) × RuleFault rule n p). wrongRule size sound (f .2) (rule-ends size sound (f .2)))
       (either (rule-judged rule))
 
@@ -262,8 +262,8 @@ module _ {graph rule before : List ℕ} {whole rest : Outcome} (staged : Staged 
       (decided (eqb (length before) mapBytes))
 
   -- a number of the blocks' is not one that a call on good blocks has
-  not-own : (n m : ℕ) → member m blockNumbers ≡ false → n ≡ m → member n blockNumbers ≡ true → ⊥
-  not-own n m own e t = true-not-false t (subst (λ (k : ℕ). member k blockNumbers ≡ false) (sym e) own)
+  not-own : (n : ℕ) → n ≡ numberOf (rest .reply) → member n blockNumbers ≡ true → ⊥
+  not-own n e t = true-not-false t (subst (λ (k : ℕ). member k blockNumbers ≡ false) (sym e) (staged .own))
 
   -- ---- what the replies about the blocks mean
 
@@ -276,7 +276,7 @@ module _ {graph rule before : List ℕ} {whole rest : Outcome} (staged : Staged 
       (size, subst (λ (k : ℕ). GraphFault graph k p) (same .0) (subst (GraphFault graph m) (same .1) fault))
   graph-only n p (wrongRule {n = m} size sound fault end) t h =
       absurd (true-not-false (subst (λ (k : ℕ). member k graphNumbers ≡ true) (same-number h (end .says) .0) t) (rule-apart fault))
-  graph-only n p (allGood {n = m} good own says) t h = absurd (not-own n m own (same-number h says .0) (graph-block n t))
+  graph-only n p (allGood good end) t h = absurd (not-own n (sym (h .number) ∙ end .number) (graph-block n t))
 
   -- and one of the rule's only where the rule has it
   rule-only : (n p : ℕ) → Stage → member n ruleNumbers ≡ true → Says reply n p
@@ -288,7 +288,7 @@ module _ {graph rule before : List ℕ} {whole rest : Outcome} (staged : Staged 
   rule-only n p (wrongRule {n = m} {p = q} size sound fault end) t h =
       let same = same-number (end .says) h in
       (size, sound, subst (λ (k : ℕ). RuleFault rule k p) (same .0) (subst (RuleFault rule m) (same .1) fault))
-  rule-only n p (allGood {n = m} good own says) t h = absurd (not-own n m own (same-number h says .0) (rule-block n t))
+  rule-only n p (allGood good end) t h = absurd (not-own n (sym (h .number) ∙ end .number) (rule-block n t))
 
   map-only : Stage → numberIn reply ≡ badMapLength → length before ≡ mapBytes → ⊥
   unfolding member
@@ -297,14 +297,14 @@ module _ {graph rule before : List ℕ} {whole rest : Outcome} (staged : Staged 
       absurd (true-not-false (subst (λ (k : ℕ). member k graphNumbers ≡ true) (sym (end .says .number) ∙ h) (graph-listed fault)) refl)
   map-only (wrongRule {n = m} size sound fault end) h =
       absurd (true-not-false (subst (λ (k : ℕ). member k ruleNumbers ≡ true) (sym (end .says .number) ∙ h) (rule-listed fault)) refl)
-  map-only (allGood {n = m} good own says) h = absurd (not-own badMapLength m own (sym h ∙ says .number) refl)
+  map-only (allGood good end) h = absurd (not-own badMapLength (sym h ∙ end .number) refl)
 
-  -- what is read has no value, and no place where the number is none of the faults'
-  value-zero : Stage → valueIn reply ≡ 0
-  value-zero (wrongMap other end) = end .says .value
-  value-zero (wrongGraph size fault end) = end .says .value
-  value-zero (wrongRule size sound fault end) = end .says .value
-  value-zero (allGood good own says) = says .value
+  -- what is read has no value where the number is one of the blocks', and no place where it is none of the faults'
+  value-zero : Stage → member (numberIn reply) blockNumbers ≡ true → valueIn reply ≡ 0
+  value-zero (wrongMap other end) t = end .says .value
+  value-zero (wrongGraph size fault end) t = end .says .value
+  value-zero (wrongRule size sound fault end) t = end .says .value
+  value-zero (allGood good end) t = absurd (not-own (numberIn reply) (end .number) t)
 
   place-zero : Stage → member (numberIn reply) (graphNumbers ++ ruleNumbers) ≡ false → placeIn reply ≡ 0
   place-zero (wrongMap other end) f = end .says .place
@@ -312,10 +312,10 @@ module _ {graph rule before : List ℕ} {whole rest : Outcome} (staged : Staged 
       absurd (true-not-false (rw (end .says .number) (member-left m graphNumbers ruleNumbers (graph-listed fault))) f)
   place-zero (wrongRule {n = m} size sound fault end) f = absurd (true-not-false
       (rw (end .says .number) (mem-member (Memᴰ·append-right graphNumbers (member-mem m ruleNumbers (rule-listed fault))))) f)
-  place-zero (allGood good own says) f = says .place
+  place-zero (allGood good end) f = end .place
 
-  as-read : Says reply (numberIn reply) (placeIn reply)
-  as-read = record { number = refl; place = refl; value = value-zero stage }
+  as-read : member (numberIn reply) blockNumbers ≡ true → Says reply (numberIn reply) (placeIn reply)
+  as-read t = record { number = refl; place = refl; value = value-zero stage t }
 
   graph-refused : length before ≡ mapBytes → (SoundGraph graph → ⊥) → member (numberIn reply) graphNumbers ≡ true
   graph-refused size unsound = ⊎-elim (λ (sound : SoundGraph graph). absurd (unsound sound))
@@ -339,7 +339,17 @@ module _ {graph rule before : List ℕ} {whole rest : Outcome} (staged : Staged 
           bad (rw (end .says .number) (graph-block m (graph-listed fault))) (end .keptGraph) (end .keptMap)
       judge (wrongRule {n = m} size sound fault end) =
           bad (rw (end .says .number) (rule-block m (rule-listed fault))) (end .keptGraph) (end .keptMap)
-      judge (allGood blocks own says) = passing blocks
+      judge (allGood blocks end) = passing blocks
+
+  -- Where good blocks are answered without a value, every call is.
+  pub valueless-all : Valueless (rest .reply) → valueIn reply ≡ 0
+  valueless-all none = by stage
+    where
+      by : Stage → valueIn reply ≡ 0
+      by (wrongMap other end) = end .says .value
+      by (wrongGraph size fault end) = end .says .value
+      by (wrongRule size sound fault end) = end .says .value
+      by (allGood good end) = end .value ∙ none
 
   -- Any number that is not about the blocks is given for good blocks only.
   pub good-only : member (numberIn reply) blockNumbers ≡ false → Good graph rule before
@@ -353,11 +363,11 @@ module _ {graph rule before : List ℕ} {whole rest : Outcome} (staged : Staged 
   block-replies = record {
     wrongMap = (map-only stage, λ other. map-ends other .says .number);
     wrongGraph = (
-      λ t. let w = graph-only (numberIn reply) (placeIn reply) stage t as-read in (w .0, λ sound. graph-judged graph .apart sound (w .1)),
+      λ t. let w = graph-only (numberIn reply) (placeIn reply) stage t (as-read (graph-block (numberIn reply) t)) in (w .0, λ sound. graph-judged graph .apart sound (w .1)),
       λ w. graph-refused (w .0) (w .1),
     );
     wrongRule = (
-      λ t. let w = rule-only (numberIn reply) (placeIn reply) stage t as-read in
+      λ t. let w = rule-only (numberIn reply) (placeIn reply) stage t (as-read (rule-block (numberIn reply) t)) in
           (w .0, w .1, λ sound. rule-judged rule .apart sound (w .2)),
       λ w. rule-refused (w .0) (w .1) (w .2),
     );

@@ -17,6 +17,7 @@ use Rattle.definitions.specs.Rule.{sourceCount, Rule, ruleOf, SoundRule}
 use Rattle.definitions.specs.Match.{imageOf, readAttribute, Match}
 use Rattle.definitions.specs.Rewriting.{targetResults, stays, hasRoom, redirect, newGraph}
 use Rattle.definitions.specs.Results.{Meaning, Untouched}
+use Rattle.definitions.specs.Operations.{imagesIn}
 use Rattle.laws.proofs.Members.{holds, true-holds}
 use Rattle.theory.proofs.Results.{Layout, results-unique, results-exist}
 use Rattle.encoding.specs.Tables.{Table, Words}
@@ -26,7 +27,6 @@ use Rattle.replacement.proofs.Table.{stays-vertex, staying-vertex, new-outputs,
 use Rattle.replacement.proofs.Consts.{reads-none, const-unmoved, const-untouched, const-stays}
 use Rattle.replacement.proofs.Kept.{keeps-untouched, keeps-staying, keeps-outputs}
 use Rattle.replacement.proofs.Sound.{new-table, new-table-words}
-use Rattle.answers.specs.Written.{imagesIn}
 use Rattle.answers.specs.Rewritten.{SharedConst, Keeps}
 use Rattle.answers.specs.Statements.{Rewrote, Demand3}
 use Rattle.answers.proofs.Maps.{least-is}

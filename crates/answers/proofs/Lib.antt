@@ -13,4 +13,5 @@ pub mod Tidying
 pub mod Sweeping
 pub mod Squeezing
 pub mod Importing
+pub mod Asking
 pub mod Statements

@@ -5,35 +5,21 @@ use mathlib.Core.List.{List}
 use mathlib.Core.Option.{some}
 use Prim.Native.Nat.{ℕ, _*_, _<_, _≤_}
 use native.Mathlib.Omega.{arith}
-use lib.ListN.{length, getD, List·getD-eq-default}
+use lib.ListN.{length, List·getD-eq-default}
 use lib.Seq.{ext-getD}
 use Rattle.definitions.specs.Fields.{u16At, u16Bytes}
 use Rattle.definitions.specs.Graph.{unusedPlace, graphVersion, graphOf, SoundGraph}
 use Rattle.definitions.specs.Rule.{sideLimit, sourceCount, ruleOf, SoundRule}
 use Rattle.definitions.specs.Match.{imageOf, Match, leastMatch}
-use Rattle.definitions.specs.Operations.{mapPlaces, mapBytes, mapBlock}
-use Rattle.laws.proofs.Lists.{length-tabulate, getD-tabulate}
+use Rattle.definitions.specs.Operations.{mapPlaces, mapBytes, mapBlock, imagesIn}
 use Rattle.laws.proofs.Graph.{length-slots, few-slots}
 use Rattle.laws.proofs.Rule.{length-source, few-sources}
-use Rattle.laws.proofs.Match.{image-inside}
+use Rattle.laws.proofs.Match.{images-length, images-at, image-inside}
 use Rattle.theory.proofs.Fixing.{sound-fixing}
 use Rattle.theory.proofs.Least.{least-match, search-least}
 use Rattle.encoding.proofs.Numbers.{length-u16, u16-back}
 use Rattle.encoding.proofs.Places.{length-places, place-at}
-use Rattle.answers.specs.Written.{imagesIn}
 use Rattle.answers.specs.Statements.{WritesLeast}
-
--- ---- what a caller reads
-
-module _ (map : List ℕ) (n : ℕ) where
-  images-length : length (imagesIn map n) ≡ n
-  unfolding imagesIn
-  images-length = simp length-tabulate
-
-  -- number j has its low byte at 2j and its high byte after that
-  images-at : (j d : ℕ) → j < n → getD (imagesIn map n) j d ≡ u16At map (2 * j)
-  unfolding imagesIn
-  images-at j d l = rw getD-tabulate
 
 -- ---- the map block of images that two bytes hold
 

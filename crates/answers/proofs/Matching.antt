@@ -14,13 +14,12 @@ use Rattle.definitions.specs.Reply.{done, noMatch, refusalAt, refused, numberOf
 use Rattle.definitions.specs.Graph.{Graph, graphOf, SoundGraph}
 use Rattle.definitions.specs.Rule.{sourceCount, Rule, ruleOf, SoundRule}
 use Rattle.definitions.specs.Match.{MatchFrom, outputImages, NotAfter, leastMatch}
-use Rattle.definitions.specs.Operations.{Outcome, outcome, mapBytes, mapBlock, matched, findMatch}
+use Rattle.definitions.specs.Operations.{Outcome, outcome, mapBytes, mapBlock, matched, findMatch, imagesIn}
 use Rattle.laws.proofs.Lists.{option-either}
 use Rattle.laws.proofs.Members.{member-left}
 use Rattle.laws.proofs.Operations.{matched-plain}
 use Rattle.theory.proofs.Fixing.{sound-fixing}
 use Rattle.theory.proofs.Least.{least-match, least-found, none-left, none-found}
-use Rattle.answers.specs.Written.{imagesIn}
 use Rattle.answers.specs.Statements.{Searched, Good, blockNumbers, WritesLeast, matchNumbers, MatchReplies}
 use Rattle.answers.proofs.Maps.{least-written}
 use Rattle.answers.proofs.Blocks as Blocks
@@ -62,7 +61,7 @@ module _ (graph rule : List ℕ) (start : ℕ) (before : List ℕ) where
     passing = λ e. rw (e, findMatch);
     own = own-number .0;
     small = own-number .1;
-    plain = matched-plain graph rule start before;
+    placeless = matched-plain graph rule start before .index;
   }
 
   -- ---- what the contract says at each end
@@ -82,7 +81,7 @@ module _ (graph rule : List ℕ) (start : ℕ) (before : List ℕ) where
       found-ends images e =
           let pass = Blocks.passes staged contract good in
           let same = found-matched images e in (
-            pass .says .number ∙ ap (λ (o : Outcome). numberOf (o .reply)) same,
+            pass .number ∙ ap (λ (o : Outcome). numberOf (o .reply)) same,
             pass .leftGraph ∙ ap (λ (o : Outcome). o .graph) same,
             pass .leftMap ∙ ap (λ (o : Outcome). o .map) same,
           )
@@ -202,6 +201,7 @@ module _ (graph rule : List ℕ) (start : ℕ) (before : List ℕ) where
       done = (λ h. let d = done-only h in ((d .0, d .1, d .2), d .3), λ w. done-every (w .0 .0) (w .0 .1) (w .0 .2) (w .1 .0) (w .1 .1));
       none = (λ h. let d = none-only h in ((d .0, d .1, d .2), d .3), λ w. none-every (w .0 .0) (w .0 .1) (w .0 .2) (w .1));
       listed = listed;
+      value = Blocks.valueless-all staged contract (matched-plain graph rule start before .value);
       graphKept = graph-unchanged;
       refusalKeeps = unchanged;
       written = written;

@@ -13,12 +13,12 @@ use lib.ListN.{length}
 use Rattle.definitions.specs.Lists.{member}
 use Rattle.definitions.specs.Paths.{Acyclic}
 use Rattle.definitions.specs.Reply as Reply
-use Rattle.definitions.specs.Reply.{noMatch, noResult, noRoom, newCycle, refusalAt, refusal, refused, numberOf, numberIn}
+use Rattle.definitions.specs.Reply.{noMatch, noResult, noRoom, newCycle, refusalAt, refusal, refused, numberOf, numberIn, valueIn}
 use Rattle.definitions.specs.Graph.{Graph, graphOf, inputsOf, graphBlock, hasCycle, SoundGraph}
 use Rattle.definitions.specs.Rule.{sourceCount, Rule, ruleOf, SoundRule}
 use Rattle.definitions.specs.Match.{readAttribute, Match, MatchFrom, outputImages, NotAfter, LeastFrom, leastMatch}
 use Rattle.definitions.specs.Rewriting.{targetResults, hasRoom, newGraph}
-use Rattle.definitions.specs.Operations.{Outcome, outcome, atReturn, returned, mapBytes, mapBlock, accepted, turnedDown, rewritten, replaced, rewrite}
+use Rattle.definitions.specs.Operations.{Outcome, outcome, atReturn, returned, mapBytes, mapBlock, accepted, turnedDown, rewritten, replaced, rewrite, imagesIn}
 use Rattle.laws.proofs.Lists.{decided, true-not-false, option-either}
 use Rattle.laws.proofs.Members.{member-left}
 use Rattle.laws.proofs.Reply.{Plain, plain-done, plain-refused}
@@ -30,7 +30,6 @@ use Rattle.theory.proofs.Least.{none-left, search-least}
 use Rattle.reachability.proofs.Cycles as cycles
 use Rattle.replacement.proofs.Site.{Site, site}
 use Rattle.replacement.proofs.Table.{new-inputs}
-use Rattle.answers.specs.Written.{imagesIn}
 use Rattle.answers.specs.Rewritten.{Due}
 use Rattle.answers.specs.Statements.{Rewrote, Good, blockNumbers, BlockReplies, WritesLeast, matchNumbers, rewriteNumbers}
 use Rattle.answers.proofs.Maps.{least-told, least-written}
@@ -223,7 +222,7 @@ module _ (graph rule : List ℕ) (start : ℕ) (before : List ℕ) where
     passing = λ e. rw (e, rewrite);
     own = outcome-number tested .own;
     small = outcome-number tested .small;
-    plain = outcome-plain tested;
+    placeless = outcome-plain tested .index;
   }
 
 -- ---- what the replies mean
@@ -243,7 +242,7 @@ module _ (graph rule : List ℕ) (start : ℕ) (before : List ℕ) (reply : ℕ)
   -- at the return from a call on good blocks
   ends : Good graph rule before → (numberIn reply ≡ numberOf (rest graph rule start before .reply))
       × (graphAfter ≡ rest graph rule start before .graph) × (after ≡ rest graph rule start before .map)
-  ends blocks = let pass = Blocks.passes stages met blocks in (pass .says .number, pass .leftGraph, pass .leftMap)
+  ends blocks = let pass = Blocks.passes stages met blocks in (pass .number, pass .leftGraph, pass .leftMap)
 
   -- The replies about the blocks are given exactly where they are due.
   pub block-replies : BlockReplies graph rule before reply
@@ -279,6 +278,10 @@ module _ (graph rule : List ℕ) (start : ℕ) (before : List ℕ) (reply : ℕ)
       member-left (numberIn reply) matchNumbers (noResult ∷ noRoom ∷ newCycle ∷ [])
       (rw (member-left (numberIn reply) blockNumbers (noMatch ∷ []) about) (or-true (eqb (numberIn reply) 0))))
       (λ blocks. rw (ends blocks .0) (outcome-number graph rule start before shown .listed))
+
+  -- It has no value.
+  pub no-value : valueIn reply ≡ 0
+  no-value = Blocks.valueless-all stages met (outcome-plain graph rule start before shown .value)
 
   -- ---- what is written
 

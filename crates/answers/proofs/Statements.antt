@@ -6,20 +6,23 @@ use Prim.Native.Nat.{ℕ, _+_, _*_, _^_}
 use native.Mathlib.Omega.{arith}
 use Rattle.definitions.specs.Reply.{numberIn, placeIn, valueIn}
 use Rattle.definitions.specs.Graph.{graphVersion, importVersion, graphOf, graphBlock}
-use Rattle.definitions.specs.Rule.{sourceCount, ruleOf}
+use Rattle.definitions.specs.Rule.{sourceCount, ruleOf, SoundRule}
 use Rattle.definitions.specs.Results.{Meaning}
+use Rattle.definitions.specs.Operations.{imagesIn}
+use Rattle.theory.proofs.Fixing.{sound-fixing}
+use Rattle.theory.proofs.Least.{match-attempted}
 use Rattle.encoding.proofs.Graphs.{canonical}
-use Rattle.answers.specs.Written.{imagesIn}
 use Rattle.answers.specs.Rewritten.{Due}
-use Rattle.answers.specs.Statements.{Says, CheckedGraph, CheckedRule, Searched, Rewrote, Swept, Squeezed, Imported, GraphVerdict, RuleVerdict, OneBlock, MatchReplies, Yields, RewriteReplies, Demand3, SweepReplies, SweepKeeps, SweptTwice, SqueezeReplies, SqueezeKeeps, SqueezedTwice, ImportReplies, OneVersion}
+use Rattle.answers.specs.Statements.{Says, CheckedGraph, CheckedRule, Searched, Rewrote, Swept, Squeezed, Imported, Asked, GraphVerdict, RuleVerdict, OneBlock, MatchReplies, Yields, RewriteReplies, Demand3, SweepReplies, SweepKeeps, SweptTwice, SqueezeReplies, SqueezeKeeps, SqueezedTwice, ImportReplies, OneVersion, AskReplies, AnswersWritten, OneAttempt}
 use Rattle.answers.proofs.Blocks.{graph-verdict, rule-verdict}
 use Rattle.answers.proofs.Matching.{match-replies}
-use Rattle.answers.proofs.Rewriting.{block-replies, due, replied, listed, refusal-keeps, written}
+use Rattle.answers.proofs.Rewriting.{block-replies, due, replied, listed, no-value, refusal-keeps, written}
 use Rattle.answers.proofs.Demands.{yields-sound, yields-table, demand-3}
 use Rattle.answers.proofs.Unchanged.{keeps-record, keeps-constant}
 use Rattle.answers.proofs.Sweeping.{sweep-replies, sweep-keeps, sweep-twice}
 use Rattle.answers.proofs.Squeezing.{squeeze-replies, squeeze-keeps, squeeze-twice}
 use Rattle.answers.proofs.Importing.{import-replies, import-version, check-version}
+use Rattle.answers.proofs.Asking.{done-every, ask-replies}
 
 -- Number and place are all that the C side gets: what is said of them is said of the whole reply.
 pub whole-word : (reply n p : ℕ) → Says reply n p → reply ≡ n + 2 ^ 8 * p
@@ -47,6 +50,14 @@ module _ (graph rule : List ℕ) (start : ℕ) (map : List ℕ) (reply : ℕ) (g
   pub searched : Searched graph rule start map reply graphAfter mapAfter → MatchReplies graph rule start map reply graphAfter mapAfter
   searched = match-replies graph rule start map reply graphAfter mapAfter
 
+  pub searched-asked : Searched graph rule start map reply graphAfter mapAfter → numberIn reply ≡ 0 → AnswersWritten graph rule mapAfter
+  searched-asked contract h vertex again second inner =
+      let found = searched contract in
+      let good = found .done .0 h .0 in
+      let written = found .written h in
+      done-every graph rule mapAfter vertex again second (written .size, good .1, good .2)
+      (record { isMatch = written .least .from .isMatch; rest = written .rest }) inner
+
   -- lg_rewrite
   module _ (contract : Rewrote graph rule start map reply graphAfter mapAfter) where
     yielded : numberIn reply ≡ 0 → Yields graph rule (imagesIn mapAfter (sourceCount rule)) graphAfter
@@ -71,6 +82,7 @@ module _ (graph rule : List ℕ) (start : ℕ) (map : List ℕ) (reply : ℕ) (g
         replied graph rule start map reply graphAfter mapAfter contract (good .0) (good .1) (good .2) n,
       );
       listed = listed graph rule start map reply graphAfter mapAfter contract;
+      value = no-value graph rule start map reply graphAfter mapAfter contract;
       refusalKeeps = refusal-keeps graph rule start map reply graphAfter mapAfter contract;
       written = written graph rule start map reply graphAfter mapAfter contract;
       yields = yielded;
@@ -109,3 +121,10 @@ module _ (graph : List ℕ) (reply : ℕ) (graphAfter : List ℕ) (contract : Im
 
   pub imported-version : OneVersion importVersion graph reply
   imported-version = import-version graph reply graphAfter contract
+
+-- lg_is_read_elsewhere
+pub asked : (graph rule map : List ℕ) (vertex reply : ℕ) → Asked graph rule map vertex reply → AskReplies graph rule map vertex reply
+asked = ask-replies
+
+pub one-attempt : (graph rule : List ℕ) → SoundRule rule → OneAttempt graph rule
+one-attempt graph rule sound = match-attempted (graphOf graph) (ruleOf rule) (sound-fixing rule sound)

@@ -11,12 +11,13 @@ use Rattle.definitions.specs.Graph.{Graph, renamed, graphOf, slotOf, inputsOf}
 use Rattle.definitions.specs.Rule.{sourceCount, Rule, ruleOf}
 use Rattle.definitions.specs.Match.{outputImages}
 use Rattle.definitions.specs.Rewriting.{stays, redirect, stayingSlot, newGraph}
+use Rattle.definitions.specs.Operations.{imagesIn}
 use Rattle.laws.proofs.Lists.{map-same}
 use Rattle.laws.proofs.Members.{holds, no-member}
 use Rattle.laws.proofs.Rewriting.{new-length}
 use Rattle.encoding.proofs.Graphs.{table-of, canonical}
 use Rattle.replacement.proofs.Table.{stays-inside, redirect-other, slot-staying}
-use Rattle.answers.specs.Written.{imagesIn, KeepsRecord}
+use Rattle.answers.specs.Written.{KeepsRecord}
 use Rattle.answers.specs.Rewritten.{SharedConst, ReadsNone}
 use Rattle.answers.specs.Statements.{Rewrote, KeptConst}
 use Rattle.answers.proofs.Records.{record-kept}

@@ -15,25 +15,27 @@ use lib.IntN.{ℤ}
 use lib.ListN.{length}
 use Rattle.definitions.specs.Lists.{member}
 use Rattle.definitions.specs.Fields.{Bytes, byteAt, u16At}
-use Rattle.definitions.specs.Reply.{badMapLength, badGraphHeader, badGraphRecord, badGraphName, graphHasCycle, badGraphCount, badRuleHeader, badRuleRecord, badRuleOrder, badRuleOutputs, badRuleExpression, noMatch, noResult, noRoom, newCycle, badMovesLength, packed, numberIn, placeIn, valueIn}
+use Rattle.definitions.specs.Reply.{badMapLength, badGraphHeader, badGraphRecord, badGraphName, graphHasCycle, badGraphCount, badRuleHeader, badRuleRecord, badRuleOrder, badRuleOutputs, badRuleExpression, noMatch, noResult, noRoom, newCycle, badMovesLength, notAMatch, noSuchVertex, packed, numberIn, placeIn, valueIn}
 use Rattle.definitions.specs.Graph.{headerBytes, slotBytes, unusedPlace, versionOffset, importVersion, slotCount, storedCount, renamed, graphOf, slotOf, isVertex, graphBlock, graphReply, SoundAs, SoundGraph}
-use Rattle.definitions.specs.Rule.{sourceCount, ruleOf, ruleReply, SoundRule}
+use Rattle.definitions.specs.Rule.{sourceCount, ruleOf, isRuleInput, ruleReply, SoundRule}
 use Rattle.definitions.specs.Faults.{FaultAs, GraphFault, RuleFault}
-use Rattle.definitions.specs.Match.{readAttribute, MatchFrom, LeastFrom}
-use Rattle.definitions.specs.Rewriting.{targetResults, stays, redirect, newGraph}
-use Rattle.definitions.specs.Operations.{atReturn, returned, mapPlaces, mapBytes, findMatch, rewrite}
+use Rattle.definitions.specs.Match.{imageOf, readAttribute, isConst, mustBePrivate, placesOf, Match, MatchFrom, outputImages, LeastFrom, attempt}
+use Rattle.definitions.specs.Rewriting.{targetResults, isRemoved, stays, redirect, newGraph}
+use Rattle.definitions.specs.Operations.{atReturn, returned, mapPlaces, mapBytes, imagesIn, findMatch, rewrite}
 use Rattle.definitions.specs.Sweep.{Unneeded, sweepGraph}
 use Rattle.definitions.specs.Squeeze.{squeezeReply, squeezeGraph, squeezeMoves}
 use Rattle.definitions.specs.Import.{importReply, importGraph}
+use Rattle.definitions.specs.ReadElsewhere.{ReadElsewhere, elsewhereReply}
 use Rattle.definitions.specs.Results.{Meaning, Follows}
-use Rattle.answers.specs.Written.{imagesIn, OutsideVersion, OutsideCount, SameByte, KeepsRecord}
+use Rattle.answers.specs.Written.{OutsideVersion, OutsideCount, SameByte, KeepsRecord}
 use Rattle.answers.specs.Rewritten.{Due, SharedConst, ReadsNone, Keeps}
 use Rattle.answers.specs.Tidied.{wentTo, Renumbers, KeepsResults}
 
 -- ==== the contracts
 
 -- Names with After are the lent bytes at the return, the others as they came. What is lent to read only cannot be written: the rule
--- always, and the graph by the checks and by lg_find_match. For such a graph lib.rt gives the bytes as they came for graphAfter.
+-- always, the graph by the checks, by lg_find_match and by lg_is_read_elsewhere, and the map by the last. For lg_find_match lib.rt gives the
+-- graph's bytes as they came for graphAfter.
 
 -- lg_check_graph and lg_check_rule: the reply is the definition's
 abbrev pub CheckedGraph : List ℕ → ℕ → Type 0
@@ -73,9 +75,13 @@ pub record Imported (graph : List ℕ) (reply : ℕ) (graphAfter : List ℕ) : T
   pub left : graphAfter ≡ importGraph graph
   pub lentGraph : Bytes graph
 
+-- lg_is_read_elsewhere: the reply is the definition's, the answer with it
+abbrev pub Asked : List ℕ → List ℕ → List ℕ → ℕ → ℕ → Type 0
+Asked graph rule map vertex reply = reply ≡ packed (elsewhereReply graph rule map vertex)
+
 -- ==== what follows: the checks
 
--- The C side reads number n in bits 0 to 7 of a reply, where 0 is done, and place p in bits 8 to 39. No request names a value yet.
+-- The C side reads number n in bits 0 to 7 of a reply, where 0 is done, and place p in bits 8 to 39, and in bits 40 to 63 no value.
 pub record Says (reply n p : ℕ) : Type 0 where
   pub number : numberIn reply ≡ n
   pub place : placeIn reply ≡ p
@@ -142,9 +148,10 @@ pub record BlockReplies (graph rule map : List ℕ) (reply : ℕ) : Type 0 where
       ↔ ((length map ≡ mapBytes) × SoundGraph graph × RuleFault rule n p)
   -- every other reply is for good blocks only
   pub good : member (numberIn reply) blockNumbers ≡ false → Good graph rule map
-  -- "wherever no request names a place, 0"; and no request names a value yet
+  -- "wherever no request names a place, 0"
   pub plain : member (numberIn reply) (graphNumbers ++ ruleNumbers) ≡ false → placeIn reply ≡ 0
-  pub value : valueIn reply ≡ 0
+  -- none of these has a value
+  pub value : member (numberIn reply) blockNumbers ≡ true → valueIn reply ≡ 0
 
 -- "Done, in matching and in rewriting, writes the map: sixteen 16-bit numbers, 65535 from S on." The first S of them are the images.
 pub record WritesLeast (graph rule : List ℕ) (start : ℕ) (mapAfter : List ℕ) : Type 0 where
@@ -165,8 +172,9 @@ pub record MatchReplies (graph rule : List ℕ) (start : ℕ) (map : List ℕ) (
   -- "4: no match from s"
   pub none : (numberIn reply ≡ noMatch)
       ↔ (Good graph rule map × ((images : List ℕ) → MatchFrom (graphOf graph) (ruleOf rule) start images → ⊥))
-  -- "matching 0 to 4", with 20 to 24 for 2 and 30 to 34 for 3
+  -- "matching 0 to 4", with 20 to 24 for 2 and 30 to 34 for 3; never a value
   pub listed : member (numberIn reply) matchNumbers ≡ true
+  pub value : valueIn reply ≡ 0
   -- "Only rewriting writes the graph." "After a refusal each lent byte is as it came."
   pub graphKept : graphAfter ≡ graph
   pub refusalKeeps : (numberIn reply ≡ 0 → ⊥) → mapAfter ≡ map
@@ -207,6 +215,7 @@ pub record RewriteReplies (graph rule : List ℕ) (start : ℕ) (map : List ℕ)
   pub due : Good graph rule map → (n : ℕ) → (numberIn reply ≡ n) ↔ (Due (graphOf graph) (ruleOf rule) start n)
   -- "rewriting 0 to 7", likewise
   pub listed : member (numberIn reply) rewriteNumbers ≡ true
+  pub value : valueIn reply ≡ 0
   -- "After a refusal each lent byte is as it came."
   pub refusalKeeps : (numberIn reply ≡ 0 → ⊥) → (graphAfter ≡ graph) × (mapAfter ≡ map)
   pub written : numberIn reply ≡ 0 → WritesLeast graph rule start mapAfter
@@ -333,3 +342,67 @@ pub record ImportReplies (graph : List ℕ) (reply : ℕ) (graphAfter : List ℕ
 -- version 1 alone, so that no second import follows the first. Follows from CheckedGraph with version 2, and from Imported with version 1.
 abbrev pub OneVersion : ℕ → List ℕ → ℕ → Type 0
 OneVersion version graph reply = (u16At graph versionOffset ≡ version → ⊥) → Says reply badGraphHeader 0
+
+-- ==== what follows: is an image read elsewhere
+
+-- the map is "a match (any, with 65535 from S on)": number j is the image of source vertex j
+pub record HoldsMatch (graph rule map : List ℕ) : Type 0 where
+  pub isMatch : Match (graphOf graph) (ruleOf rule) (imagesIn map (sourceCount rule))
+  pub rest : (j : ℕ) → sourceCount rule ≤ j → j < mapPlaces → u16At map (2 * j) ≡ unusedPlace
+
+-- "one non-input source vertex"
+abbrev pub Inner : List ℕ → ℕ → Type 0
+Inner rule vertex = (vertex < sourceCount rule) × (isRuleInput (ruleOf rule) vertex ≡ false)
+
+-- the slot that the map gives a source vertex
+abbrev pub imageIn : List ℕ → List ℕ → ℕ → ℕ
+imageIn rule map vertex = imageOf (imagesIn map (sourceCount rule)) vertex
+
+-- the vertex's image under the map "is a graph output or is read by something other than the image of a non-input source vertex"
+abbrev pub NeededElsewhere : List ℕ → List ℕ → List ℕ → ℕ → Type 0
+NeededElsewhere graph rule map vertex =
+    ReadElsewhere (graphOf graph) (ruleOf rule) (imagesIn map (sourceCount rule)) (imageIn rule map vertex)
+
+-- the numbers that the question gives
+abbrev pub askNumbers : List ℕ
+askNumbers = 0 ∷ blockNumbers ++ notAMatch ∷ noSuchVertex ∷ []
+
+-- What an answer says, on reply 0.
+pub record Answers (graph rule map : List ℕ) (vertex reply : ℕ) : Type 0 where
+  -- "yes exactly when"; value 1 is yes, and value 0 no
+  pub yes : (valueIn reply ≡ 1) ↔ NeededElsewhere graph rule map vertex
+  pub no : (valueIn reply ≡ 0) ↔ (NeededElsewhere graph rule map vertex → ⊥)
+  -- "from the stored count and the rule alone": the count is above the number of source input places that name the vertex
+  pub counted : (valueIn reply ≡ 1) ↔ (placesOf (ruleOf rule) vertex < storedCount graph (imageIn rule map vertex))
+  -- of an interior vertex that is no Const the answer is no, or the map would be no match; and of a Const it is no exactly where a rewriting
+  -- at this match removes it
+  pub interior : mustBePrivate (ruleOf rule) vertex ≡ true → valueIn reply ≡ 0
+  pub constant : isConst (ruleOf rule) vertex ≡ true
+      → (valueIn reply ≡ 0) ↔ (isRemoved (graphOf graph) (ruleOf rule) (imagesIn map (sourceCount rule)) (imageIn rule map vertex) ≡ true)
+
+-- follows from Asked
+pub record AskReplies (graph rule map : List ℕ) (vertex reply : ℕ) : Type 0 where
+  -- "1, the graph and rule ones"
+  pub blocks : BlockReplies graph rule map reply
+  -- "then 41 when the map isn't a match"
+  pub noMap : (numberIn reply ≡ notAMatch) ↔ (Good graph rule map × (HoldsMatch graph rule map → ⊥))
+  -- "42 when it is no such vertex"
+  pub noVertex : (numberIn reply ≡ noSuchVertex) ↔ (Good graph rule map × HoldsMatch graph rule map × (Inner rule vertex → ⊥))
+  pub done : (numberIn reply ≡ 0) ↔ (Good graph rule map × HoldsMatch graph rule map × Inner rule vertex)
+  pub listed : member (numberIn reply) askNumbers ≡ true
+  -- a refusal has no value, so that it is never taken for yes
+  pub refusalValue : (numberIn reply ≡ 0 → ⊥) → valueIn reply ≡ 0
+  pub answers : numberIn reply ≡ 0 → Answers graph rule map vertex reply
+
+-- The map that lg_find_match has written is such a match: of it the question is answered for every such vertex. Follows from Searched and
+-- reply 0.
+abbrev pub AnswersWritten : List ℕ → List ℕ → List ℕ → Type 0
+AnswersWritten graph rule mapAfter =
+    (vertex reply : ℕ) → Asked graph rule mapAfter vertex reply → Inner rule vertex → numberIn reply ≡ 0
+
+-- "A map is a match exactly where matching from its output images gives it": one attempt tells, and no search. Follows from the definitions,
+-- for a sound rule.
+abbrev pub OneAttempt : List ℕ → List ℕ → Type 0
+OneAttempt graph rule =
+    (images : List ℕ) → Match (graphOf graph) (ruleOf rule) images
+    ↔ (attempt (graphOf graph) (ruleOf rule) (outputImages (ruleOf rule) images) ≡ some images)

@@ -1,16 +1,11 @@
--- How a caller reads the map that an operation has written, and which bytes of a graph block are kept.
+-- Which bytes of a graph block are kept.
 -- Assumes nothing.
 use mathlib.Core.Path.{_≡_}
 use mathlib.Core.List.{List}
 use mathlib.Core.Logic.{_⊎_}
-use Prim.Native.Nat.{ℕ, _+_, _*_, _<_, _≤_}
-use Rattle.definitions.specs.Lists.{tabulate}
-use Rattle.definitions.specs.Fields.{byteAt, u16At}
+use Prim.Native.Nat.{ℕ, _+_, _<_, _≤_}
+use Rattle.definitions.specs.Fields.{byteAt}
 use Rattle.definitions.specs.Graph.{slotBytes, countOffset, countBytes, versionOffset, recordAt, graphOf, trueCount}
-
--- the first n numbers of a map block, 16 bits each
-unfoldable pub imagesIn : List ℕ → ℕ → List ℕ
-imagesIn map n = tabulate n (λ j. u16At map (2 * j))
 
 -- byte i of a header is none of its version's, and byte i of a record none of its count's
 abbrev pub OutsideVersion : ℕ → Type 0

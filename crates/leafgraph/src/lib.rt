@@ -2,7 +2,7 @@
 // their C prototypes. None has a `requires`: any bytes are answered. The contracts stand in
 // answers/specs/Statements, each with what follows from it.
 use reply::pack;
-ghost use Rattle.answers.specs.Statements.{CheckedGraph, CheckedRule, Searched, Rewrote, Swept, Squeezed, Imported};
+ghost use Rattle.answers.specs.Statements.{CheckedGraph, CheckedRule, Searched, Rewrote, Swept, Squeezed, Imported, Asked};
 
 // Checks a graph block: 0, or 20 to 24, all but 20 with a place.
 #[no_mangle]
@@ -63,4 +63,14 @@ pub extern "C" fn lg_import(graph: &mut [u8]) -> u64
     ensures { λ r. ⌜ Imported (now (graph .entry)) r (now (graph .exit)) ⌝ }
 {
     pack(graph_import::import(graph))
+}
+
+// Says of a match whether the image of a source vertex is a graph output, or read by something other than the images of source vertices that
+// are no rule inputs: 1, what the checks refuse, 41 where the map is no match, 42 for a rule input and for a number that is no source vertex,
+// or 0, with value 1 for yes and 0 for no. Nothing is written.
+#[no_mangle]
+pub extern "C" fn lg_is_read_elsewhere(graph: &[u8], rule: &[u8], map: &[u8], vertex: usize) -> u64
+    ensures { λ r. ⌜ Asked (now (graph .entry)) (now (rule .entry)) (now (map .entry)) vertex r ⌝ }
+{
+    pack(read_elsewhere::is_read_elsewhere(graph, rule, map, vertex))
 }
