@@ -1,7 +1,7 @@
 /* leafgraph: checks the operator graphs of an image pipeline and the rules by
- * which they are rewritten, finds where a rule matches, and rewrites there; sweeps
- * out what no output needs, squeezes what is left together, and imports graphs of
- * the format's first version.
+ * which they are rewritten, finds where a rule matches, says whether what it matches is
+ * read elsewhere, and rewrites there; sweeps out what no output needs, squeezes what is
+ * left together, and imports graphs of the format's first version.
  *
  * What holds for every function here:
  *
@@ -36,8 +36,9 @@
  * Version 2.1 adds lg_sweep and lg_squeeze, with reply 40.
  * Version 3 takes and leaves graph blocks of version 2, which have counts, with
  * reply 24 for a wrong one. Graph blocks of version 1, which versions before took,
- * are refused with reply 20, except by lg_import, which makes version 2 of them. */
-#define LEAFGRAPH_VERSION "3.0.0"
+ * are refused with reply 20, except by lg_import, which makes version 2 of them.
+ * Version 3.1 adds lg_is_read_elsewhere, with replies 41 and 42, and lg_reply_value. */
+#define LEAFGRAPH_VERSION "3.1.0"
 
 #ifdef __cplusplus
 extern "C" {
@@ -86,6 +87,10 @@ enum {
 
     LG_BAD_MOVES_LENGTH = 40, /* the list of moves is not two bytes for each of
                                  the graph's slots */
+    LG_NOT_A_MATCH = 41,      /* the map is no match of the rule in the graph, or
+                                 is not 65535 past the last source vertex */
+    LG_NO_SUCH_VERTEX = 42,   /* the number is no source vertex, or one that is a
+                                 rule input (a wildcard or a Variable) */
 
     LG_NO_MATCH = 4,  /* no match from the start number on */
     LG_NO_RESULT = 5, /* a target attribute has no result, or a projection's
@@ -127,10 +132,17 @@ static inline int lg_is_bad_rule(uint64_t reply) {
  * number above. Two numbers leave that open: LG_BAD_GRAPH_NAME does not tell a
  * slot from an output, nor LG_BAD_RULE_EXPRESSION a node from a vertex. Look at
  * the bytes to settle it: if the slot of that number has a bad input, or the node
- * of that number is bad, that is the place. (place_in of leafgraph.hpp does it.)
- * Bits 40 to 63 are zero for now. */
+ * of that number is bad, that is the place. (place_in of leafgraph.hpp does it.) */
 static inline uint32_t lg_reply_place(uint64_t reply) {
     return (reply >> 8) & 0xffffffff;
+}
+
+/* The value beside a reply: bits 40 to 63. Of lg_is_read_elsewhere it is 1 for yes,
+ * with LG_DONE; with any other reply, and of any other function, it is 0. Look at the
+ * number first: 0 beside a refusal is no answer. */
+static inline uint32_t lg_reply_value(uint64_t reply) {
+    const uint64_t value = reply >> 40;
+    return value & 0xffffff;
 }
 
 /* Checks a graph block.
@@ -180,6 +192,36 @@ uint64_t lg_find_match(const uint8_t *graph, size_t graph_len,
                        const uint8_t *rule, size_t rule_len,
                        size_t start,
                        uint8_t *map, size_t map_len);
+
+/* Says whether the image of a source vertex, the slot that it matches, is read elsewhere.
+ * The vertex is one that is no rule input (no wildcard and no Variable): an output of the
+ * rule, or what stands between its inputs and its outputs, Consts included. The answer is
+ * yes exactly when the image is a graph output, or is read by something other than the
+ * image of a source vertex that is no rule input. So a read by the image of a rule input
+ * makes it yes: that vertex stays. Graph, rule and map are checked first, at each call;
+ * the answer then comes from the slot's count and the rule alone.
+ *
+ * The map is any match of the rule, not only a least one, with 65535 past the last source
+ * vertex. What lg_find_match has written for this graph and this rule is one.
+ *
+ * Of a Const, yes means that a rewriting at this match would let it stay, and no that it
+ * would remove it. Of a vertex that is no Const and no output the answer is always no: the
+ * map would be no match otherwise. The three buffers must not overlap.
+ *
+ * Reads:   graph_len bytes at graph, rule_len bytes at rule, map_len bytes at map.
+ * Writes:  nothing.
+ * Replies: LG_DONE, with lg_reply_value 1 for yes and 0 for no; else the first that
+ *          applies of LG_BAD_MAP_LENGTH (map_len is not 32), what lg_check_graph and then
+ *          lg_check_rule would refuse, LG_NOT_A_MATCH and LG_NO_SUCH_VERTEX (vertex is a
+ *          rule input, or not below the rule's number of source vertices; it may be any
+ *          number).
+ * Threads: any number at once.
+ * Stack:   64 KiB.
+ */
+uint64_t lg_is_read_elsewhere(const uint8_t *graph, size_t graph_len,
+                              const uint8_t *rule, size_t rule_len,
+                              const uint8_t *map, size_t map_len,
+                              size_t vertex);
 
 /* Rewrites a graph by a rule where lg_find_match would find its match from
  * start on: the least one, and no other is tried. What the rule's source
