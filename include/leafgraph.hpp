@@ -8,8 +8,10 @@
 //   does not take.
 // - A null pointer with any other length, and buffers that overlap, are refused
 //   before the library is called: no byte is read or written then.
-// - A reply is a type of its own, with its number, its place and a text; and
-//   place_in says what the place of a refused block counts.
+// - A reply is a type of its own, with its number, its place, its value and a text;
+//   and place_in says what the place of a refused block counts.
+// - What is_read_elsewhere says is a type of its own, too (Answer), in which a refusal
+//   is neither a yes nor a no.
 // - The numbers of a map and of a list of moves are read by index (Map, Moves), and so
 //   are the counts that a graph block stores (stored_count).
 // - wants_import says whether a block is one of version 1, for import_graph.
@@ -49,6 +51,8 @@ enum class Code : std::uint16_t {
     bad_rule_outputs = LG_BAD_RULE_OUTPUTS,
     bad_rule_expression = LG_BAD_RULE_EXPRESSION,
     bad_moves_length = LG_BAD_MOVES_LENGTH,
+    not_a_match = LG_NOT_A_MATCH,
+    no_such_vertex = LG_NO_SUCH_VERTEX,
     no_match = LG_NO_MATCH,
     no_result = LG_NO_RESULT,
     no_room = LG_NO_ROOM,
@@ -86,6 +90,10 @@ constexpr const char *what(Code code) noexcept {
         return "bad rule block: an expression, or the use of one";
     case Code::bad_moves_length:
         return "the list of moves is not two bytes for each slot";
+    case Code::not_a_match:
+        return "the map is no match of the rule in the graph";
+    case Code::no_such_vertex:
+        return "no source vertex of that number, or a rule input";
     case Code::no_match:
         return "no match from the start number on";
     case Code::no_result:
@@ -108,10 +116,11 @@ public:
     // A reply of the library.
     explicit constexpr Reply(std::uint64_t packed) noexcept
         : code_(static_cast<Code>(packed & 0xff)),
-          place_(static_cast<std::uint32_t>((packed >> 8) & 0xffffffff)) {}
+          place_(static_cast<std::uint32_t>((packed >> 8) & 0xffffffff)),
+          value_(static_cast<std::uint32_t>(packed >> 40)) {}
 
     // A refusal of this header.
-    explicit constexpr Reply(Code code) noexcept : code_(code), place_(0) {}
+    explicit constexpr Reply(Code code) noexcept : code_(code), place_(0), value_(0) {}
 
     constexpr bool done() const noexcept { return code_ == Code::done; }
     explicit constexpr operator bool() const noexcept { return done(); }
@@ -129,8 +138,12 @@ public:
     // vertex or a node, see leafgraph.h at each number; else 0. place_in says which.
     constexpr std::uint32_t place() const noexcept { return place_; }
 
+    // The value beside it, see lg_reply_value; 0 where there is none, as with a refusal.
+    constexpr std::uint32_t value() const noexcept { return value_; }
+
     friend constexpr bool operator==(Reply left, Reply right) noexcept {
-        return left.code_ == right.code_ && left.place_ == right.place_;
+        return left.code_ == right.code_ && left.place_ == right.place_
+               && left.value_ == right.value_;
     }
     friend constexpr bool operator!=(Reply left, Reply right) noexcept {
         return !(left == right);
@@ -139,6 +152,18 @@ public:
 private:
     Code code_;
     std::uint32_t place_;
+    std::uint32_t value_;
+};
+
+// What is_read_elsewhere returns. After a refusal yes() and no() are both false, so that
+// nobody takes a refusal for a no, and lets something go that is read elsewhere. For the
+// same reason it is no condition by itself: that could mean done as well as yes.
+struct [[nodiscard]] Answer {
+    Reply reply;
+
+    constexpr bool done() const noexcept { return reply.done(); }
+    constexpr bool yes() const noexcept { return done() && reply.value() == 1; }
+    constexpr bool no() const noexcept { return done() && reply.value() == 0; }
 };
 
 namespace detail {
@@ -372,6 +397,21 @@ inline Reply find_match(Bytes graph, Bytes rule, std::size_t start, WritableByte
     map = detail::lent(map);
     return Reply(lg_find_match(graph.data(), graph.size(), rule.data(), rule.size(), start,
                                map.data(), map.size()));
+}
+
+// As lg_is_read_elsewhere: whether what this source vertex matches is a graph output, or is
+// read by something other than what the source vertices match that are no rule inputs. The
+// map is a Map, or any other buffer with a match.
+inline Answer is_read_elsewhere(Bytes graph, Bytes rule, Bytes map, std::size_t vertex) noexcept {
+    const Code code = detail::judged(graph, rule, map);
+    if (code != Code::done) {
+        return {Reply(code)};
+    }
+    graph = detail::lent(graph);
+    rule = detail::lent(rule);
+    map = detail::lent(map);
+    return {Reply(lg_is_read_elsewhere(graph.data(), graph.size(), rule.data(), rule.size(),
+                                       map.data(), map.size(), vertex))};
 }
 
 // As lg_rewrite: where done, graph holds the new block, and the map tells where
