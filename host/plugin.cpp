@@ -18,6 +18,15 @@ bool rewritten(std::vector<unsigned char> &graph, const std::array<unsigned char
     return reply.done();
 }
 
+// Whether a rewriting at the least match may take what this source vertex matches, and nothing
+// else reads it. Where there is no match, or no such vertex, it may not.
+bool may_go(const std::vector<unsigned char> &graph, const std::array<unsigned char, 80> &rule,
+            std::size_t vertex) {
+    leafgraph::Map map;
+    return leafgraph::find_match(graph, rule, 0, map).done()
+           && leafgraph::is_read_elsewhere(graph, rule, map, vertex).no();
+}
+
 // The new number of a Variable after what no output needs has gone; itself if it is refused.
 std::size_t tidied(std::vector<unsigned char> &graph, std::vector<unsigned char> &list,
                    std::size_t variable) {

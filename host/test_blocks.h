@@ -8,6 +8,7 @@
 #include "faults.h"
 #include "imports.h"
 #include "leafgraph.h"
+#include "read_elsewhere.h"
 #include "shared_constants.h"
 #include "sweep_squeeze.h"
 
@@ -63,19 +64,27 @@ static void put_e1_after_p1(uint8_t *block) {
     block[10] = 3;
 }
 
-/* 0 if the reply is exactly the number and the place expected, the rest zero. */
-static int differs_at(const char *what, uint64_t reply, unsigned number, uint32_t place) {
+/* 0 if the reply is exactly the number, the place and the value expected. */
+static int reply_differs(const char *what, uint64_t reply, unsigned number, uint32_t place,
+                         uint32_t value) {
     const int is_bad_graph = number >= 20 && number < 30;
     const int is_bad_rule = number >= 30 && number < 40;
-    if (reply == ((uint64_t)place << 8 | number) && lg_reply_number(reply) == number
-        && lg_reply_place(reply) == place && lg_is_bad_graph(reply) == is_bad_graph
+    if (reply == ((uint64_t)value << 40 | (uint64_t)place << 8 | number)
+        && lg_reply_number(reply) == number && lg_reply_place(reply) == place
+        && lg_reply_value(reply) == value && lg_is_bad_graph(reply) == is_bad_graph
         && lg_is_bad_rule(reply) == is_bad_rule) {
         return 0;
     }
-    printf("%s: number %u, place %lu, expected number %u, place %lu\n", what,
-           lg_reply_number(reply), (unsigned long)lg_reply_place(reply), number,
-           (unsigned long)place);
+    printf("%s: number %u, place %lu, value %lu, expected number %u, place %lu, value %lu\n",
+           what, lg_reply_number(reply), (unsigned long)lg_reply_place(reply),
+           (unsigned long)lg_reply_value(reply), number, (unsigned long)place,
+           (unsigned long)value);
     return 1;
+}
+
+/* The same with value 0. */
+static int differs_at(const char *what, uint64_t reply, unsigned number, uint32_t place) {
+    return reply_differs(what, reply, number, place, 0);
 }
 
 /* The same with place 0. */
@@ -207,6 +216,118 @@ static int count_rewrite_differences(void) {
     return count;
 }
 
+/* What is lent to a question, in memory that could be written to. */
+struct lent {
+    uint8_t graph[sizeof e1], rule[LONGEST_RULE], map[LONGEST_MAP];
+    size_t graph_len, rule_len, map_len;
+};
+
+static void lend(struct lent *lent, const uint8_t *graph, size_t graph_len,
+                 const uint8_t *rule, size_t rule_len, const uint8_t *map) {
+    memset(lent, UNTOUCHED, sizeof *lent);
+    memcpy(lent->graph, graph, graph_len);
+    memcpy(lent->rule, rule, rule_len);
+    memcpy(lent->map, map, MAP_LENGTH);
+    lent->graph_len = graph_len;
+    lent->rule_len = rule_len;
+    lent->map_len = MAP_LENGTH;
+}
+
+/* Asks whether the image of a vertex is read elsewhere. Whatever is said, no byte may
+ * change. */
+static int asked_differs(const char *what, const struct lent *lent, size_t vertex,
+                         unsigned number, uint32_t place, uint32_t value) {
+    struct lent after;
+    int count;
+    memcpy(&after, lent, sizeof after);
+    count = reply_differs(what, lg_is_read_elsewhere(after.graph, after.graph_len, after.rule,
+                                                     after.rule_len, after.map, after.map_len,
+                                                     vertex), number, place, value);
+    if (memcmp(&after, lent, sizeof after) != 0) {
+        printf("%s: a question changed lent bytes\n", what);
+        count++;
+    }
+    return count;
+}
+
+static int count_asked_differences(void) {
+    uint8_t graph[TABLE_LENGTH], map[MAP_LENGTH];
+    struct lent lent;
+    size_t call;
+    int count = 0;
+    for (call = 0; call < sizeof read_calls / sizeof read_calls[0]; call++) {
+        const struct read_call *asked = &read_calls[call];
+        put_table(graph, &asked->table);
+        put_images(map, asked);
+        lend(&lent, graph, sizeof graph, asked->rule, asked->rule_len, map);
+        count += asked_differs(asked->what, &lent, asked->vertex, asked->number, 0,
+                               asked->value);
+    }
+    return count;
+}
+
+/* One place of a map changed, to whatever it may be: 65535 past the last source vertex and
+ * the match's own number before are all that is taken. */
+static int count_changed_map_differences(void) {
+    uint8_t graph[TABLE_LENGTH], map[MAP_LENGTH];
+    struct lent lent;
+    size_t place, other;
+    int count = 0;
+    put_table(graph, &changed_call->table);
+    put_images(map, changed_call);
+    for (place = 0; place < MAP_PLACES; place++) {
+        const unsigned right = map[2 * place] + 256U * map[2 * place + 1];
+        for (other = 0; other < sizeof other_images / sizeof other_images[0]; other++) {
+            const int same = other_images[other] == right;
+            lend(&lent, graph, sizeof graph, changed_call->rule, changed_call->rule_len, map);
+            put_image(lent.map, place, other_images[other]);
+            count += asked_differs("a changed map", &lent, changed_call->vertex,
+                                   same ? LG_DONE : LG_NOT_A_MATCH, 0,
+                                   same ? changed_call->value : 0);
+        }
+    }
+    return count;
+}
+
+/* A rule that wants a Const of this number. The graph's has 7. */
+static int wanted_const_differs(uint8_t wanted, unsigned number, uint32_t value) {
+    uint8_t graph[TABLE_LENGTH], map[MAP_LENGTH];
+    struct lent lent;
+    put_table(graph, &changed_call->table);
+    put_images(map, changed_call);
+    lend(&lent, graph, sizeof graph, sum_rule, sizeof sum_rule, map);
+    lent.rule[96] = 1; /* its only node: a constant */
+    lent.rule[100] = wanted;
+    return asked_differs("a wanted Const", &lent, 2, number, 0, value);
+}
+
+/* P1's match, and each refusal before those that follow. */
+static int count_asked_of_p1_differences(void) {
+    struct lent lent;
+    size_t length;
+    int count = wanted_const_differs(7, LG_DONE, YES)
+                + wanted_const_differs(8, LG_NOT_A_MATCH, 0);
+    lend(&lent, e1_block, sizeof e1, two_relus, sizeof two_relus, p1_map);
+    count += asked_differs("P1, interior", &lent, 1, LG_DONE, 0, NO);
+    count += asked_differs("P1, output", &lent, 2, LG_DONE, 0, YES);
+    count += asked_differs("P1, rule input", &lent, 0, LG_NO_SUCH_VERTEX, 0, 0);
+    count += asked_differs("P1, no vertex", &lent, 3, LG_NO_SUCH_VERTEX, 0, 0);
+    count += asked_differs("P1, last number", &lent, SIZE_MAX, LG_NO_SUCH_VERTEX, 0, 0);
+    put_image(lent.map, 0, 1);
+    count += asked_differs("no match of P1", &lent, 0, LG_NOT_A_MATCH, 0, 0);
+    lent.rule_len--;
+    count += asked_differs("asking, short rule", &lent, 0, LG_BAD_RULE_HEADER, 0, 0);
+    put_count(lent.graph, 1, 2);
+    count += asked_differs("asking, wrong count", &lent, 0, LG_BAD_GRAPH_COUNT, 1, 0);
+    lent.graph_len--;
+    count += asked_differs("asking, short graph", &lent, 0, LG_BAD_GRAPH_HEADER, 0, 0);
+    for (length = 0; length < sizeof bad_map_lengths / sizeof bad_map_lengths[0]; length++) {
+        lent.map_len = bad_map_lengths[length];
+        count += asked_differs("asking, bad map length", &lent, 0, LG_BAD_MAP_LENGTH, 0, 0);
+    }
+    return count;
+}
+
 /* The map on done; else it must not be touched. */
 static void put_constants_map(uint8_t *map, unsigned reply) {
     memset(map, reply == LG_DONE ? 255 : UNTOUCHED, MAP_LENGTH);
@@ -215,11 +336,12 @@ static void put_constants_map(uint8_t *map, unsigned reply) {
     }
 }
 
-/* Finds the match of a call with a Const, and rewrites there. A rewriting that
- * has no room has a match all the same. */
+/* Finds the match of a call with a Const, asks about its output, which is a graph output in
+ * all of them, and rewrites there. A rewriting that has no room has a match all the same. */
 static int constants_differ(const struct constants_call *call) {
     uint8_t graph[TABLE_LENGTH], after[TABLE_LENGTH];
     uint8_t map[MAP_LENGTH], map_after[MAP_LENGTH];
+    struct lent lent;
     const unsigned found = call->reply == LG_NO_MATCH ? LG_NO_MATCH : LG_DONE;
     int count, same;
     put_table(graph, &call->before);
@@ -229,6 +351,9 @@ static int constants_differ(const struct constants_call *call) {
                                               0, map, sizeof map), found);
     put_constants_map(map_after, found);
     same = memcmp(map, map_after, sizeof map) == 0;
+    lend(&lent, graph, sizeof graph, call->rule, call->rule_len, map);
+    count += asked_differs(call->what, &lent, 2, found == LG_DONE ? LG_DONE : LG_NOT_A_MATCH, 0,
+                           found == LG_DONE ? YES : 0);
     memset(map, UNTOUCHED, sizeof map);
     count += differs(call->what, lg_rewrite(graph, sizeof graph, call->rule, call->rule_len,
                                             0, map, sizeof map), call->reply);
@@ -250,12 +375,13 @@ static int count_constants_differences(void) {
     return count;
 }
 
-/* A bad graph and a good rule, or the other way round: a search and a rewriting refuse
- * them as the check did, and keep every byte. */
+/* A bad graph and a good rule, or the other way round: a search, a rewriting and a question
+ * refuse them as the check did, and keep every byte. */
 static int calls_differ(const char *what, const uint8_t *graph, size_t graph_len,
                         const uint8_t *rule, size_t rule_len, unsigned number,
                         uint32_t place) {
     uint8_t lent[TABLE_LENGTH], map[MAP_LENGTH], untouched[MAP_LENGTH];
+    struct lent asked;
     int count;
     memcpy(lent, graph, graph_len);
     memset(map, UNTOUCHED, sizeof map);
@@ -268,7 +394,8 @@ static int calls_differ(const char *what, const uint8_t *graph, size_t graph_len
         printf("%s: lent bytes are not what they should be\n", what);
         count++;
     }
-    return count;
+    lend(&asked, graph, graph_len, rule, rule_len, untouched);
+    return count + asked_differs(what, &asked, SIZE_MAX, number, place, 0);
 }
 
 /* A sweep of a graph of SLOTS slots, which is refused or leaves `after`. What is past
@@ -444,6 +571,7 @@ static int count_helper_differences(void) {
     const uint64_t rest = ((uint64_t)0xabcdef << 40) | ((uint64_t)0x89abcdef << 8);
     return (lg_reply_number(rest | 0x17) == 0x17 ? 0 : 1)
            + (lg_reply_place(rest | 0x17) == 0x89abcdef ? 0 : 1)
+           + (lg_reply_value(rest | 0x17) == 0xabcdef ? 0 : 1)
            + (lg_is_bad_graph(rest | 20) && lg_is_bad_graph(rest | 29) ? 0 : 1)
            + (!lg_is_bad_graph(rest | 19) && !lg_is_bad_graph(rest | 30) ? 0 : 1)
            + (lg_is_bad_rule(rest | 30) && lg_is_bad_rule(rest | 39) ? 0 : 1)

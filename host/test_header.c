@@ -6,6 +6,8 @@
 
 int main(void) {
     int count = count_differences() + count_find_differences()
+                + count_asked_differences() + count_changed_map_differences()
+                + count_asked_of_p1_differences()
                 + count_rewrite_differences() + count_constants_differences()
                 + count_sweep_differences() + count_squeeze_differences()
                 + count_import_differences() + count_fault_differences()

@@ -17,6 +17,7 @@ static_assert(LG_BAD_RULE_HEADER == 30 && LG_BAD_RULE_RECORD == 31 && LG_BAD_RUL
                   && LG_BAD_RULE_OUTPUTS == 33 && LG_BAD_RULE_EXPRESSION == 34,
               "numbers for a bad rule");
 static_assert(LG_BAD_MOVES_LENGTH == 40 && LG_NO_SLOT == 65535, "numbers for a list of moves");
+static_assert(LG_NOT_A_MATCH == 41 && LG_NO_SUCH_VERTEX == 42, "numbers for a question");
 
 // A block in memory of another kind and at an odd address.
 static std::vector<uint8_t> shifted(const uint8_t *block, size_t length) {
@@ -40,6 +41,16 @@ static int count_shifted_find_differences() {
                                          map.data() + 1, map.size() - 1);
     return differs("shifted match", reply, LG_DONE)
            + (map == shifted(p1_map, sizeof p1_map) ? 0 : 1);
+}
+
+static int count_shifted_asked_differences() {
+    const std::vector<uint8_t> graph = shifted(e1_block, sizeof e1);
+    const std::vector<uint8_t> rule = shifted(two_relus, sizeof two_relus);
+    const std::vector<uint8_t> map = shifted(p1_map, sizeof p1_map);
+    const uint64_t reply = lg_is_read_elsewhere(graph.data() + 1, graph.size() - 1,
+                                                rule.data() + 1, rule.size() - 1,
+                                                map.data() + 1, map.size() - 1, 2);
+    return reply_differs("shifted question", reply, LG_DONE, 0, YES);
 }
 
 static int count_shifted_rewrite_differences() {
@@ -83,11 +94,14 @@ static int count_shifted_import_differences() {
 
 int main() {
     const int count = count_differences() + count_find_differences()
+                      + count_asked_differences() + count_changed_map_differences()
+                      + count_asked_of_p1_differences()
                       + count_rewrite_differences() + count_constants_differences()
                       + count_sweep_differences() + count_squeeze_differences()
                       + count_import_differences() + count_fault_differences()
                       + count_helper_differences()
                       + count_shifted_differences() + count_shifted_find_differences()
+                      + count_shifted_asked_differences()
                       + count_shifted_rewrite_differences()
                       + count_shifted_squeeze_differences()
                       + count_shifted_import_differences();

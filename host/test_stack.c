@@ -31,6 +31,8 @@ static uint8_t rewritten[sizeof graph];
 static uint8_t moves[2 * SLOTS];
 static uint8_t rule[16 + 16 * (SIDE + SIDE) + 8 * NODES];
 static uint8_t pair_rule[sizeof rule];
+static uint8_t match[LG_MAP_LENGTH];
+static uint8_t pair_match[sizeof match];
 
 /* Kind, operator and counts, and these input numbers, the last one in the last
  * place. */
@@ -125,6 +127,21 @@ static void *find_pair(void *reply) {
     uint8_t map[32];
     *(uint64_t *)reply = lg_find_match(graph, sizeof graph, pair_rule, sizeof pair_rule, 0,
                                        map, sizeof map);
+    return NULL;
+}
+
+/* Both ask about the last vertex between inputs and outputs, and only the match reads it:
+ * the reply is done with the value 0. The matches are found outside the calls that are
+ * measured (show_questions). */
+static void *ask(void *reply) {
+    *(uint64_t *)reply = lg_is_read_elsewhere(graph, sizeof graph, rule, sizeof rule,
+                                              match, sizeof match, SIDE - 2);
+    return NULL;
+}
+
+static void *ask_pair(void *reply) {
+    *(uint64_t *)reply = lg_is_read_elsewhere(graph, sizeof graph, pair_rule, sizeof pair_rule,
+                                              pair_match, sizeof pair_match, SIDE - 2);
     return NULL;
 }
 
@@ -224,6 +241,18 @@ static int show(const char *what, void *(*call)(void *), size_t promised) {
     return judged(what, used_by(call, LG_DONE), promised);
 }
 
+/* The same of questions about both rules' matches. Not finding one is not the reply that was
+ * expected, either. */
+static int show_questions(void) {
+    const uint64_t found = lg_find_match(graph, sizeof graph, rule, sizeof rule, 0,
+                                         match, sizeof match)
+                           | lg_find_match(graph, sizeof graph, pair_rule, sizeof pair_rule, 0,
+                                           pair_match, sizeof pair_match);
+    return (found == LG_DONE ? 0 : 1)
+           + show("asking whether a slot is read elsewhere", ask, PROMISED)
+           + show("asking with two outputs", ask_pair, PROMISED);
+}
+
 /* The same of a sweep in which the chain of all Tuples stays, and of one in which it goes:
  * then the output is the Variable at its end. */
 static int show_sweeps(void) {
@@ -261,12 +290,14 @@ int main(void) {
     wrong += show("checking a rule", check_rule, PROMISED);
     wrong += show("finding a match", find_match, PROMISED);
     wrong += show("finding a match with two outputs", find_pair, PROMISED);
+    wrong += show_questions();
     wrong += show("rewriting", rewrite, PROMISED_REWRITING);
     wrong += show("rewriting with two outputs", rewrite_pair, PROMISED_REWRITING);
     wrong += show_sweeps();
     wrong += show("squeezing", squeeze, PROMISED);
     wrong += show_cycles("checking a graph with a cycle", check_graph, PROMISED);
     wrong += show_cycles("finding a match in one", find_match, PROMISED);
+    wrong += show_cycles("asking about a slot of one", ask, PROMISED);
     wrong += show_cycles("rewriting one", rewrite, PROMISED_REWRITING);
     wrong += show_cycles("sweeping one", sweep, PROMISED);
     wrong += show_cycles("squeezing one", squeeze, PROMISED);

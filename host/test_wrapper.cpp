@@ -7,6 +7,7 @@
 #include "blocks.hpp"
 #include "faults.h"
 #include "imports.h"
+#include "read_elsewhere.h"
 #include "shared_constants.h"
 #include "sweep_squeeze.h"
 
@@ -26,6 +27,7 @@ using blocks::Block;
 using blocks::Node;
 using blocks::Pattern;
 using blocks::Vertex;
+using leafgraph::Answer;
 using leafgraph::Bytes;
 using leafgraph::Code;
 using leafgraph::Map;
@@ -200,6 +202,111 @@ Block block_of(const table &table) {
     return block;
 }
 
+// A block with a fault, of version 2, or of version 1 for an import.
+Block block_with(const graph_fault &fault) {
+    Block graph(TABLE_LENGTH);
+    put_graph_fault(graph.data(), &fault);
+    return graph;
+}
+
+Block block_with(const rule_fault &fault) {
+    Block rule(fault.rule_len);
+    put_rule_fault(rule.data(), &fault);
+    return rule;
+}
+
+Block version_1_with(const graph_fault &fault) {
+    Block graph(TABLE_LENGTH);
+    put_import_fault(graph.data(), &fault);
+    return graph;
+}
+
+// Those of every version, and those of version 2.
+std::vector<graph_fault> all_graph_faults() {
+    std::vector<graph_fault> faults(std::begin(graph_faults), std::end(graph_faults));
+    faults.insert(faults.end(), std::begin(count_faults), std::end(count_faults));
+    return faults;
+}
+
+// Those of every version, and those of an import.
+std::vector<graph_fault> all_import_faults() {
+    std::vector<graph_fault> faults(std::begin(graph_faults), std::end(graph_faults));
+    faults.insert(faults.end(), std::begin(import_faults), std::end(import_faults));
+    return faults;
+}
+
+// The map of a call.
+Block map_of(const read_call &call) {
+    Block map(LG_MAP_LENGTH);
+    put_images(map.data(), &call);
+    return map;
+}
+
+// An answer is yes, no or neither: a refusal is no answer.
+void expect_answer(Answer answer, unsigned number, std::uint32_t value, const char *what) {
+    expect(answer.reply.number() == number && answer.reply.place() == 0, what);
+    expect(answer.reply.value() == value && answer.done() == (number == LG_DONE), what);
+    expect(answer.yes() == (number == LG_DONE && value == YES), what);
+    expect(answer.no() == (number == LG_DONE && value == NO), what);
+}
+
+// A question that this header, or the library, refuses with this code.
+void expect_no_answer(Answer answer, Code code, const char *what) {
+    expect_answer(answer, static_cast<unsigned>(code), 0, what);
+}
+
+void test_read_elsewhere() {
+    for (const read_call &call : read_calls) {
+        const Block graph = block_of(call.table), map = map_of(call);
+        const Bytes rule(call.rule, call.rule_len);
+        expect_answer(leafgraph::is_read_elsewhere(graph, rule, map, call.vertex), call.number,
+                      call.value, call.what);
+        expect(graph == block_of(call.table) && map == map_of(call), "a question changes nothing");
+    }
+    static_assert(Answer{Reply(std::uint64_t{1} << 40)}.yes());
+    static_assert(Answer{Reply(std::uint64_t{0})}.no());
+    static_assert(!Answer{Reply(Code::not_a_match)}.no() && !Answer{Reply(Code::overlap)}.no());
+    static_assert(!Answer{Reply((std::uint64_t{1} << 40) + 42)}.yes(), "whatever is beside it");
+    static_assert(!std::is_constructible_v<bool, Answer>, "is that done, or yes?");
+}
+
+// A map that a search has written, and one that it has not.
+void test_read_elsewhere_with_a_map() {
+    const Block graph = two_relus_graph(), rule = two_relus_rule();
+    Map map;
+    expect_no_answer(leafgraph::is_read_elsewhere(graph, rule, map, 1), Code::not_a_match,
+                     "a new map is no match");
+    expect(leafgraph::find_match(graph, rule, 0, map).done(), "a match is found");
+    expect(leafgraph::is_read_elsewhere(graph, rule, map, 1).no(), "only the match reads it");
+    expect(leafgraph::is_read_elsewhere(graph, rule, map, 2).yes(), "it is a graph output");
+    expect_no_answer(leafgraph::is_read_elsewhere(graph, rule, map, 0), Code::no_such_vertex,
+                     "a rule input");
+    expect_no_answer(leafgraph::is_read_elsewhere(one_relu_graph(), rule, map, 1),
+                     Code::not_a_match, "a match of another graph");
+}
+
+// Each refusal before those that follow: here is no match, and no vertex of that number.
+void test_read_elsewhere_refusals() {
+    const Block graph = two_relus_graph(), rule = two_relus_rule(), map(LG_MAP_LENGTH);
+    for (const graph_fault &fault : all_graph_faults()) {
+        const Block bad = block_with(fault);
+        const Answer answer = leafgraph::is_read_elsewhere(bad, rule, map, SIZE_MAX);
+        expect(answer.reply == leafgraph::check_graph(bad), fault.what);
+        expect(answer.reply.bad_graph() && !answer.yes() && !answer.no(), fault.what);
+    }
+    for (const rule_fault &fault : rule_faults) {
+        const Block bad = block_with(fault);
+        const Answer answer = leafgraph::is_read_elsewhere(graph, bad, map, SIZE_MAX);
+        expect(answer.reply == leafgraph::check_rule(bad), fault.what);
+        expect(answer.reply.bad_rule() && !answer.yes() && !answer.no(), fault.what);
+    }
+    for (const std::size_t length : bad_map_lengths) {
+        const Block bad(length);
+        expect_no_answer(leafgraph::is_read_elsewhere(Block(1), Block(1), bad, SIZE_MAX),
+                         Code::bad_map_length, "a map of another length");
+    }
+}
+
 void test_sweep() {
     for (const sweep_call &call : sweep_calls) {
         Block graph = block_of(call.before);
@@ -245,33 +352,6 @@ void expect_refused_squeeze(const Block &graph, std::size_t length, Reply expect
     expect(reply == expected && !reply.done(), what);
     expect(lent == graph && list == Block(length, 0xaa), what);
     expect(moves.size() == 0 && moves[0] == Moves::no_slot, what);
-}
-
-// A block with a fault, of version 2, or of version 1 for an import.
-Block block_with(const graph_fault &fault) {
-    Block graph(TABLE_LENGTH);
-    put_graph_fault(graph.data(), &fault);
-    return graph;
-}
-
-Block version_1_with(const graph_fault &fault) {
-    Block graph(TABLE_LENGTH);
-    put_import_fault(graph.data(), &fault);
-    return graph;
-}
-
-// Those of every version, and those of version 2.
-std::vector<graph_fault> all_graph_faults() {
-    std::vector<graph_fault> faults(std::begin(graph_faults), std::end(graph_faults));
-    faults.insert(faults.end(), std::begin(count_faults), std::end(count_faults));
-    return faults;
-}
-
-// Those of every version, and those of an import.
-std::vector<graph_fault> all_import_faults() {
-    std::vector<graph_fault> faults(std::begin(graph_faults), std::end(graph_faults));
-    faults.insert(faults.end(), std::begin(import_faults), std::end(import_faults));
-    return faults;
 }
 
 void test_sweep_and_squeeze_refusals() {
@@ -376,6 +456,8 @@ void test_kinds_of_buffer() {
     make_version_1(table.data());
     expect(leafgraph::wants_import(table) && leafgraph::import_graph(table).done(), "std::array");
     expect(leafgraph::stored_count(table, 1) == 1, "the count of an array's slot");
+    expect(leafgraph::is_read_elsewhere(graph, text, array, 2).yes(), "vector, string, array");
+    expect(leafgraph::is_read_elsewhere(graph, rule_bytes, map, 1).no(), "arrays of std::byte");
 #if __cplusplus > 201703L
     Block copy = graph;
     expect(leafgraph::rewrite(std::span(copy), std::span<const std::uint8_t>(rule), 0,
@@ -385,6 +467,8 @@ void test_kinds_of_buffer() {
     expect(leafgraph::squeeze(std::span(copy), std::span(list)).done(), "squeezed spans");
     make_version_1(copy.data());
     expect(leafgraph::import_graph(std::span(copy)).done(), "an imported span");
+    expect(leafgraph::is_read_elsewhere(std::span(graph), std::span(rule), std::span(map), 2).yes(),
+           "spans to ask about");
 #endif
 }
 
@@ -409,6 +493,12 @@ void test_empty_buffers() {
     expect(leafgraph::moves_length({nullptr, 0}) == 0, "no graph has no slots");
     expect(leafgraph::import_graph({nullptr, 0}).bad_graph(), "a null graph to import");
     expect(!leafgraph::wants_import({nullptr, 0}), "no graph wants no import");
+    expect_no_answer(leafgraph::is_read_elsewhere({nullptr, 0}, {nullptr, 0}, map, 0),
+                     Code::bad_graph_header, "a null graph to ask about");
+    expect_no_answer(leafgraph::is_read_elsewhere(graph, {nullptr, 0}, map, 0),
+                     Code::bad_rule_header, "a null rule");
+    expect_no_answer(leafgraph::is_read_elsewhere(graph, rule, {nullptr, 0}, 0),
+                     Code::bad_map_length, "a null map to ask about");
 }
 
 void test_null_with_a_length() {
@@ -432,10 +522,13 @@ void test_null_with_a_length() {
     expect(leafgraph::import_graph(writable_null).code() == Code::null_buffer, "to import");
     expect(!leafgraph::wants_import(null), "a null graph wants no import");
     expect(leafgraph::stored_count(null, 0) == 0, "nor does it have a count");
+    expect_no_answer(leafgraph::is_read_elsewhere(null, rule, map, 1), Code::null_buffer, "graph");
+    expect_no_answer(leafgraph::is_read_elsewhere(graph, null, map, 1), Code::null_buffer, "rule");
+    expect_no_answer(leafgraph::is_read_elsewhere(graph, rule, null, 1), Code::null_buffer, "map");
     expect(graph == before, "the graph is as it came");
 }
 
-// Both calls with parts of one block: graph, rule and map at these offsets.
+// All three calls with parts of one block: graph, rule and map at these offsets.
 void expect_overlap(std::size_t graph_at, std::size_t rule_at, std::size_t map_at, bool overlap) {
     const Block graph = two_relus_graph(), rule = two_relus_rule();
     Block all(400, 0xaa);
@@ -448,6 +541,11 @@ void expect_overlap(std::size_t graph_at, std::size_t rule_at, std::size_t map_a
                                               {at(rule_at), rule.size()}, 0, {at(map_at), 32});
     expect((found.code() == Code::overlap) == overlap, "overlap in a search");
     expect(overlap ? all == before : found.done(), "nothing was touched, or it is found");
+    const Answer answer = leafgraph::is_read_elsewhere({at(graph_at), graph.size()},
+                                                       {at(rule_at), rule.size()},
+                                                       {at(map_at), 32}, 2);
+    expect((answer.reply.code() == Code::overlap) == overlap, "overlap in a question");
+    expect(answer.yes() == !overlap && !answer.no(), "the output is read elsewhere, or no answer");
     const Reply reply = leafgraph::rewrite({at(graph_at), graph.size()},
                                            {at(rule_at), rule.size()}, 0, {at(map_at), 32});
     expect((reply.code() == Code::overlap) == overlap, "overlap in a rewriting");
@@ -501,12 +599,12 @@ void test_words() {
           Code::bad_graph_name, Code::graph_has_cycle, Code::bad_graph_count,
           Code::bad_rule_header, Code::bad_rule_record, Code::bad_rule_order,
           Code::bad_rule_outputs, Code::bad_rule_expression, Code::bad_moves_length,
-          Code::no_match, Code::no_result, Code::no_room, Code::cycle, Code::overlap,
-          Code::null_buffer}) {
+          Code::not_a_match, Code::no_such_vertex, Code::no_match, Code::no_result,
+          Code::no_room, Code::cycle, Code::overlap, Code::null_buffer}) {
         texts.insert(leafgraph::what(code));
         expect(Reply(code).what() == std::string_view(leafgraph::what(code)), "the reply's words");
     }
-    expect(texts.size() == 19, "each code has words of its own");
+    expect(texts.size() == 21, "each code has words of its own");
     expect(texts.count(leafgraph::what(static_cast<Code>(200))) == 0, "an unknown number too");
     texts.clear();
     for (const PlaceKind kind : {PlaceKind::none, PlaceKind::slot, PlaceKind::output,
@@ -536,6 +634,8 @@ void test_numbers_of_faults() {
     static_assert(Reply(Code::bad_rule_header).number() == 30);
     static_assert(Reply(Code::bad_rule_expression).number() == 34);
     static_assert(Reply(Code::bad_moves_length).number() == 40);
+    static_assert(Reply(Code::not_a_match).number() == 41);
+    static_assert(Reply(Code::no_such_vertex).number() == 42);
     static_assert(!Reply(Code::bad_moves_length).bad_graph());
     static_assert(Reply(std::uint64_t{29}).bad_graph() && !Reply(std::uint64_t{19}).bad_graph(),
                   "a later kind of fault is a bad graph, too");
@@ -570,8 +670,7 @@ void test_places() {
         expect_place(fault, leafgraph::import_graph(graph), graph);
     }
     for (const rule_fault &fault : rule_faults) {
-        Block rule(fault.rule_len);
-        put_rule_fault(rule.data(), &fault);
+        const Block rule = block_with(fault);
         const Reply reply = leafgraph::check_rule(rule);
         expect(reply.bad_rule() && !reply.bad_graph(), fault.what);
         expect_place(fault, reply, rule);
@@ -606,9 +705,12 @@ void test_packed_replies() {
     constexpr std::uint64_t number = 0xffffff1234567804;
     constexpr Reply packed(number);
     static_assert(packed.code() == Code::no_match && packed.place() == 0x12345678);
+    static_assert(packed.value() == 0xffffff && Reply(Code::no_match).value() == 0);
     expect(packed.number() == lg_reply_number(number), "the number as the C header reads it");
     expect(packed.place() == lg_reply_place(number), "the place as the C header reads it");
+    expect(packed.value() == lg_reply_value(number), "the value as the C header reads it");
     static_assert(packed != Reply(Code::no_match) && Reply(Code::done) == Reply(std::uint64_t{0}));
+    static_assert(Reply(std::uint64_t{1} << 40) != Reply(Code::done), "the value counts, too");
     static_assert(std::is_convertible_v<WritableBytes, Bytes>);
     static_assert(!std::is_convertible_v<Bytes, WritableBytes>);
     static_assert(!std::is_convertible_v<const Block &, WritableBytes>);
@@ -616,6 +718,7 @@ void test_packed_replies() {
     static_assert(!std::is_convertible_v<std::vector<int>, Bytes>);
     static_assert(!std::is_convertible_v<Reply, bool>, "only where a condition is asked");
     static_assert(noexcept(leafgraph::rewrite(WritableBytes(), Bytes(), 0, WritableBytes())));
+    static_assert(noexcept(leafgraph::is_read_elsewhere(Bytes(), Bytes(), Map(), 0).yes()));
     static_assert(noexcept(leafgraph::sweep(WritableBytes())));
     static_assert(noexcept(leafgraph::import_graph(WritableBytes())));
     static_assert(noexcept(leafgraph::wants_import(Bytes())));
@@ -633,7 +736,8 @@ bool tidied() {
            && leafgraph::squeeze(graph, list).done() && graph == block_of(call.after);
 }
 
-// One rule lent to all, and a graph, a map and a list for each thread.
+// One rule, and a graph that is only read, lent to all; and a graph, a map and a list for each
+// thread.
 void test_threads() {
     const Block rule = two_relus_rule(), before = two_relus_graph(), after = one_relu_graph();
     std::array<int, 4> wrong = {};
@@ -644,7 +748,8 @@ void test_threads() {
                 Block graph = before;
                 Map map;
                 const bool done = leafgraph::rewrite(graph, rule, 0, map).done();
-                count += done && graph == after && tidied() ? 0 : 1;
+                const bool asked = leafgraph::is_read_elsewhere(before, rule, map, 1).no();
+                count += done && asked && graph == after && tidied() ? 0 : 1;
             }
         });
     }
@@ -661,6 +766,9 @@ int main() {
     test_search_and_checks();
     test_result_of_rewriting();
     test_constants();
+    test_read_elsewhere();
+    test_read_elsewhere_with_a_map();
+    test_read_elsewhere_refusals();
     test_sweep();
     test_squeeze();
     test_sweep_and_squeeze_refusals();
