@@ -5,33 +5,18 @@
 // place, and none for a fault that the library would have given before it: neither of an
 // earlier kind nor in a lower place.
 
-#include <cstdio>
-#include <exception>
-#include <fstream>
-#include <iterator>
-#include <map>
 #include <random>
 #include <string>
 #include <vector>
 
+#include "expectations.hpp"
 #include "graph_fault.hpp"
 #include "rule_fault.hpp"
 
 namespace leafgraph::tool {
 namespace {
 
-using Block = std::vector<std::uint8_t>;
-
 constexpr int times_each = 20000;
-
-int failures = 0;
-std::map<std::string, int> seen; // replies, by number and kind of place
-
-void expect(bool holds, const std::string &what) {
-    if (!holds && ++failures <= 10) {
-        std::printf("does not hold: %s\n", what.c_str());
-    }
-}
 
 Reply reply_of(Code code, std::size_t place) {
     return Reply(static_cast<std::uint64_t>(code) | std::uint64_t{place} << 8);
@@ -74,7 +59,7 @@ void expect_agreement(Say say, const std::vector<Code> &kinds, std::size_t place
 }
 
 void note(Reply reply, PlaceKind kind, const std::string &call = "") {
-    seen[call + std::to_string(reply.number()) + " " + what(kind)]++;
+    seen["reply " + call + std::to_string(reply.number()) + " " + what(kind)]++;
 }
 
 // A graph of which the library said this, where it wanted this version.
@@ -144,11 +129,6 @@ Block damaged(const Block &sound, std::mt19937 &random) {
     return block;
 }
 
-Block read_file(const char *name) {
-    std::ifstream file(name, std::ios::binary);
-    return Block(std::istreambuf_iterator<char>(file), {});
-}
-
 void try_file(const char *name) {
     std::mt19937 random(2);
     const Block sound = read_file(name);
@@ -166,39 +146,24 @@ void try_file(const char *name) {
     }
 }
 
-// Every number, and both kinds of place of the two that have two.
-void expect_all_seen() {
-    for (const char *reply : {"20 no place", "21 slot", "22 slot", "22 output", "23 slot",
-                              "24 slot", "import 20 no place", "import 21 slot",
-                              "import 22 slot", "import 22 output", "import 23 slot",
-                              "30 no place", "31 source vertex", "31 target vertex",
-                              "32 source vertex", "33 no place", "34 node", "34 source vertex",
-                              "34 target vertex"}) {
-        expect(seen[reply] > 0, std::string("seen: ") + reply);
-    }
-}
-
 } // namespace
 
-int run(int count, char **files) {
+// Every number must be seen, and both kinds of place of the two that have two.
+void try_files(int count, char **files) {
     for (int file = 1; file < count; ++file) {
         try_file(files[file]);
     }
-    expect_all_seen();
-    for (const auto &[reply, times] : seen) {
-        std::printf("faults: reply %s, %d times\n", reply.c_str(), times);
-    }
-    std::printf("faults: %d failed\n", failures);
-    return failures == 0 ? 0 : 1;
+    expect_seen({"reply 20 no place", "reply 21 slot", "reply 22 slot", "reply 22 output",
+                 "reply 23 slot", "reply 24 slot", "reply import 20 no place",
+                 "reply import 21 slot", "reply import 22 slot", "reply import 22 output",
+                 "reply import 23 slot", "reply 30 no place", "reply 31 source vertex",
+                 "reply 31 target vertex", "reply 32 source vertex", "reply 33 no place",
+                 "reply 34 node", "reply 34 source vertex", "reply 34 target vertex"});
 }
 
 } // namespace leafgraph::tool
 
 int main(int count, char **files) {
-    try {
-        return leafgraph::tool::run(count, files);
-    } catch (const std::exception &error) {
-        std::printf("faults: %s\n", error.what());
-        return 1;
-    }
+    using namespace leafgraph::tool;
+    return run_test("faults", [&] { try_files(count, files); });
 }
