@@ -1,5 +1,5 @@
-# The command-line tool leafgraph, the sessions that it is tested with, and a test of what
-# it says of refused blocks.
+# The command-line tool leafgraph, the sessions that it is tested with, and tests of what
+# it says of refused blocks and of what reads a matched slot.
 
 TOOL := build/leafgraph
 TOOL_SOURCES := $(wildcard tool/*.cpp)
@@ -9,17 +9,19 @@ TOOL_OBJECTS := $(TOOL_SOURCES:tool/%.cpp=build/tool/%.o)
 
 tool: $(TOOL)
 
-tool-tests: $(TOOL) build/test_faults
+tool-tests: $(TOOL) build/test_faults build/test_readers
 	$(PYTHON) -B tool/tests/run_sessions.py --tool $(TOOL)
 	build/test_faults examples/blocks/*.lgt examples/blocks/*.lgr
+	build/test_readers examples/blocks/e1.lgt examples/blocks/leaf_pipeline.lgt examples/blocks/*.lgr
 
 $(TOOL): $(TOOL_OBJECTS) $(ARCHIVE)
 	$(CXX) $(CXXFLAGS) -o $@ $^
 
 # All of the tool but its main.
-build/test_faults: tool/tests/test_faults.cpp $(filter-out build/tool/main.o,$(TOOL_OBJECTS)) \
-		$(ARCHIVE) $(wildcard tool/*.hpp) $(HEADERS)
-	$(CXX) -std=c++17 $(CXX_WARNINGS) $(CXXFLAGS) -Iinclude -Itool -o $@ $(filter-out %.hpp %.h,$^)
+build/test_faults build/test_readers: build/%: tool/tests/%.cpp \
+		$(filter-out build/tool/main.o,$(TOOL_OBJECTS)) $(ARCHIVE) \
+		$(wildcard tool/*.hpp tool/tests/*.hpp) host/counts.h $(HEADERS)
+	$(CXX) -std=c++17 $(CXX_WARNINGS) $(CXXFLAGS) -Iinclude -Itool -I. -o $@ $(filter-out %.hpp %.h,$^)
 
 # The compiler notes which headers each object was made from (-MMD), so that it
 # is made anew when one of them changes.

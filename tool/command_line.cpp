@@ -17,12 +17,14 @@ struct CommandForm {
     std::vector<std::string> files; // their names in messages
     std::size_t least_files;
     std::vector<std::string> options;
+    bool takes_vertex = false; // its number stands after the files
 };
 
 const std::vector<CommandForm> command_forms = {
     {"check", Command::check, {"GRAPH"}, 1, {}},
     {"check-rule", Command::check_rule, {"RULE"}, 1, {}},
     {"match", Command::match, {"GRAPH", "RULE"}, 2, {"--start"}},
+    {"read-elsewhere", Command::read_elsewhere, {"GRAPH", "RULE"}, 2, {"--start"}, true},
     {"rewrite", Command::rewrite, {"GRAPH", "RULE"}, 2,
      {"--start", "-o", "--all", "--max", "--sweep", "--squeeze", "--moves", "--numbers",
       "--counts"}},
@@ -46,6 +48,7 @@ struct SortedWords {
     const CommandForm &form;
     std::vector<std::string> files;
     std::map<std::string, std::string> options; // with their values
+    std::optional<std::string> vertex;
 
     bool has(const std::string &option) const { return options.count(option) != 0; }
 
@@ -114,13 +117,23 @@ std::size_t take_option(const std::vector<std::string> &words, std::size_t at,
     return at + 1;
 }
 
+// Takes a word that is no option.
+void take_operand(const std::string &word, SortedWords &sorted) {
+    const bool all_files = sorted.files.size() == sorted.form.files.size();
+    if (sorted.form.takes_vertex && all_files && !sorted.vertex) {
+        sorted.vertex = word;
+    } else {
+        sorted.files.push_back(word);
+    }
+}
+
 SortedWords sort_words(const std::vector<std::string> &words) {
-    SortedWords sorted = {form_of(words[0]), {}, {}};
+    SortedWords sorted = {form_of(words[0]), {}, {}, {}};
     bool only_files = false;
     for (std::size_t at = 1; at < words.size(); ++at) {
         const std::string &word = words[at];
         if (only_files || word == "-" || word.compare(0, 1, "-") != 0) {
-            sorted.files.push_back(word);
+            take_operand(word, sorted);
         } else if (word == "--") {
             only_files = true;
         } else {
@@ -136,8 +149,12 @@ void check_files(const SortedWords &sorted) {
     if (files.size() < form.least_files) {
         throw sorted.slip(form.name + " wants a " + form.files[files.size()]);
     }
+    if (form.takes_vertex && !sorted.vertex) {
+        throw sorted.slip(form.name + " wants a VERTEX");
+    }
     if (files.size() > form.files.size()) {
-        throw sorted.slip(form.name + " wants no file after " + form.files.back() + ", but '"
+        const std::string last = form.takes_vertex ? "VERTEX" : form.files.back();
+        throw sorted.slip(form.name + " wants nothing after " + last + ", but '"
                           + files[form.files.size()] + "' is given");
     }
     if (std::count(files.begin(), files.end(), "-") > 1) {
@@ -187,26 +204,29 @@ void check_outputs(const SortedWords &sorted) {
     }
 }
 
-std::size_t number(const SortedWords &sorted, const std::string &option, std::size_t otherwise) {
-    const std::optional<std::string> given = sorted.value(option);
-    if (!given) {
-        return otherwise;
-    }
-    const std::string &text = *given;
+// The number that stands in a text; `what` says of it what it must be.
+std::size_t number_in(const std::string &text, const std::string &what,
+                      const SortedWords &sorted) {
     std::size_t result = 0;
     const auto [end, error] = std::from_chars(text.data(), text.data() + text.size(), result);
     if (error != std::errc() || end != text.data() + text.size()) {
         const std::size_t most = std::numeric_limits<std::size_t>::max();
-        throw sorted.slip(option + " wants a decimal number from 0 to " + std::to_string(most)
+        throw sorted.slip(what + " a decimal number from 0 to " + std::to_string(most)
                           + ", not '" + text + "'");
     }
     return result;
+}
+
+std::size_t number(const SortedWords &sorted, const std::string &option, std::size_t otherwise) {
+    const std::optional<std::string> given = sorted.value(option);
+    return given ? number_in(*given, option + " wants", sorted) : otherwise;
 }
 
 CommandLine make_line(const SortedWords &sorted) {
     CommandLine line = {};
     line.command = sorted.form.command;
     line.files = sorted.files;
+    line.vertex = sorted.vertex ? number_in(*sorted.vertex, "VERTEX is", sorted) : line.vertex;
     line.start = number(sorted, "--start", line.start);
     line.max = number(sorted, "--max", line.max);
     line.out = sorted.value("-o");

@@ -9,13 +9,24 @@
 
 namespace leafgraph::tool {
 
-enum class Command { check, check_rule, match, rewrite, sweep, squeeze, import_graph, show, dot };
+enum class Command {
+    check,
+    check_rule,
+    match,
+    read_elsewhere,
+    rewrite,
+    sweep,
+    squeeze,
+    import_graph,
+    show,
+    dot
+};
 
-// A command with its files and options. An option that a command doesn't take
-// has its default here.
+// A command with its files and options. What a command doesn't take has its default here.
 struct CommandLine {
     Command command;
     std::vector<std::string> files; // as many as the command wants
+    std::size_t vertex = 0;
     std::size_t start = 0;
     std::size_t max = 4096;
     std::optional<std::string> out;

@@ -13,6 +13,7 @@
 #include "listing.hpp"
 #include "names.hpp"
 #include "output.hpp"
+#include "readers.hpp"
 #include "refusal.hpp"
 #include "rewriting.hpp"
 #include "rule_text.hpp"
@@ -75,6 +76,18 @@ void match(const CommandLine &line) {
                 + vertex_words(slot.kind, slot.op, Operators::as_names) + "\n";
     }
     print(text);
+}
+
+// Yes or no is the library's answer; who reads the slot comes from a look at the block.
+void read_elsewhere(const CommandLine &line) {
+    const Input graph = read_graph_file(line.files[0]);
+    const Input rule = read_rule_file(line.files[1]);
+    const Match match = find(graph, rule, line.start);
+    const Answer answer = is_read_elsewhere(graph.bytes, rule.bytes, match.slots, line.vertex);
+    want_answered(answer.reply, graph, rule, line.vertex);
+    const unsigned slot = match.slots[line.vertex];
+    print(answer_line(answer.yes(), line.vertex, slot,
+                      readers_of(read_graph(graph.bytes), match, slot)));
 }
 
 // Sweeps and squeezes as the line says, writes what has become of the graph, and says it
@@ -172,6 +185,8 @@ void run_command(const CommandLine &line) {
         return check_rule(line);
     case Command::match:
         return match(line);
+    case Command::read_elsewhere:
+        return read_elsewhere(line);
     case Command::rewrite:
         return rewrite(line);
     case Command::sweep:

@@ -4,6 +4,7 @@
 #include <vector>
 
 #include "names.hpp"
+#include "readers.hpp"
 #include "text.hpp"
 
 namespace leafgraph::tool {
@@ -14,21 +15,16 @@ const std::string rule_input_colour = "lightblue";
 const std::string kept_colour = "palegreen";
 const std::string removed_colour = "lightsalmon";
 
-template <class Element>
-bool contains(const std::vector<Element> &list, const Element &element) {
-    return std::find(list.begin(), list.end(), element) != list.end();
-}
-
-// Whether this slot is a graph output, or is read by a vertex that a rewriting leaves
-// where it is. The colours tell which ones go; a Const's may change yet, but a Const
-// reads nothing.
-bool is_needed(const Graph &graph, unsigned slot, const std::vector<std::string> &colour) {
-    for (std::size_t reader = 0; reader < graph.slots.size(); ++reader) {
-        if (colour[reader] != removed_colour && contains(graph.slots[reader].inputs, slot)) {
-            return true;
-        }
+// The colour of what a source vertex of this pattern matches. A Const stays where it is read
+// elsewhere.
+const std::string &colour_of(const Pattern &pattern, unsigned slot, const Graph &graph,
+                             const Match &match) {
+    if (pattern.is_rule_input()) {
+        return rule_input_colour;
     }
-    return contains(graph.outputs, slot);
+    const bool stays = pattern.kind == Kind::constant
+                       && readers_of(graph, match, slot).elsewhere();
+    return stays ? kept_colour : removed_colour;
 }
 
 // The fill colour of each slot's node; empty for those that are not matched.
@@ -39,14 +35,8 @@ std::vector<std::string> colours(const Graph &graph, const Match *match) {
     }
     const std::vector<Pattern> &source = match->rule.source;
     for (std::size_t vertex = 0; vertex < source.size(); ++vertex) {
-        const bool stays = source[vertex].is_rule_input();
-        result.at(match->slots[vertex]) = stays ? rule_input_colour : removed_colour;
-    }
-    for (std::size_t vertex = 0; vertex < source.size(); ++vertex) {
         const unsigned slot = match->slots[vertex];
-        if (source[vertex].kind == Kind::constant && is_needed(graph, slot, result)) {
-            result[slot] = kept_colour;
-        }
+        result.at(slot) = colour_of(source[vertex], slot, graph, *match);
     }
     return result;
 }
@@ -90,7 +80,8 @@ std::string legend(const Match *match, const std::vector<std::string> &colour) {
     if (match == nullptr) {
         return "";
     }
-    const std::string kept = contains(colour, kept_colour)
+    const bool one_stays = std::find(colour.begin(), colour.end(), kept_colour) != colour.end();
+    const std::string kept = one_stays
                                  ? kept_colour + ": a const that stays, needed elsewhere\\n"
                                  : "";
     return "    label=\"match from start " + std::to_string(match->start) + "\\n"

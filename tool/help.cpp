@@ -6,11 +6,13 @@ namespace {
 const char *const general =
     R"(Checks graphs and rules, finds matches, rewrites, tidies and imports graphs.
 
-usage: leafgraph COMMAND FILE... [OPTION...]
+usage: leafgraph COMMAND FILE... [VERTEX] [OPTION...]
 
   check GRAPH         say whether a file is a sound graph block
   check-rule RULE     say whether a file is a sound rule block
   match GRAPH RULE    find the least match of a rule in a graph
+  read-elsewhere GRAPH RULE VERTEX
+                      say whether anything else reads what a vertex matches
   rewrite GRAPH RULE  rewrite a graph where the rule matches
   sweep GRAPH         empty the slots of what no output needs
   squeeze GRAPH       move what is in a graph to its lowest slots
@@ -25,13 +27,15 @@ usage: leafgraph COMMAND FILE... [OPTION...]
 A file '-' is standard input. Options stand before or after the files; '--' ends
 them.
 
-Standard output has only what is asked for: that a block is sound, a match, a
-text, a drawing or a block. Whatever else there is to say goes to standard error:
-why something is refused, and what was done to a graph.
+Standard output has only what is asked for: that a block is sound, a match, an
+answer, a text, a drawing or a block. Whatever else there is to say goes to
+standard error: why something is refused, and what was done to a graph.
 
 The exit status is
-  0  if all is done; for 'rewrite --all' that is: no match is left
-  1  if a block or a rewriting is refused, or the bound of --max is reached
+  0  if all is done; for 'rewrite --all' that is: no match is left; and for
+     'read-elsewhere': there is an answer, yes or no
+  1  if a block, a VERTEX or a rewriting is refused, or the bound of --max is
+     reached
   2  for bad usage, a file that can't be read or written, or a dot that fails
   3  if there is no match
 )";
@@ -54,6 +58,22 @@ const char *const match = R"(usage: leafgraph match GRAPH RULE [--start S]
 
 Finds the least match of RULE in GRAPH, and prints which slot each source vertex
 of the rule matches. If there is no match, the exit status is 3.
+
+  --start S  only matches whose first output is slot S or a later one (0)
+)";
+
+const char *const read_elsewhere =
+    R"(usage: leafgraph read-elsewhere GRAPH RULE VERTEX [--start S]
+
+Finds the least match of RULE in GRAPH, and prints whether anything else reads the
+slot that source vertex VERTEX of the rule matches, and what does. VERTEX counts
+from 0, as in 'match', and is no rule input (no wildcard and no variable).
+
+  yes  it is a graph output, or something reads it that no source vertex matches,
+       or that a rule input matches: what a rule input matches stays
+  no   only other slots of the match read it, or nothing does
+
+Both have the exit status 0. If there is no match, the exit status is 3.
 
   --start S  only matches whose first output is slot S or a later one (0)
 )";
@@ -169,6 +189,8 @@ std::string command_help(Command command) {
         return check_rule;
     case Command::match:
         return match;
+    case Command::read_elsewhere:
+        return read_elsewhere;
     case Command::rewrite:
         return rewrite;
     case Command::sweep:

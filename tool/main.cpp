@@ -7,6 +7,7 @@
 //   input         files that are read           output     files that are written
 //   blocks        what a sound block says       refusal    the library's refusals
 //   rewriting     once, or until none is left   tidying    sweeping and squeezing
+//   match         a rule, and where it matches  readers    what reads a matched slot
 //   listing       a graph as text               rule_text  a rule as text
 //   dot           a graph as a drawing          graphviz   the program that draws
 //   names         of kinds and operators

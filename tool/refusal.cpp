@@ -1,7 +1,11 @@
 #include "refusal.hpp"
 
+#include <vector>
+
+#include "blocks.hpp"
 #include "failure.hpp"
 #include "graph_fault.hpp"
+#include "names.hpp"
 #include "rule_fault.hpp"
 
 namespace leafgraph::tool {
@@ -51,6 +55,19 @@ std::string graph_refusal(Reply reply, const Input &graph, unsigned version) {
            + hint(graph, rule_mark, "rule") + version_hint(fault);
 }
 
+// Why this number is no source vertex of a sound rule to ask about.
+std::string vertex_refusal(Reply reply, const Input &rule, std::size_t vertex) {
+    const std::vector<Pattern> source = read_rule(rule.bytes).source;
+    const std::string number = std::to_string(vertex), count = std::to_string(source.size());
+    const std::string why
+        = vertex < source.size()
+              ? "source vertex " + number + " is a rule input (a " + kind_word(source[vertex].kind)
+                    + "), which stays whatever reads it"
+              : "there is no source vertex " + number + ": the rule has " + count + ", from 0 to "
+                    + std::to_string(source.size() - 1);
+    return rule.name + ": " + refused_with(reply) + why;
+}
+
 } // namespace
 
 std::string refusal_line(Reply reply, const Input &graph, const Input &rule) {
@@ -86,6 +103,13 @@ void want_imported(Reply reply, const Input &graph) {
     if (!reply.done()) {
         throw Failure(Status::refused, {graph_refusal(reply, graph, LG_VERSION_TO_IMPORT)});
     }
+}
+
+void want_answered(Reply reply, const Input &graph, const Input &rule, std::size_t vertex) {
+    if (reply.code() == Code::no_such_vertex) {
+        throw Failure(Status::refused, {vertex_refusal(reply, rule, vertex)});
+    }
+    want_done(reply, graph, rule);
 }
 
 void want_sound_graph(const Input &graph) {

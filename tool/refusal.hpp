@@ -2,6 +2,7 @@
 #ifndef LEAFGRAPH_TOOL_REFUSAL_HPP
 #define LEAFGRAPH_TOOL_REFUSAL_HPP
 
+#include <cstddef>
 #include <string>
 
 #include "input.hpp"
@@ -18,6 +19,8 @@ std::string refusal_line(Reply reply, const Input &graph, const Input &rule);
 void want_done(Reply reply, const Input &graph, const Input &rule);
 void want_done(Reply reply, const Input &block);
 void want_imported(Reply reply, const Input &graph); // of an import, which takes version 1
+// Of a question about this source vertex: where it is none to ask about, it says why.
+void want_answered(Reply reply, const Input &graph, const Input &rule, std::size_t vertex);
 void want_sound_graph(const Input &graph);
 void want_sound_rule(const Input &rule);
 

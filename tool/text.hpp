@@ -4,11 +4,16 @@
 
 #include <cstddef>
 #include <string>
+#include <vector>
 
 namespace leafgraph::tool {
 
 // "1 vertex", "2 vertices".
 std::string counted(std::size_t count, const std::string &one, const std::string &many);
+
+// "slot 9", "slots 9 and 12", "slots 9, 12 and 40".
+std::string numbered(const std::vector<unsigned> &numbers, const std::string &one,
+                     const std::string &many);
 
 // "once", "3 times".
 std::string times(std::size_t count);

@@ -162,6 +162,24 @@ BLOCKS = {
                      [ANY, (2, 0, 1, 0), (2, 1, 1, 0), (3, 1, 2, 0)]),
     "fives.lgt": graph([const(5), const(5), call(ADD, [0, 1])], [2]),
     "five.lgt": graph([const(5), call(ADD, [0, 0])], [1]),
+    # Two of which a relu reads the second.
+    "fives-shared.lgt": graph([const(5), const(5), call(ADD, [0, 1]), call(RELU, [1])], [2]),
+    # A relu that a sum reads twice becomes one relu; the sum is read by nobody.
+    "doubled.lgr": rule([WILDCARD, call(RELU, [0]), call(ADD, [1, 1])], [2],
+                        [call(RELU, [0])], [16]),
+    "doubled.lgt": graph([IMAGE, call(RELU, [0]), call(ADD, [1, 1])], [0]),
+    # Two additions of the same Const 0 go.
+    "twice-zero.lgr": rule([WILDCARD, const(0), call(ADD, [0, 1]), call(ADD, [2, 1])], [3], [], [0],
+                           [ZERO]),
+    "twice-zero.lgt": zeros(2),
+    # A sum of a sum and a Const, whose three rule inputs all stay. Of the graph, two of them
+    # read the Const, and so do two relus; it is an output twice. One relu reads the sum.
+    "sum-of-three.lgr": rule([WILDCARD, WILDCARD, call(ADD, [0, 1]), const(0), call(ADD, [2, 3]),
+                              WILDCARD, call(ADD, [4, 5])], [6],
+                             [vertex(TUPLE, 0, [0, 1, 5])], [16], [ANY]),
+    "needed.lgt": graph([const(0), IMAGE, call(RELU, [0]), call(ADD, [1, 2]), call(ADD, [3, 0]),
+                         call(GAIN, [0], [2, 2, 2]), call(ADD, [4, 5]), call(RELU, [0]),
+                         call(RELU, [0]), call(RELU, [6])], [0, 6, 0]),
     # One relu becomes two; the graph has two Empty slots.
     "grow.lgr": rule([WILDCARD, call(RELU, [0])], [1], [call(RELU, [0]), call(RELU, [16])], [17]),
     "room.lgt": graph([IMAGE, call(RELU, [0]), EMPTY, EMPTY], [1]),
