@@ -151,10 +151,10 @@ std::string times(std::size_t count) {
     return std::to_string(count) + (count == 1 ? " time" : " times");
 }
 
-// One application of a rule: the slots of its match, and the graphs around it.
+// One application of a rule: the blocks around it, and its match in the one before.
 struct Application {
-    std::vector<std::size_t> slots;
-    Graph before, after;
+    Block before, after;
+    leafgraph::Map map;
 };
 
 // Rewrites by a rule until that is refused; the reply is the last one.
@@ -162,25 +162,35 @@ std::vector<Application> applications(Block &block, const Rule &rule, leafgraph:
     std::vector<Application> done;
     leafgraph::Map map;
     while (done.size() < times_at_most) {
-        Graph before = leafgraph::tool::read_graph(block);
+        Block before = block;
         reply = leafgraph::rewrite(block, rule.block, 0, map);
         if (!reply) {
             break;
         }
-        done.push_back({slots_of(map), std::move(before), leafgraph::tool::read_graph(block)});
+        done.push_back({std::move(before), block, map});
     }
     return done;
 }
 
-// What became of a constant that the rule matched. It must stay as it was while something
-// else reads it, and go with its last reader, which the last application takes.
-void show_constant(const Application &application, std::size_t slot, bool is_last,
-                   Expectations &expectations) {
-    const Slot &before = application.before.slots[slot], &after = application.after.slots[slot];
+// What the library says of a constant that the rule matches, and what became of it. It must
+// stay as it was while something else reads it, and go with its last reader, which the last
+// application takes.
+void show_constant(const Application &application, const Rule &rule, std::size_t vertex,
+                   bool is_last, Expectations &expectations) {
+    const std::size_t slot = application.map[vertex];
+    const Graph graph_after = leafgraph::tool::read_graph(application.after);
+    const Slot before = leafgraph::tool::read_graph(application.before).slots[slot];
+    const Slot &after = graph_after.slots[slot];
+    const leafgraph::Answer answer = leafgraph::is_read_elsewhere(application.before, rule.block,
+                                                                  application.map, vertex);
+    want_done(answer.reply, application.before, "asked about");
     const bool stays = after.kind == Kind::constant;
-    const std::string others = listed(readers(application.after, slot));
-    std::printf("    %s in slot %zu %s.\n", in_words(before).c_str(), slot,
+    const std::string others = listed(readers(graph_after, slot));
+    std::printf("    Is %s in slot %zu read elsewhere? %s: it %s.\n", in_words(before).c_str(),
+                slot, answer.yes() ? "Yes" : "No",
                 stays ? ("stays, still read by" + others).c_str() : "goes with its last reader");
+    expectations.expect(answer.yes() == stays && answer.no() == !stays,
+                        "a constant does not stay just where the library says yes");
     expectations.expect(stays == (before.count > 1),
                         "a constant does not stay just where something else reads it");
     expectations.expect(!stays || before.attributes == after.attributes, "a constant changed");
@@ -193,8 +203,8 @@ void show_constants(const std::vector<Application> &done, const Rule &rule,
     for (std::size_t vertex = 0; vertex < source.size(); vertex++) {
         if (source[vertex].kind == Kind::constant) {
             for (const Application &application : done) {
-                show_constant(application, application.slots[vertex],
-                              &application == &done.back(), expectations);
+                show_constant(application, rule, vertex, &application == &done.back(),
+                              expectations);
             }
         }
     }
@@ -208,7 +218,7 @@ Pipeline rewritten(const Pipeline &before, const Rule &rule, std::size_t times_e
     const std::vector<Application> done = applications(block, rule, reply);
     std::string matched;
     for (const Application &application : done) {
-        matched += (matched.empty() ? ", at slots" : ", then") + listed(application.slots);
+        matched += (matched.empty() ? ", at slots" : ", then") + listed(slots_of(application.map));
     }
     Pipeline after = run(std::move(block));
     const bool kept = same_results(before, after);
@@ -251,7 +261,8 @@ Pipeline rewritten_by_all(const std::string &folder, const Pipeline &before,
                           Expectations &expectations) {
     std::printf("Six rules, each applied until it matches no more. The slots are those that its "
                 "source\nvertices matched, in order. A constant that the converter stored once for "
-                "several stages\nstays until the last of them goes.\n\n");
+                "several stages\nstays until the last of them goes. Whether anything else reads "
+                "it, the library says of the\npipeline before each rewriting.\n\n");
     Pipeline now = before;
     for (const Plan &plan : plans) {
         now = rewritten(now, read_rule(folder, plan.rule), plan.times, expectations);

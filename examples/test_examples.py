@@ -352,6 +352,12 @@ class Tool(unittest.TestCase):
                     self.assertEqual(assemble.assemble(said)[1], (BLOCKS / name).read_bytes())
 
 
+    def test_it_says_what_else_reads_the_shared_constant(self):
+        said = run("leafgraph", "read-elsewhere", BLOCKS / "leaf_pipeline.lgt",
+                   BLOCKS / "mul_by_one.lgr", "1")
+        self.assertEqual(said, ("yes: source vertex 1 matches slot 22, which slots 17 and 21 read, "
+                                "outside the match\n", 0))
+
     def test_it_imports_the_block_of_version_1(self):
         out = fresh_folder("imported") / IMPORTED_NAME
         said, status = run("leafgraph", "import", BLOCKS / OLD_NAME, "-o", out)
