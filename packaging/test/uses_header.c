@@ -10,5 +10,7 @@ int main(void) {
     printf("leafgraph %s from C: reply %u\n", LEAFGRAPH_VERSION, lg_reply_number(reply));
     return lg_reply_number(reply) == LG_BAD_RULE_HEADER && lg_is_bad_rule(reply)
            && lg_is_bad_graph(lg_sweep(none, sizeof none))
+           && lg_reply_number(lg_is_read_elsewhere(none, sizeof none, none, 0, none, 0, 0))
+                  == LG_BAD_MAP_LENGTH
            && lg_is_bad_graph(lg_import(none, sizeof none)) ? 0 : 1;
 }

@@ -9,6 +9,8 @@ int main() {
     std::printf("leafgraph %s from C++: %s\n", LEAFGRAPH_VERSION, reply.what());
     const bool squeezed = leafgraph::squeeze({nullptr, 0}, {nullptr, 0}).done();
     const bool imported = leafgraph::import_graph({nullptr, 0}).done();
+    const leafgraph::Answer answer
+        = leafgraph::is_read_elsewhere({nullptr, 0}, {nullptr, 0}, leafgraph::Map(), 0);
     return reply.code() == leafgraph::Code::bad_graph_header && reply.bad_graph() && !squeezed
-                   && !imported ? 0 : 1;
+                   && !imported && !answer.yes() && !answer.no() ? 0 : 1;
 }
