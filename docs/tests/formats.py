@@ -6,7 +6,7 @@
 Each block of the page that has a text must be sound and be shown as that text, its
 rewritings must have the page's maps and leave the page's bytes, its sweep, its squeeze and
 its import must leave the page's bytes and moves, and what the page says of refused blocks
-must be what the tool says. Exit status 1 if one does not.
+and of what reads a slot must be what the tool says. Exit status 1 if one does not.
 """
 
 import re
@@ -39,6 +39,16 @@ REWRITINGS = (
     ("e1-graph", "rr-rule", "p1-map", "p1-graph"),
     ("shared-graph", "one-rule", "shared-map", "read-once-graph"),
     ("read-once-graph", "one-rule", None, "unread-graph"),
+)
+
+
+# What is asked of the least match, of which the page shows the answer: graph, rule, source
+# vertex.
+QUESTIONS = (
+    ("shared-graph", "one-rule", 1),
+    ("read-once-graph", "one-rule", 1),
+    ("shared-graph", "one-rule", 2),
+    ("read-once-graph", "one-rule", 2),
 )
 
 
@@ -117,6 +127,15 @@ def rewritings_hold(tool, folder, files):
     return count
 
 
+def answers_hold(tool, folder, page):
+    """The answers are the page's, in their order."""
+    shown = re.findall(r"^    ((?:yes|no): .*)$", page, re.MULTILINE)
+    said = [run(tool, "read-elsewhere", folder / f"{graph}.bin", folder / f"{rule}.bin", vertex)
+            for graph, rule, vertex in QUESTIONS]
+    same("what the tool answers", b"".join(said).decode().splitlines(), shown)
+    return len(shown)
+
+
 def changes_alone_hold(tool, folder, files):
     """Each list of moves, and the block that a sweep, a squeeze or an import leaves."""
     count = 0
@@ -143,6 +162,7 @@ def main(arguments):
                 (folder / file).write_bytes(content)
             tool = str(Path(arguments[0]).resolve())
             count = (blocks_hold(tool, folder, files) + rewritings_hold(tool, folder, files)
+                     + answers_hold(tool, folder, page)
                      + changes_alone_hold(tool, folder, files)
                      + refusals_hold(tool, folder, page)
                      + quotes_hold(page))
