@@ -3,10 +3,10 @@
 
     readme_example.py OUT.cpp
 
-The program takes a graph and a rule file; it fails if the example does not rewrite the one by
+The program takes E1 and the rule RR as files; it fails if the example does not rewrite the one by
 the other until no match is left, does not do the same with that graph as a block of version 1,
-does not tidy a graph with a gap, or is content with a bad graph, with a cycle in one of either
-version, or with a rule that always matches again. What the example says of those is compared
+does not tidy a graph with a gap, is wrong about what only the match reads, or is content with a
+bad graph, with a cycle in one of either version, or with a rule that always matches again. What the example says of those is compared
 with readme_example.stdout (make/docs.mk).
 """
 
@@ -43,7 +43,12 @@ int main(int count, char **names) {
     if (count != 3) return 2;
     std::vector<unsigned char> graph = bytes_of(names[1]);
     const std::vector<unsigned char> before = graph, rule = bytes_of(names[2]);
+    if (!only_the_match_reads(graph, rule, 1)) return 1; // the inner relu
+    for (const std::size_t vertex : {0, 2, 3}) { // a rule input, the output, and no vertex
+        if (only_the_match_reads(graph, rule, vertex)) return 1;
+    }
     if (!shorten(graph, rule) || graph == before || !leafgraph::check_graph(graph)) return 1;
+    if (only_the_match_reads(graph, rule, 1)) return 1; // there is no match any more
     std::vector<unsigned char> old = before, old_cyclic;
     make_version_1(old.data());
     old_cyclic = old;
