@@ -111,7 +111,8 @@ static const struct read_call read_calls[] = {
      LG_NOT_A_MATCH, 0},
     {"a wildcard on an Empty slot", SUM_RULE, ONE_SUM, {3, 0, 2, NO_OUTPUT}, 2,
      LG_NOT_A_MATCH, 0},
-    {"inputs that are exchanged", SUM_RULE, ONE_SUM, {0, 1, 2, NO_OUTPUT}, 2,
+    {"inputs that are exchanged", TWO_CONSTS,
+     {{2, NO_OUTPUT}, {SEVEN, SEVEN, SUM, EMPTY, EMPTY}}, {0, 1, 2, NO_OUTPUT}, 2,
      LG_NOT_A_MATCH, 0},
     {"a match with a number past it", SUM_RULE, ONE_SUM, {1, 0, 2, 1}, 2, LG_NOT_A_MATCH, 0},
     {"no match before no vertex", SUM_RULE, ONE_SUM, {1, 0, 3, NO_OUTPUT}, SIZE_MAX,
@@ -147,9 +148,11 @@ static inline void put_images(uint8_t *map, const struct read_call *call) {
  * graph has one match only. */
 static const struct read_call *const changed_call = &read_calls[0];
 
-/* What one place of that map may be changed to: each slot, the first number that is none, one
- * with a slot's number in its low byte, and both ends of what is no slot. */
-static const unsigned other_images[] = {0, 1, 2, 3, 4, SLOTS, 256, 258, 65534, LG_NO_SLOT};
+/* What one place of that map may be changed to: each slot, the first number that is none,
+ * those with a slot's number in the low byte, and those that are nearly 65535. */
+static const unsigned other_images[] = {
+    0, 1, 2, 3, 4, SLOTS, 256, 257, 258, 255, 65280, 65534, LG_NO_SLOT
+};
 
 /* Lengths that a map does not have. */
 static const size_t bad_map_lengths[] = {0, 1, 30, 31, 33, 34};
