@@ -18,8 +18,8 @@ bool rewritten(std::vector<unsigned char> &graph, const std::array<unsigned char
     return reply.done();
 }
 
-// Whether a rewriting at the least match may take what this source vertex matches, and nothing
-// else reads it. Where there is no match, or no such vertex, it may not.
+// Whether only the least match reads what this source vertex matches, so that it may go. Where
+// there is no match, or no such vertex, it may not.
 bool may_go(const std::vector<unsigned char> &graph, const std::array<unsigned char, 80> &rule,
             std::size_t vertex) {
     leafgraph::Map map;

@@ -37,7 +37,8 @@
  * Version 3 takes and leaves graph blocks of version 2, which have counts, with
  * reply 24 for a wrong one. Graph blocks of version 1, which versions before took,
  * are refused with reply 20, except by lg_import, which makes version 2 of them.
- * Version 3.1 adds lg_is_read_elsewhere, with replies 41 and 42, and lg_reply_value. */
+ * Version 3.1 adds lg_is_read_elsewhere, with replies 41 and 42, and lg_reply_value.
+ * Nothing that was there has changed. */
 #define LEAFGRAPH_VERSION "3.1.0"
 
 #ifdef __cplusplus

@@ -110,7 +110,8 @@ constexpr const char *what(Code code) noexcept {
     return "a reply that this header does not know";
 }
 
-// What a call returns: done, or a refusal with its number and place.
+// What a call returns: done, with a value where the call has one to give, or a refusal with
+// its number and place.
 class [[nodiscard]] Reply {
 public:
     // A reply of the library.
