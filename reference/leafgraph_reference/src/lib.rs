@@ -1,14 +1,14 @@
-//! The second program of leafgraph: document 01, with requests 1/13, 2/13, 4/13
-//! and 5/13 of document 02, in plain Rust.
+//! The second program of leafgraph: document 01, with requests 1/13, 2/13 and 4/13
+//! to 6/13 of document 02, in plain Rust.
 //!
 //! It is written from these papers alone, not from the proved library, so that
 //! an error of reading in one of the two shows up as a difference between
 //! them. Sentences in quotation marks are document 01's or a request's.
 //!
 //! "Four operations: check a graph, check a rule, find a match, rewrite",
-//! request 4/13's sweep and squeeze, and request 5/13's import.
-//! Each answers any bytes of any length. The reply holds its number in bits 0
-//! to 7 and its place in bits 8 to 39; the other bits are 0 for now.
+//! request 4/13's sweep and squeeze, request 5/13's import, and request 6/13's
+//! question. Each answers any bytes of any length. The reply holds its number in
+//! bits 0 to 7, its place in bits 8 to 39 and its value in bits 40 to 63.
 #![forbid(unsafe_code)]
 
 pub mod attributes;
@@ -21,10 +21,12 @@ pub mod generate;
 pub mod graph;
 pub mod graph_faults;
 mod import;
+pub mod match_check;
 pub mod matching;
 pub mod meaning;
 pub mod operators;
 pub mod random;
+pub mod readers;
 pub mod recount;
 pub mod removal;
 pub mod reply;
@@ -37,7 +39,8 @@ pub mod squeeze;
 pub mod sweep;
 
 use graph::{Graph, MAX_BLOCK};
-use reply::{reply_of, Refusal};
+use readers::Mapped;
+use reply::{reply_of, reply_to_question, Refusal};
 use rule::Rule;
 
 /// "map buffer isn't 32 bytes": the only length of a map that is taken.
@@ -85,6 +88,15 @@ pub fn import(graph: &mut [u8]) -> u64 {
     reply_of(import::import(graph))
 }
 
+/// "Given a sound version 2 graph, a rule, its match and one non-input source
+/// vertex": yes where the image is named by anything but the match. "Refusals: 1,
+/// the graph and rule ones, then 41 when the map isn't a match (any, with 65535
+/// from S on), 42 when it is no such vertex." A vertex is any number and is
+/// compared with S as it is.
+pub fn is_read_elsewhere(graph: &[u8], rule: &[u8], map: &[u8], vertex: usize) -> u64 {
+    reply_to_question(try_is_read_elsewhere(graph, rule, map, vertex))
+}
+
 fn try_find_match(graph: &[u8], rule: &[u8], start: usize, map: &mut [u8]) -> Result<(), Refusal> {
     check_map_length(map)?;
     let graph = Graph::parse(graph)?;
@@ -125,6 +137,25 @@ fn try_squeeze(graph: &mut [u8], moves: &mut [u8]) -> Result<(), Refusal> {
     squeeze::write_list(moves, &numbers);
     graph.copy_from_slice(new);
     Ok(())
+}
+
+fn try_is_read_elsewhere(
+    graph: &[u8],
+    rule: &[u8],
+    map: &[u8],
+    vertex: usize,
+) -> Result<bool, Refusal> {
+    check_map_length(map)?;
+    let (graph, rule) = (Graph::parse(graph)?, Rule::parse(rule)?);
+    let images = &matching::read_map(map);
+    let mapped = Mapped { graph, rule, images };
+    if !mapped.is_match() {
+        return Err(Refusal::NOT_A_MATCH);
+    }
+    if vertex >= rule.source_count() || rule.source(vertex).is_input_kind() {
+        return Err(Refusal::NO_SUCH_VERTEX);
+    }
+    Ok(mapped.is_read_elsewhere(images[vertex]))
 }
 
 fn check_map_length(map: &[u8]) -> Result<(), Refusal> {

@@ -1,6 +1,7 @@
 //! "Inside, a reply is one of two cases, done or a refusal with its number
 //! and place record". Request 2/13 tells the kinds of fault apart, "20 to 23
 //! replace 2 and 30 to 34 replace 3", and gives the place; request 5/13 adds 24.
+//! From request 6/13 on done may have a value, which is 1 for yes and 0 for no.
 
 /// A graph's "record against its kind", with its slot.
 pub const GRAPH_RECORD: u8 = 21;
@@ -46,6 +47,10 @@ impl Refusal {
     pub const CYCLE: Refusal = Refusal::without_place(7);
     /// "40 when the list is not 2N bytes"
     pub const LIST_LENGTH: Refusal = Refusal::without_place(40);
+    /// "41 when the map isn't a match (any, with 65535 from S on)"
+    pub const NOT_A_MATCH: Refusal = Refusal::without_place(41);
+    /// "42 when it is no such vertex": not a non-input source vertex
+    pub const NO_SUCH_VERTEX: Refusal = Refusal::without_place(42);
 
     /// "wherever no request names a place, 0"
     const fn without_place(number: u8) -> Refusal {
@@ -61,14 +66,28 @@ pub fn refuse_at(number: u8, place: Option<usize>) -> Result<(), Refusal> {
     }
 }
 
-/// Done.
+/// Done, with the value 0, which is no to a question.
 pub const DONE: u64 = 0;
+/// Done, and yes to a question.
+pub const YES: u64 = 1 << VALUE;
+
+/// Where the value begins.
+const VALUE: u32 = 40;
 
 /// The 64-bit reply: number in bits 0 to 7, place in bits 8 to 39.
 pub fn reply_of(outcome: Result<(), Refusal>) -> u64 {
     match outcome {
         Ok(()) => DONE,
         Err(refusal) => u64::from(refusal.number) | u64::from(refusal.place) << 8,
+    }
+}
+
+/// The reply to a question, with its answer as the value, in bits 40 to 63.
+pub fn reply_to_question(outcome: Result<bool, Refusal>) -> u64 {
+    match outcome {
+        Ok(true) => YES,
+        Ok(false) => DONE,
+        Err(refusal) => reply_of(Err(refusal)),
     }
 }
 
@@ -80,4 +99,9 @@ pub fn number_of(reply: u64) -> u8 {
 /// The place in a reply.
 pub fn place_of(reply: u64) -> u32 {
     (reply >> 8) as u32
+}
+
+/// The value in a reply.
+pub fn value_of(reply: u64) -> u32 {
+    (reply >> VALUE) as u32
 }

@@ -1,16 +1,17 @@
 //! The search against document 01's definition of a match, tried on every map
-//! of small cases, and the rewriting against a plain retelling of "What a
-//! rewriting leaves", both as request 1/13 amends them.
+//! of small cases, and so request 6/13's question; and the rewriting against a plain
+//! retelling of "What a rewriting leaves". All as request 1/13 amends it.
 
 mod common;
 
-use common::{map_of, run_match, run_rewrite};
+use common::{ask, map_of, run_match, run_rewrite};
 use leafgraph_reference::attributes::{agrees, results};
 use leafgraph_reference::blocks::{empty, GraphParts, RuleParts, Vertex};
 use leafgraph_reference::generate::{matching_case, rewriting_case, search_case, Case};
 use leafgraph_reference::graph::Graph;
 use leafgraph_reference::operators::CONST;
 use leafgraph_reference::random::Random;
+use leafgraph_reference::reply::YES;
 use leafgraph_reference::rule::Rule;
 
 fn is_input(rule: &RuleParts, vertex: usize) -> bool {
@@ -92,25 +93,37 @@ fn attributes_agree(case: &Case, images: &[u16]) -> bool {
     })
 }
 
-/// All maps, the images of the outputs deciding which is least.
+/// All maps to slots, Empty ones too.
+fn all_maps(case: &Case) -> impl Iterator<Item = Vec<u16>> {
+    let slots = case.graph.slots.len() as u16;
+    let next = move |images: &Vec<u16>| {
+        let digit = images.iter().position(|&image| image + 1 < slots)?;
+        // Counting in base N.
+        let mut next = images.clone();
+        next[digit] += 1;
+        next[..digit].fill(0);
+        Some(next)
+    };
+    std::iter::successors(Some(vec![0; case.rule.source.len()]), next)
+}
+
+/// How many there are.
+fn map_count(case: &Case) -> u64 {
+    (case.graph.slots.len() as u64).saturating_pow(case.rule.source.len() as u32)
+}
+
+/// Of all matches, the images of the outputs deciding which is least.
 fn least_by_definition(case: &Case) -> Option<Vec<u16>> {
     let mut best: Option<(Vec<u16>, Vec<u16>)> = None;
-    let mut images = vec![0; case.rule.source.len()];
-    loop {
+    for images in all_maps(case) {
         let key: Vec<u16> =
             case.rule.source_outputs.iter().map(|&output| images[usize::from(output)]).collect();
         let better = best.as_ref().is_none_or(|(least, _)| key < *least);
         if better && usize::from(key[0]) >= case.start && is_match(case, &images) {
-            best = Some((key, images.clone()));
+            best = Some((key, images));
         }
-        // The next map, counting in base N.
-        let slots = case.graph.slots.len() as u16;
-        let Some(digit) = images.iter().position(|&image| image + 1 < slots) else {
-            return best.map(|(_, images)| images);
-        };
-        images[digit] += 1;
-        images[..digit].fill(0);
     }
+    best.map(|(_, images)| images)
 }
 
 #[test]
@@ -122,9 +135,7 @@ fn the_search_finds_the_least_match() {
             true => matching_case(&mut random),
             false => search_case(&mut random).1,
         };
-        let slots = case.graph.slots.len() as u64;
-        let maps = slots.saturating_pow(case.rule.source.len() as u32);
-        if maps > 20_000 {
+        if map_count(&case) > 20_000 {
             continue;
         }
         let answer = run_match(&case.graph, &case.rule, case.start);
@@ -141,6 +152,40 @@ fn the_search_finds_the_least_match() {
         }
     }
     assert!(found[0] > 1000 && found[1] > 500, "{found:?}");
+}
+
+/// The reply by the definition, to a question about a vertex of the source.
+fn reply_by_definition(case: &Case, images: &[u16], vertex: usize) -> u64 {
+    match is_match(case, images) {
+        false => 41,
+        true if is_input(&case.rule, vertex) => 42,
+        true if is_private(case, images, vertex) => 0,
+        true => YES,
+    }
+}
+
+/// Of a match every vertex is asked for, of another map one.
+#[test]
+fn every_map_is_judged() {
+    let mut random = Random::new(3);
+    let mut replies = [0; 4];
+    while replies.iter().any(|&count| count < 200) {
+        let (_, case) = search_case(&mut random);
+        if map_count(&case) > 500 {
+            continue;
+        }
+        for images in all_maps(&case) {
+            let one = random.below(images.len());
+            let asked = if is_match(&case, &images) { 0..images.len() } else { one..one + 1 };
+            for vertex in asked {
+                let reply = ask(&case.graph, &case.rule, &map_of(&images), vertex);
+                let expected = reply_by_definition(&case, &images, vertex);
+                assert_eq!(reply, expected, "vertex {vertex} at {images:?}, {case:?}");
+                let seen = [0, YES, 41, 42].iter().position(|&one| one == reply);
+                replies[seen.expect("one of four")] += 1;
+            }
+        }
+    }
 }
 
 /// "What a rewriting leaves", on parts instead of bytes. Only the attributes

@@ -2,7 +2,7 @@
 #![allow(dead_code)]
 
 use leafgraph_reference::blocks::{GraphParts, RuleParts};
-use leafgraph_reference::{find_match, rewrite};
+use leafgraph_reference::{find_match, is_read_elsewhere, rewrite};
 
 /// The reply and the map as numbers; the map is filled with a mark before, so
 /// that an untouched one shows.
@@ -39,6 +39,12 @@ pub fn run_rewrite(graph: &GraphParts, rule: &RuleParts, start: usize) -> Answer
     assert_untouched_after_refusal(reply, &map);
     assert!(reply == 0 || before == after, "a refusal wrote the graph");
     Answer { reply, map: numbers(&map), graph: after }
+}
+
+/// Whether the image of this vertex is read elsewhere, with this map.
+pub fn ask(graph: &GraphParts, rule: &RuleParts, map: &[u16], vertex: usize) -> u64 {
+    let bytes: Vec<u8> = map.iter().flat_map(|image| image.to_le_bytes()).collect();
+    is_read_elsewhere(&graph.block(), &rule.block(), &bytes, vertex)
 }
 
 fn assert_untouched_after_refusal(reply: u64, map: &[u8]) {
