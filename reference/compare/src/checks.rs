@@ -81,7 +81,7 @@ impl Check {
             proved,
             reference,
             faults,
-            start: None,
+            number: None,
             bytes: &[("block", &block)],
         });
     }

@@ -8,7 +8,8 @@ use leafgraph_reference::rule::{
     Pattern, Rule, ACCESS, ANY, CONSTANT, DIVIDE, MAX_NODES, MINUS, PLUS, REMAINDER, TIMES,
 };
 
-use crate::constants::{matched_consts, MatchedConst, Namer};
+use crate::constants::{matched_consts, MatchedConst};
+use crate::namers::Namer;
 use crate::nearly::{reasons, Reason};
 use crate::tally::{Class, Tally};
 

@@ -152,7 +152,7 @@ impl Cleanup {
             proved,
             reference: outcome.reply,
             faults,
-            start: None,
+            number: None,
             bytes: &[
                 ("graph before", &lent.graph),
                 ("list before", &lent.list),

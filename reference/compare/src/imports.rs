@@ -73,7 +73,7 @@ pub fn import(
         proved,
         reference: outcome.reply,
         faults,
-        start: None,
+        number: None,
         bytes: &[
             ("block before", block),
             ("block after, proved", lent.bytes()),

@@ -26,6 +26,7 @@ mod look_classes;
 mod matching;
 mod mixed;
 mod mixed_classes;
+mod namers;
 mod nearly;
 mod refusal_classes;
 mod rewriting;

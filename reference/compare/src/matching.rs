@@ -41,7 +41,7 @@ impl Arguments {
             proved,
             reference,
             faults: if kept { vec![] } else { vec![CHANGED] },
-            start: Some(self.start),
+            number: Some(("start", self.start)),
             bytes: &[
                 ("graph", &self.graph),
                 ("rule", &self.rule),

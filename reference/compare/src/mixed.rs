@@ -186,7 +186,7 @@ impl Run {
             proved,
             reference,
             faults: if kept { vec![] } else { vec![CHANGED] },
-            start: Some(0),
+            number: Some(("start", 0)),
             bytes: &[
                 ("graph before the squeeze", old),
                 ("graph after it", &self.graph),

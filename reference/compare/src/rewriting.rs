@@ -79,7 +79,7 @@ impl Arguments {
             proved,
             reference: outcome.reply,
             faults,
-            start: Some(self.start),
+            number: Some(("start", self.start)),
             bytes: &[
                 ("graph before", &self.graph),
                 ("rule", &self.rule),

@@ -11,7 +11,8 @@ use leafgraph_reference::rule::{Rule, ACCESS, MAX_NODES, MAX_VERTICES, PLUS, TAR
 use leafgraph_reference::{rewrite, MAP_LENGTH};
 
 use crate::arguments::Arguments;
-use crate::constants::{matched_consts, MatchedConst, Namer};
+use crate::constants::{matched_consts, MatchedConst};
+use crate::namers::Namer;
 use crate::rewriting::{Outcome, Verdicts};
 use crate::rewriting_count_classes::Changes;
 use crate::tally::{Class, Tally};
@@ -316,7 +317,7 @@ impl<'a> Rewriting<'a> {
     fn constants(&self) -> Vec<Class> {
         let only = |namer: Namer| self.consts.iter().any(|one| one.stays_only_by(namer));
         let staying = self.staying_consts().count();
-        let read_twice = |one: &MatchedConst| !one.stays() && one.inner_reads > 1;
+        let read_twice = |one: &MatchedConst| !one.stays() && one.naming.inner_reads > 1;
         let mut wildcards =
             self.rule.sources().zip(self.images).filter(|pair| pair.0.is_wildcard());
         vec![

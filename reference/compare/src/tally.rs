@@ -4,7 +4,7 @@ use std::collections::BTreeMap;
 use std::fmt::Write;
 use std::ops::RangeInclusive;
 
-use leafgraph_reference::reply::{number_of, place_of};
+use leafgraph_reference::reply::{number_of, place_of, value_of};
 
 /// The least share of calls, in percent, that must be done: a comparison that
 /// only sees refusals shows nothing.
@@ -17,6 +17,9 @@ const REFUSED_AFTER_CHECKS: RangeInclusive<u8> = 4..=7;
 /// The fault of lent bytes that are not what they should be.
 pub const CHANGED: &str = "lent bytes are not what they should be after the call";
 
+/// A number that is given to a call, by name: where a search starts, or a vertex.
+type Number = (&'static str, usize);
+
 /// The first call on which the two programs differ.
 struct Difference {
     call: u64,
@@ -24,7 +27,7 @@ struct Difference {
     proved: u64,
     reference: u64,
     faults: Vec<&'static str>,
-    start: Option<usize>,
+    number: Option<Number>,
     bytes: Vec<(&'static str, Vec<u8>)>,
 }
 
@@ -35,8 +38,8 @@ pub struct Call<'a> {
     pub reference: u64,
     /// What is wrong although the replies may be the same.
     pub faults: Vec<&'static str>,
-    /// Where a search starts; the checks have none.
-    pub start: Option<usize>,
+    /// What is given beside lent bytes, if anything is.
+    pub number: Option<Number>,
     /// Bytes that tell a reader about a difference, by name.
     pub bytes: &'a [(&'static str, &'a [u8])],
 }
@@ -109,7 +112,7 @@ impl Tally {
         *self.reference.entry(number_of(call.reference)).or_default() += 1;
         let origin = self.origins.entry(call.origin).or_default();
         origin.calls += 1;
-        origin.done += u64::from(call.reference == 0);
+        origin.done += u64::from(number_of(call.reference) == 0);
         if call.proved == call.reference && call.faults.is_empty() {
             return;
         }
@@ -122,7 +125,7 @@ impl Tally {
                 proved: call.proved,
                 reference: call.reference,
                 faults: call.faults,
-                start: call.start,
+                number: call.number,
                 bytes: bytes.collect(),
             });
         }
@@ -195,14 +198,15 @@ impl Difference {
     fn describe(&self, text: &mut String) {
         writeln!(text, "  first difference: call {}, {}", self.call, self.origin).expect("text");
         for (side, reply) in [("proved", self.proved), ("reference", self.reference)] {
-            let (number, place) = (number_of(reply), place_of(reply));
-            writeln!(text, "  {side} replies {number}, place {place} ({reply:#x})").expect("text");
+            let (number, place, value) = (number_of(reply), place_of(reply), value_of(reply));
+            writeln!(text, "  {side} replies {number}, place {place}, value {value} ({reply:#x})")
+                .expect("text");
         }
         for fault in &self.faults {
             writeln!(text, "  {fault}").expect("text");
         }
-        if let Some(start) = self.start {
-            writeln!(text, "  start {start}").expect("text");
+        if let Some((name, number)) = self.number {
+            writeln!(text, "  {name} {number}").expect("text");
         }
         for (name, bytes) in &self.bytes {
             writeln!(text, "  {name}, {} bytes:", bytes.len()).expect("text");

@@ -27,6 +27,15 @@ extern "C" {
     fn lg_sweep(graph: *mut u8, graph_len: usize) -> u64;
     fn lg_squeeze(graph: *mut u8, graph_len: usize, moves: *mut u8, moves_len: usize) -> u64;
     fn lg_import(graph: *mut u8, graph_len: usize) -> u64;
+    fn lg_is_read_elsewhere(
+        graph: *const u8,
+        graph_len: usize,
+        rule: *const u8,
+        rule_len: usize,
+        map: *const u8,
+        map_len: usize,
+        vertex: usize,
+    ) -> u64;
 }
 
 pub fn check_graph(graph: &[u8]) -> u64 {
@@ -89,4 +98,21 @@ pub fn squeeze(graph: &mut [u8], moves: &mut [u8]) -> u64 {
 pub fn import(graph: &mut [u8]) -> u64 {
     // SAFETY: as for the sweep.
     unsafe { lg_import(graph.as_mut_ptr(), graph.len()) }
+}
+
+pub fn is_read_elsewhere(graph: &[u8], rule: &[u8], map: &[u8], vertex: usize) -> u64 {
+    let (graph_len, rule_len, map_len) = (graph.len(), rule.len(), map.len());
+    // SAFETY: as for the checks; nothing is written, so that the three may even
+    // overlap.
+    unsafe {
+        lg_is_read_elsewhere(
+            graph.as_ptr(),
+            graph_len,
+            rule.as_ptr(),
+            rule_len,
+            map.as_ptr(),
+            map_len,
+            vertex,
+        )
+    }
 }
