@@ -28,6 +28,7 @@ comparison: run-only-test $(ARCHIVE)
 	$(REFERENCE_BIN)/compare matching
 	$(REFERENCE_BIN)/compare rewriting
 	$(REFERENCE_BIN)/compare cleanups
+	$(REFERENCE_BIN)/compare readers
 	$(REFERENCE_BIN)/compare mixed
 
 # The proved library's speed beside the second program's, compiled alike. No

@@ -1,13 +1,15 @@
 //! Runs the proved library and the second program on the same random blocks
 //! and reports any difference.
 //!
-//!     compare [--seed S] [--calls N] checks|matching|rewriting|cleanups|mixed
+//!     compare [--seed S] [--calls N] checks|matching|rewriting|cleanups|readers|mixed
 //!
 //! - checks: the two checks, and with every fifth call an import;
 //! - matching: searches;
 //! - rewriting: rewritings by themselves, and in sequences on one graph;
 //! - cleanups: sweeps and squeezes;
-//! - mixed: imports, rewritings, sweeps and squeezes in sequences on one graph.
+//! - readers: whether a stage is read elsewhere;
+//! - mixed: imports, rewritings, sweeps and squeezes in sequences on one graph, and
+//!   whether stages of each match are read elsewhere.
 //!
 //! The same seed gives the same calls. Exit status 0: no difference, enough
 //! calls were done, and everything that must be tried was; 1: otherwise; 2:
@@ -23,11 +25,15 @@ mod graph_fault_classes;
 mod import_classes;
 mod imports;
 mod look_classes;
+mod maps;
 mod matching;
 mod mixed;
 mod mixed_classes;
 mod namers;
 mod nearly;
+mod questions;
+mod reader_classes;
+mod readers;
 mod refusal_classes;
 mod rewriting;
 mod rewriting_classes;
@@ -37,6 +43,7 @@ mod sequences;
 mod squeeze_classes;
 mod sweep_classes;
 mod tally;
+mod unmatched_classes;
 
 use std::env;
 use std::process::ExitCode;
@@ -47,7 +54,7 @@ use tally::Tally;
 
 const DEFAULT_SEED: u64 = 1;
 const USAGE: &str =
-    "usage: compare [--seed S] [--calls N] checks|matching|rewriting|cleanups|mixed";
+    "usage: compare [--seed S] [--calls N] checks|matching|rewriting|cleanups|readers|mixed";
 
 /// What is compared.
 #[derive(Clone, Copy)]
@@ -57,11 +64,12 @@ struct Mode {
     default_calls: u64,
 }
 
-const MODES: [Mode; 5] = [
+const MODES: [Mode; 6] = [
     Mode { name: "checks", run: checks::run, default_calls: 1_250_000 },
     Mode { name: "matching", run: matching::run, default_calls: 300_000 },
     Mode { name: "rewriting", run: rewriting::run, default_calls: 300_000 },
     Mode { name: "cleanups", run: cleanups::run, default_calls: 300_000 },
+    Mode { name: "readers", run: readers::run, default_calls: 400_000 },
     Mode { name: "mixed", run: mixed::run, default_calls: 200_000 },
 ];
 

@@ -1,6 +1,6 @@
 //! One graph imported, and then rewritten, swept and squeezed in any order. Each
 //! call works on the table that the last one left, and all counts must be true
-//! after it.
+//! after it. About each match that comes up it is asked what is read elsewhere.
 
 use leafgraph_proved::guarded::{Guarded, SHIFTS};
 use leafgraph_reference::generate::sequence;
@@ -13,9 +13,10 @@ use leafgraph_reference::MAP_LENGTH;
 
 use crate::arguments::Arguments;
 use crate::cleanups::{Cleanup, Lent, SQUEEZE, SWEEP};
-use crate::imports;
 use crate::mixed_classes::{History, Operation, CLASSES};
+use crate::questions::Questions;
 use crate::tally::{Call, Tally, CHANGED};
+use crate::{imports, questions};
 
 /// What must be replied in some step; a cycle is left to the calls by
 /// themselves.
@@ -28,6 +29,7 @@ const LONGEST: usize = 16;
 pub fn run(random: &mut Random, calls: u64) -> Vec<Tally> {
     let name = "import, rewrite, sweep and squeeze in sequence";
     let mut tally = Tally::new(name, &NUMBERS, &CLASSES);
+    let mut asked = questions::tally();
     while tally.calls() < calls {
         let sequence = sequence(random);
         let of_version_1 = random.chance(50);
@@ -38,6 +40,7 @@ pub fn run(random: &mut Random, calls: u64) -> Vec<Tally> {
                 false => sequence.graph.block(),
             },
             rules: sequence.rules.iter().map(|rule| rule.block()).collect(),
+            questions: Questions::default(),
         };
         if of_version_1 {
             run.import(random, &mut tally);
@@ -46,8 +49,9 @@ pub fn run(random: &mut Random, calls: u64) -> Vec<Tally> {
             run.step(random, &mut tally);
         }
         run.history.count(&mut tally);
+        run.questions.ask_all(random, &mut asked);
     }
-    vec![tally]
+    vec![tally, asked]
 }
 
 /// A sequence under way.
@@ -55,6 +59,7 @@ struct Run {
     graph: Vec<u8>,
     rules: Vec<Vec<u8>>,
     history: History,
+    questions: Questions,
 }
 
 impl Run {
@@ -110,6 +115,9 @@ impl Run {
         let sound = Arguments::sound(random, "a rewriting", graph, block);
         let arguments = Arguments { start, ..sound };
         let images = arguments.least_match();
+        if let Some(images) = &images {
+            self.questions.note(&arguments.graph, &arguments.rule, images);
+        }
         let outcome = arguments.rewrite(random, tally);
         match outcome.reply {
             0 => self.take(Operation::Rewrite, outcome.graph),
@@ -165,7 +173,7 @@ impl Run {
     /// before the squeeze must be found by the library in the one after it, with
     /// every image in its new slot.
     fn search_after_squeeze(
-        &self,
+        &mut self,
         random: &mut Random,
         tally: &mut Tally,
         old: &[u8],
@@ -179,6 +187,7 @@ impl Run {
         let reference = leafgraph_reference::find_match(old, rule, 0, &mut expected);
         if reference == 0 {
             follow(&mut expected, moves);
+            self.questions.note(&self.graph, rule, &read_map(&expected));
         }
         let kept = graph.holds(&self.graph) && map.holds(&expected);
         tally.record(Call {
