@@ -15,7 +15,7 @@ use crate::tally::Class;
 /// An interior vertex is one that must be private, which a Const need not be; so the
 /// answer to it is always no. A source output is read by no source vertex, so that
 /// nothing at all names its image where the answer is no.
-const ANSWERS: [&str; 22] = [
+const ANSWERS: [&str; 23] = [
     "interior, no",
     "interior, no, in two places of one reader",
     "interior, no, several readers",
@@ -27,6 +27,7 @@ const ANSWERS: [&str; 22] = [
     "Const, yes",
     "Const, yes, in two places of one reader of the match",
     "yes, a count of two bytes",
+    "yes, 256 places outside",
     "first of two outputs, no",
     "first of two outputs, yes",
     "second of two outputs, no",
@@ -175,6 +176,7 @@ impl Answered<'_> {
                 is(Role::Const, true) && twice,
             ),
             ("yes, a count of two bytes", yes && self.count > 255),
+            ("yes, 256 places outside", self.count - inner_reads == 256),
         ]
     }
 

@@ -2,8 +2,11 @@
 //! other maps, of all vertices and of numbers that are none.
 
 use leafgraph_proved::guarded::{Guarded, SHIFTS};
-use leafgraph_reference::blocks::RuleParts;
-use leafgraph_reference::generate::{lawful_rules, rewriting_case, search_case};
+use leafgraph_reference::blocks::{tuple, RuleParts};
+use leafgraph_reference::generate::{lawful_rules, rewriting_case, search_case, Case};
+use leafgraph_reference::graph::MAX_SLOTS;
+use leafgraph_reference::matching::{read_map, Images};
+use leafgraph_reference::operators::{EMPTY, PLACES};
 use leafgraph_reference::random::Random;
 use leafgraph_reference::reply::number_of;
 use leafgraph_reference::rule::MAX_VERTICES;
@@ -20,6 +23,8 @@ const NUMBERS: [u8; 14] = [0, 1, 20, 21, 22, 23, 24, 30, 31, 32, 33, 34, 41, 42]
 
 /// In so many of a hundred cases the rule is replaced once the map is made.
 const ANOTHER_RULE: usize = 6;
+/// In so many of a hundred cases a stage gets many readers.
+const CROWDED: usize = 1;
 
 /// The arguments of a call.
 pub struct Question<'a> {
@@ -51,6 +56,9 @@ fn ask_about_case(random: &mut Random, tally: &mut Tally) {
         case.rule = lawful_rules().swap_remove(random.below(lawful_rules().len()));
     }
     let asked = [(); 2].map(|()| any_vertex(random, &case.rule));
+    if random.chance(CROWDED) {
+        crowd(&mut case, &read_map(&map), asked[0]);
+    }
     let damaged = Arguments::damaged(random, change, case);
     if damaged.origin != change {
         origin = damaged.origin;
@@ -63,6 +71,26 @@ fn ask_about_case(random: &mut Random, tally: &mut Tally) {
         if number_of(reply) != 0 {
             return;
         }
+    }
+}
+
+/// Lets new vertices read the image of this vertex, if there is room, until 256 places
+/// name it beside the match's own: the low byte of its count is a private stage's.
+fn crowd(case: &mut Case, images: &Images, vertex: usize) {
+    let counts = case.graph.counts();
+    let slot = images.get(vertex).copied().filter(|&slot| usize::from(slot) < counts.len());
+    let Some(slot) = slot else {
+        return;
+    };
+    let inputs = case.rule.source.iter().flat_map(|pattern| &pattern.inputs);
+    let inside = inputs.filter(|&&input| usize::from(input) == vertex).count();
+    let missing = (256 + inside).saturating_sub(counts[usize::from(slot)].into());
+    let places = vec![slot; missing];
+    let readers = places.chunks(PLACES).map(tuple);
+    if case.graph.slots[usize::from(slot)].kind != EMPTY
+        && readers.len() + counts.len() <= MAX_SLOTS
+    {
+        case.graph.slots.extend(readers);
     }
 }
 
