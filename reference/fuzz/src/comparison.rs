@@ -3,6 +3,8 @@
 use std::fmt;
 
 use leafgraph_proved::guarded::Guarded;
+use leafgraph_reference::reply::number_of;
+use leafgraph_reference::rule::Rule;
 
 use crate::input::Input;
 use crate::judgement::{Cleaned, Imported, Rewriting};
@@ -43,12 +45,14 @@ pub fn compare(library: &Library, bytes: &[u8], tally: &mut Tally) -> Result<(),
 }
 
 impl Input {
-    /// All seven calls, and further rewritings of the graph if the input asks for
-    /// them. Then the graph that is left is swept, squeezed and rewritten once more.
+    /// All eight calls, and questions about the match where there is one; further
+    /// rewritings of the graph if the input asks for them. Then the graph that is left
+    /// is swept, squeezed and rewritten once more.
     fn compare_all(mut self, library: &Library, tally: &mut Tally) -> Result<(), Difference> {
         for operation in OPERATIONS.into_iter().filter(|&one| one != Operation::Rewrite) {
             self.compare(library, operation, 0, tally)?;
         }
+        self.compare_questions(library, tally)?;
         for step in 0..=self.further {
             match self.compare(library, Operation::Rewrite, step, tally)? {
                 Some(graph) => self.graph = graph,
@@ -59,6 +63,24 @@ impl Input {
             if let Some(graph) = self.compare(library, operation, step, tally)? {
                 self.graph = graph;
             }
+        }
+        Ok(())
+    }
+
+    /// Whether each vertex of the match that a search finds is read elsewhere, and the
+    /// vertex of the input's own number.
+    fn compare_questions(&self, library: &Library, tally: &mut Tally) -> Result<(), Difference> {
+        let found = self.expected(Operation::FindMatch);
+        let Ok(rule) = Rule::parse(&self.rule) else {
+            return Ok(());
+        };
+        if found.reply != 0 {
+            return Ok(());
+        }
+        let mut asked = Input { map: found.map, ..self.clone() };
+        for vertex in (0..rule.source_count()).chain([self.start]) {
+            asked.start = vertex;
+            asked.compare(library, Operation::IsReadElsewhere, 0, tally)?;
         }
         Ok(())
     }
@@ -99,7 +121,10 @@ impl Input {
                 Cleaned { old, new, list }.faults(library, self.seed)
             }
             Operation::Import => Imported { old, new }.faults(library),
-            Operation::CheckGraph | Operation::CheckRule | Operation::FindMatch => vec![],
+            Operation::CheckGraph
+            | Operation::CheckRule
+            | Operation::FindMatch
+            | Operation::IsReadElsewhere => vec![],
         }
     }
 
@@ -141,7 +166,7 @@ impl Input {
             let hex: String = block.iter().map(|byte| format!("{byte:02x}")).collect();
             format!("  {name} before, {} bytes: {hex}\n", block.len())
         });
-        format!("  start {}\n{}", self.start, blocks.concat())
+        format!("  start or vertex {}\n{}", self.start, blocks.concat())
     }
 }
 
@@ -184,7 +209,7 @@ impl Call {
                 first_difference(lent.bytes(), expected)
                     .map(|at| format!("{name} after, {at}; the library's byte stands first")),
             );
-            if self.reply != 0 && lent.bytes() != before {
+            if number_of(self.reply) != 0 && lent.bytes() != before {
                 faults.push(format!("the library refuses, and has written the {name}"));
             }
         }

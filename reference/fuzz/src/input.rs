@@ -3,17 +3,18 @@
 //! | Bytes | What |
 //! |---|---|
 //! | 0 | repairs, a bit each |
-//! | 1 | map length; the list is by as many bytes longer or shorter than 2N as the map is than 32 |
+//! | 1 | map length; the list is by as many bytes longer or shorter than 2N as this is than 32 |
 //! | 2 | the first byte of the map and of the list before the call; each further one is one more |
 //! | 3 | bits 0-1 further rewritings after an accepted one; bits 2-4 and 5-7 by how many bytes graph and rule are shifted in memory |
-//! | 4-11 | start, little-endian |
+//! | 4-11 | start, and the vertex that is asked about, little-endian |
 //! | 12-13 | little-endian: bits 0-14 graph length, at most all that follow; bit 15 one more repair, of counts |
 //! | 14- | the graph block, then the rule block up to the end |
 //!
 //! Bytes 0 to 13 that are missing count as 0. No field names an operation: all
-//! seven are called with each input, and once more with the same graph in the
+//! eight are called with each input, and once more with the same graph in the
 //! other version, where it is one of version 1 or 2. N is what the graph block's
-//! bytes 6-7 say, 0 where there are none, and 512 where they say more.
+//! bytes 6-7 say, 0 where there are none, and 512 where they say more. Where a search
+//! finds a match, every vertex of it is asked about, too.
 //!
 //! With all bits of byte 0 and bit 15 of bytes 12-13 off any bytes whatever reach
 //! the library. A block that has been mutated would mostly fail at its lengths,
@@ -22,8 +23,8 @@
 //!
 //! | Bit | Repair |
 //! |---|---|
-//! | 0 | the rule begins at the first mark `LGR`, whatever the graph length says: bytes may be put in or taken out of either block |
-//! | 1 | the map is 32 bytes long, and the list 2N |
+//! | 0 | the rule begins at the first mark `LGR`, whatever the graph length says: bytes may be put in or taken out of either block. Where a mark `LGM` follows, the rule ends there, and the bytes behind it are the map before the call |
+//! | 1 | the map is 32 bytes long, cut or filled up with 255 where it is given, and the list 2N |
 //! | 2 | the start is taken modulo 600, a little more than the most slots |
 //! | 3 | the graph's length: N by the bytes there are, no part of a record |
 //! | 4 | the graph's outputs and records: counts by kind and operator, unused places and bytes, inputs and outputs below N; a named Empty slot becomes a Variable |
@@ -54,6 +55,8 @@ pub const RULE_RECORDS: u8 = 1 << 7;
 /// The bytes before the blocks.
 const CONTROL: usize = 14;
 const RULE_MARK: &[u8] = b"LGR";
+/// No block has this mark: it only says where an input's map begins.
+const MAP_MARK: &[u8] = b"LGM";
 const STARTS: u64 = 600;
 /// In the 16 bits of the graph length, what says that counts are repaired.
 const COUNTS: u16 = 1 << 15;
@@ -75,6 +78,7 @@ pub struct Control {
 pub struct Input {
     pub graph: Vec<u8>,
     pub rule: Vec<u8>,
+    /// Where a search starts, and the vertex that is asked about.
     pub start: usize,
     pub map: Vec<u8>,
     pub list: Vec<u8>,
@@ -100,17 +104,42 @@ impl Control {
         bytes
     }
 
+    /// An input of these blocks with this map. Without the cut at marks, the rule would
+    /// take it for its own end.
+    pub fn input_bytes_with_map(&self, graph: &[u8], rule: &[u8], map: &[u8]) -> Vec<u8> {
+        [&self.input_bytes(graph, rule), MAP_MARK, map].concat()
+    }
+
     fn repairs(&self, what: u8) -> bool {
         self.repairs & what != 0
     }
 
     /// Where the graph ends and the rule begins.
     fn cut(&self, blocks: &[u8], graph_length: u16) -> usize {
-        let mark = match self.repairs(CUT_AT_MARK) {
-            true => blocks.windows(RULE_MARK.len()).position(|bytes| bytes == RULE_MARK),
-            false => None,
-        };
+        let mark = self.position_of(RULE_MARK, blocks);
         mark.unwrap_or(usize::from(graph_length).min(blocks.len()))
+    }
+
+    /// Where this mark stands first, if marks are looked for.
+    fn position_of(&self, mark: &[u8], bytes: &[u8]) -> Option<usize> {
+        match self.repairs(CUT_AT_MARK) {
+            true => bytes.windows(mark.len()).position(|part| part == mark),
+            false => None,
+        }
+    }
+
+    /// The rule's bytes, and the map before the call.
+    fn cut_map(&self, rule: &[u8]) -> (Vec<u8>, Vec<u8>) {
+        match self.position_of(MAP_MARK, rule) {
+            Some(at) => {
+                let mut map = rule[at + MAP_MARK.len()..].to_vec();
+                if self.repairs(MAP) {
+                    map.resize(MAP_LENGTH, 255);
+                }
+                (rule[..at].to_vec(), map)
+            }
+            None => (rule.to_vec(), self.counting(self.map_length())),
+        }
     }
 
     fn repair_blocks(&self, graph: &mut Vec<u8>, rule: &mut Vec<u8>) {
@@ -168,11 +197,11 @@ impl Input {
         let counts = length & COUNTS != 0;
         let control = Control { repairs, counts, map_length, map_byte, steps_and_shifts, start };
         let (graph, rule) = blocks.split_at(control.cut(blocks, length & !COUNTS));
-        let (mut graph, mut rule) = (graph.to_vec(), rule.to_vec());
+        let (mut graph, (mut rule, map)) = (graph.to_vec(), control.cut_map(rule));
         control.repair_blocks(&mut graph, &mut rule);
         let (bits, shift) = (usize::from(steps_and_shifts), usize::from(map_byte));
         Input {
-            map: control.counting(control.map_length()),
+            map,
             list: control.counting(control.list_length(&graph)),
             graph,
             rule,

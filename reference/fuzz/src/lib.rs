@@ -1,4 +1,4 @@
-//! The fuzz target. Any bytes are cut into the arguments of the seven
+//! The fuzz target. Any bytes are cut into the arguments of the eight
 //! operations (`input` has the layout); the proved library is called with them
 //! through its C entry points and the second program beside it, and all that
 //! comes back must be the same.
@@ -13,5 +13,6 @@ pub mod fault_examples;
 pub mod input;
 pub mod judgement;
 pub mod library;
+pub mod question_examples;
 pub mod repair;
 pub mod tally;

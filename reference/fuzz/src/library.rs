@@ -1,6 +1,7 @@
-//! The seven operations, of either program.
+//! The eight operations, of either program.
 
-/// One of document 01's four operations, of request 4/13's two, or request 5/13's.
+/// One of document 01's four operations, of request 4/13's two, or request 5/13's or
+/// 6/13's.
 #[derive(Clone, Copy, Debug, PartialEq, Eq)]
 pub enum Operation {
     CheckGraph,
@@ -10,9 +11,10 @@ pub enum Operation {
     Sweep,
     Squeeze,
     Import,
+    IsReadElsewhere,
 }
 
-pub const OPERATIONS: [Operation; 7] = [
+pub const OPERATIONS: [Operation; 8] = [
     Operation::CheckGraph,
     Operation::CheckRule,
     Operation::FindMatch,
@@ -20,6 +22,7 @@ pub const OPERATIONS: [Operation; 7] = [
     Operation::Sweep,
     Operation::Squeeze,
     Operation::Import,
+    Operation::IsReadElsewhere,
 ];
 
 impl Operation {
@@ -32,6 +35,7 @@ impl Operation {
             Operation::Sweep => "lg_sweep",
             Operation::Squeeze => "lg_squeeze",
             Operation::Import => "lg_import",
+            Operation::IsReadElsewhere => "lg_is_read_elsewhere",
         }
     }
 
@@ -44,7 +48,8 @@ impl Operation {
     /// "Checking a graph gives 0 or 2, a rule 0 or 3, matching 0 to 4,
     /// rewriting 0 to 7", where "20 to 23 replace 2 and 30 to 34 replace 3"; sweep
     /// and squeeze "bad graph as before, then 40", which is the squeeze's alone.
-    /// "A wrong count is 24", and version 1 has none.
+    /// "A wrong count is 24", and version 1 has none. The question has "1, the graph
+    /// and rule ones, then 41 [...], 42".
     pub fn numbers(self) -> &'static [u8] {
         match self {
             Operation::CheckGraph | Operation::Sweep => &[0, 20, 21, 22, 23, 24],
@@ -53,11 +58,12 @@ impl Operation {
             Operation::Rewrite => &[0, 1, 20, 21, 22, 23, 24, 30, 31, 32, 33, 34, 4, 5, 6, 7],
             Operation::Squeeze => &[0, 20, 21, 22, 23, 24, 40],
             Operation::Import => &[0, 20, 21, 22, 23],
+            Operation::IsReadElsewhere => &[0, 1, 20, 21, 22, 23, 24, 30, 31, 32, 33, 34, 41, 42],
         }
     }
 }
 
-/// What one program has for the seven operations. A test puts a wrong program
+/// What one program has for the eight operations. A test puts a wrong program
 /// here to see that the comparison notices.
 #[derive(Clone, Copy)]
 pub struct Library {
@@ -68,6 +74,7 @@ pub struct Library {
     pub sweep: fn(&mut [u8]) -> u64,
     pub squeeze: fn(&mut [u8], &mut [u8]) -> u64,
     pub import: fn(&mut [u8]) -> u64,
+    pub is_read_elsewhere: fn(&[u8], &[u8], &[u8], usize) -> u64,
 }
 
 /// The proved library, through its C entry points.
@@ -79,6 +86,7 @@ pub const PROVED: Library = Library {
     sweep: leafgraph_proved::sweep,
     squeeze: leafgraph_proved::squeeze,
     import: leafgraph_proved::import,
+    is_read_elsewhere: leafgraph_proved::is_read_elsewhere,
 };
 
 /// The second program.
@@ -90,6 +98,7 @@ pub const SECOND: Library = Library {
     sweep: leafgraph_reference::sweep,
     squeeze: leafgraph_reference::squeeze,
     import: leafgraph_reference::import,
+    is_read_elsewhere: leafgraph_reference::is_read_elsewhere,
 };
 
 /// What a call is lent, each part of it in bytes that may be written.
@@ -101,17 +110,19 @@ pub struct Lent<'a> {
 }
 
 impl Library {
-    /// Calls one operation with those of these that it takes.
-    pub fn call(&self, operation: Operation, lent: Lent, start: usize) -> u64 {
+    /// Calls one operation with those of these that it takes. The number is where a
+    /// search starts, or a vertex.
+    pub fn call(&self, operation: Operation, lent: Lent, number: usize) -> u64 {
         let Lent { graph, rule, map, list } = lent;
         match operation {
             Operation::CheckGraph => (self.check_graph)(graph),
             Operation::CheckRule => (self.check_rule)(rule),
-            Operation::FindMatch => (self.find_match)(graph, rule, start, map),
-            Operation::Rewrite => (self.rewrite)(graph, rule, start, map),
+            Operation::FindMatch => (self.find_match)(graph, rule, number, map),
+            Operation::Rewrite => (self.rewrite)(graph, rule, number, map),
             Operation::Sweep => (self.sweep)(graph),
             Operation::Squeeze => (self.squeeze)(graph, list),
             Operation::Import => (self.import)(graph),
+            Operation::IsReadElsewhere => (self.is_read_elsewhere)(graph, rule, map, number),
         }
     }
 }

@@ -58,7 +58,7 @@ impl Tally {
             let calls: u64 = counts.iter().sum();
             writeln!(
                 text,
-                "  {:14}  {calls} calls, replies {}",
+                "  {:20}  {calls} calls, replies {}",
                 operation.name(),
                 given.join(", ")
             )

@@ -1,7 +1,7 @@
 //! Writes the inputs that fuzzing starts from into a folder, as files whose
 //! names begin with `seed-`: document 01's examples, matched Consts that stay
 //! or go, every kind of fault, small random cases of every reply, graphs to sweep
-//! and to squeeze, and blocks to import. The same files each time.
+//! and to squeeze, blocks to import, and maps to ask about. The same files each time.
 //!
 //!     fuzz_seeds FOLDER [CASES]
 //!
@@ -21,6 +21,7 @@ use leafgraph_fuzz::input::{
     Control, CUT_AT_MARK, GRAPH_LENGTH, GRAPH_RECORDS, LOWER_INPUTS, MAP, RULE_LENGTH,
     RULE_RECORDS, START,
 };
+use leafgraph_fuzz::question_examples::question_examples;
 use leafgraph_reference::blocks::{
     add, any_node, call, call_pattern, chain, constant, constant_node, constant_sum,
     dropped_constant, e1, empty, operation_node, p10_graph, p10_rule, p7_graph, p7_rule, p8_graph,
@@ -76,6 +77,7 @@ fn main() -> ExitCode {
     seeds.add_others(cases);
     seeds.add_cleanups(cases);
     seeds.add_imports(cases);
+    seeds.add_questions(cases);
     match seeds.write(Path::new(folder)) {
         Ok(()) => ExitCode::SUCCESS,
         Err(error) => {
@@ -93,8 +95,12 @@ struct Seeds {
 
 impl Seeds {
     fn add(&mut self, name: &str, control: Control, graph: &[u8], rule: &[u8]) {
+        self.add_bytes(name, control.input_bytes(graph, rule));
+    }
+
+    fn add_bytes(&mut self, name: &str, bytes: Vec<u8>) {
         let name = format!("seed-{:03}-{name}", self.files.len());
-        self.files.insert(name, control.input_bytes(graph, rule));
+        self.files.insert(name, bytes);
     }
 
     /// With these repairs, a map of the right length and a few further steps.
@@ -280,6 +286,33 @@ impl Seeds {
                 let control = self.control(MAP, 0);
                 self.add(&format!("import-{number}"), control, &block, &rule);
             }
+        }
+    }
+
+    /// The examples, and random matches of which one vertex is asked for, with one place
+    /// changed in every second. No map is repaired.
+    fn add_questions(&mut self, cases: usize) {
+        for example in question_examples() {
+            let control = self.control(LENGTHS & !MAP | RECORDS, example.vertex);
+            let (graph, rule) = (example.graph.block(), example.rule.block());
+            let bytes = control.input_bytes_with_map(&graph, &rule, &example.map());
+            self.add_bytes(&format!("question-{}", example.name), bytes);
+        }
+        let mut left = 2 * cases;
+        while left > 0 {
+            let (_, Case { graph, rule, .. }) = search_case(&mut self.random);
+            let (graph, block, mut map) = (graph.block(), rule.block(), [0; MAP_LENGTH]);
+            let found = find_match(&graph, &block, 0, &mut map) == 0;
+            if !found || graph.len() + block.len() > LONGEST {
+                continue;
+            }
+            if left.is_multiple_of(2) {
+                map[2 * self.random.below(rule.source.len())] ^= 1;
+            }
+            left -= 1;
+            let vertex = self.random.below(rule.source.len());
+            let control = self.control(LENGTHS & !MAP | RECORDS, vertex);
+            self.add_bytes("question", control.input_bytes_with_map(&graph, &block, &map));
         }
     }
 
