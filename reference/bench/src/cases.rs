@@ -1,13 +1,17 @@
 //! What is timed: searches that have to look at everything or, to compare with,
 //! at nothing, rewritings at the end of such a search, sweeps and squeezes that
-//! change everything or nothing, imports, and the checks.
+//! change everything or nothing, imports, questions whether a stage is read
+//! elsewhere, and the checks.
 
 use std::hint::black_box;
 
 use leafgraph_reference::blocks::{
     chain, dropped_constant, p7_rule, reversed_chain, rr, GraphParts, RuleParts,
 };
-use leafgraph_reference::reply::{refuse_at, reply_of, DONE, GRAPH_CYCLE};
+use leafgraph_reference::graph::UNUSED;
+use leafgraph_reference::matching::write_map;
+use leafgraph_reference::reply::{refuse_at, reply_of, DONE, GRAPH_CYCLE, YES};
+use leafgraph_reference::rule::MAX_VERTICES;
 use leafgraph_reference::MAP_LENGTH;
 
 use crate::graphs::{
@@ -16,7 +20,8 @@ use crate::graphs::{
     side_by_side, two_relus,
 };
 
-/// What a call leaves; only searches and rewritings write the map.
+/// What a call leaves; only searches and rewritings write the map, and questions are
+/// given one.
 #[derive(Debug, PartialEq, Eq)]
 pub struct Answer {
     pub reply: u64,
@@ -40,6 +45,8 @@ pub struct Case {
 const SIZES: [u16; 6] = [16, 32, 64, 128, 256, 512];
 const FOUND: u64 = DONE;
 const NONE: u64 = 4;
+const NOT_A_MATCH: u64 = 41;
+const NO_SUCH_VERTEX: u64 = 42;
 
 /// The graph of a row by its number of slots, and the row's rule.
 type Graph = fn(u16) -> GraphParts;
@@ -137,6 +144,35 @@ const IMPORTS: [(&str, Graph); 3] = [
     ("import: one slot in all places", crowded),
 ];
 
+/// The images in a graph of so many slots, and a vertex to ask about.
+type Images = fn(u16) -> Vec<u16>;
+type Asked = (Images, usize);
+
+/// The first three have the same blocks: the second does all that the first does but
+/// to answer, and the third has a map that is refused at the first output's image. So
+/// they tell what the answer takes, and what the test of the map takes.
+const QUESTIONS: [(&str, u64, Graph, Rule, Asked); 4] = [
+    ("read elsewhere: answered", YES, chain, rr, (last_of_chain, 2)),
+    ("read elsewhere: no such vertex", NO_SUCH_VERTEX, chain, rr, (last_of_chain, 3)),
+    ("read elsewhere: no match", NOT_A_MATCH, chain, rr, (past_chain, 2)),
+    ("read elsewhere: 2 outputs", YES, |slots| pairs(slots, true), p7_rule, (last_pair, 1)),
+];
+
+/// RR's last match in a chain.
+fn last_of_chain(slots: u16) -> Vec<u16> {
+    vec![slots - 3, slots - 2, slots - 1]
+}
+
+/// The same but for the output, which names no slot.
+fn past_chain(slots: u16) -> Vec<u16> {
+    vec![slots - 3, slots - 2, slots]
+}
+
+/// The one match of P7's rule in `pairs`.
+fn last_pair(slots: u16) -> Vec<u16> {
+    vec![1, slots - 1, 0, slots - 2]
+}
+
 /// add(x, a Const) becomes relu(x).
 fn const_dropped() -> RuleParts {
     dropped_constant(1)
@@ -179,6 +215,14 @@ pub fn imports() -> Vec<Case> {
     IMPORTS.into_iter().flat_map(of_all_sizes).collect()
 }
 
+pub fn questions() -> Vec<Case> {
+    let of_all_sizes =
+        |(name, reply, graph, rule, (images, vertex)): (_, _, Graph, Rule, Asked)| {
+            SIZES.map(|slots| question(name, reply, graph(slots), rule(), (images(slots), vertex)))
+        };
+    QUESTIONS.into_iter().flat_map(of_all_sizes).collect()
+}
+
 pub fn checks() -> Vec<Case> {
     let of_all_sizes = |(name, graph, reply): (_, Graph, Reply)| {
         SIZES.map(|slots| check_graph(name, slots, graph(slots), reply(slots)))
@@ -218,6 +262,35 @@ fn search(
         reply,
         proved: program(leafgraph_proved::find_match),
         second: program(leafgraph_reference::find_match),
+    }
+}
+
+type IsReadElsewhere = fn(&[u8], &[u8], &[u8], usize) -> u64;
+
+fn question(
+    name: &'static str,
+    reply: u64,
+    graph: GraphParts,
+    rule: RuleParts,
+    (mut images, vertex): (Vec<u16>, usize),
+) -> Case {
+    images.resize(MAX_VERTICES, UNUSED);
+    let mut map = [0; MAP_LENGTH];
+    write_map(&mut map, &images.try_into().expect("as many as a map has"));
+    let program = |is_read_elsewhere: IsReadElsewhere| -> Program {
+        let (graph, rule) = (graph.block(), rule.block());
+        Box::new(move |_| {
+            let (graph, rule) = (black_box(&graph), black_box(&rule));
+            let reply = is_read_elsewhere(graph, rule, black_box(&map), black_box(vertex));
+            Answer { reply, map }
+        })
+    };
+    Case {
+        name,
+        slots: Some(graph.slots.len()),
+        reply,
+        proved: program(leafgraph_proved::is_read_elsewhere),
+        second: program(leafgraph_reference::is_read_elsewhere),
     }
 }
 

@@ -16,7 +16,7 @@ mod timing;
 use std::path::PathBuf;
 use std::process::exit;
 
-use cases::{checks, cleanups, imports, rewritings, searches, Case};
+use cases::{checks, cleanups, imports, questions, rewritings, searches, Case};
 use report::{print_table, write_csv, Row};
 use timing::best_of_each;
 
@@ -51,7 +51,7 @@ fn csv_file() -> Option<PathBuf> {
 
 /// All rows, each with the best of all passes.
 fn timed() -> Vec<Row> {
-    let cases = [checks(), searches(), rewritings(), cleanups(), imports()];
+    let cases = [checks(), searches(), rewritings(), cleanups(), imports(), questions()];
     let cases: Vec<Case> = cases.into_iter().flatten().collect();
     let mut rows: Vec<Row> = cases.iter().map(first_row).collect();
     for pass in 1..=PASSES {
