@@ -15,7 +15,7 @@ use crate::tally::Tally;
 /// Every class must occur, and is counted once for a sequence.
 const CLASSES: [&str; 3] = ["no", "yes", "yes, and no to the same later"];
 
-/// What must be replied: a match is asked about, and sometimes a rule input.
+/// What must be replied: to all source vertices of a match, rule inputs too.
 const NUMBERS: [u8; 2] = [0, 42];
 
 pub fn tally() -> Tally {

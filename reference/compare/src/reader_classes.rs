@@ -3,7 +3,7 @@
 
 use leafgraph_reference::graph::{Graph, MAX_SLOTS};
 use leafgraph_reference::matching::{least_match, read_map, Images};
-use leafgraph_reference::operators::{CONST, VARIABLE};
+use leafgraph_reference::operators::{CONST, VARIABLE, WILDCARD};
 use leafgraph_reference::reply::{number_of, value_of};
 use leafgraph_reference::rule::{Rule, MAX_VERTICES};
 
@@ -112,7 +112,7 @@ fn no_vertex(rule: Rule, number: usize) -> Vec<Class> {
         number > low && low < sources && !rule.source(low).is_input_kind()
     };
     let holds = [
-        kind(0),
+        kind(WILDCARD),
         kind(VARIABLE),
         number == sources,
         (sources + 1..MAX_VERTICES).contains(&number),

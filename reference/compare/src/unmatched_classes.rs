@@ -3,7 +3,6 @@
 use leafgraph_reference::graph::{Graph, Version, UNUSED};
 use leafgraph_reference::match_check::Clause;
 use leafgraph_reference::matching::{read_map, Images};
-use leafgraph_reference::operators::CONST;
 use leafgraph_reference::readers::Mapped;
 use leafgraph_reference::reply::number_of;
 use leafgraph_reference::rule::{Rule, MAX_VERTICES};
@@ -55,10 +54,8 @@ pub fn unmatched(question: &Question) -> Vec<Class> {
     };
     let images = &read_map(question.map);
     let asked = question.vertex;
-    let unmatched = Unmatched {
-        mapped: Mapped { graph, rule, images },
-        broken: Mapped { graph, rule, images }.broken_clauses().collect(),
-    };
+    let mapped = Mapped { graph, rule, images };
+    let unmatched = Unmatched { mapped, broken: mapped.broken_clauses().collect() };
     let beside = vec![
         ("41, several clauses", unmatched.broken.len() > 1),
         ("41, a rule input", asked < MAX_VERTICES && rule.is_rule_input(asked as u8)),
@@ -144,13 +141,9 @@ impl Unmatched<'_> {
         }
         let Mapped { graph, rule, images } = self.mapped;
         let looked_at = Match::new(graph, rule, images);
-        let is_output = |vertex: u8| rule.source_outputs().any(|output| output == vertex);
-        let interior = (0..rule.source_count()).filter(|&vertex| {
-            let pattern = rule.source(vertex);
-            !pattern.is_input_kind() && pattern.kind() != CONST && !is_output(vertex as u8)
-        });
+        let interior = self.mapped.interior_images();
         let namers: Vec<Namer> =
-            interior.flat_map(|vertex| looked_at.naming(images[vertex]).outside).collect();
+            interior.flat_map(|image| looked_at.naming(image).outside).collect();
         let only = |namer: Namer| namers.iter().all(|&one| one == namer);
         vec![
             ("41, an interior image as graph output alone", only(Namer::Output)),
@@ -170,22 +163,19 @@ impl Unmatched<'_> {
 /// The classes of a question that was refused for its map's length or for a block.
 pub fn refused(question: &Question, reply: u64) -> Vec<Class> {
     let number = number_of(reply);
-    match number {
-        1 => wrong_length(question),
-        _ => {
-            let (graph, rule) = (number < 30, number >= 30);
-            let nowhere = question.map.iter().all(|&byte| byte == 255);
-            let past = question.vertex >= MAX_VERTICES;
-            let mut classes = vec![
-                ("a bad graph, and no slot in the map", graph && nowhere),
-                ("a bad graph, and a vertex past the map", graph && past),
-                ("a bad rule, and no slot in the map", rule && nowhere),
-                ("a bad rule, and a vertex past the map", rule && past),
-            ];
-            classes.extend(otherwise(question, number));
-            classes
-        }
+    if number == 1 {
+        return wrong_length(question);
     }
+    let (graph, rule) = (number < 30, number >= 30);
+    let nowhere = question.map.iter().all(|&byte| byte == 255);
+    let past = question.vertex >= MAX_VERTICES;
+    let classes = vec![
+        ("a bad graph, and no slot in the map", graph && nowhere),
+        ("a bad graph, and a vertex past the map", graph && past),
+        ("a bad rule, and no slot in the map", rule && nowhere),
+        ("a bad rule, and a vertex past the map", rule && past),
+    ];
+    [classes, otherwise(question, number)].concat()
 }
 
 /// What would be replied to a map of the right length.

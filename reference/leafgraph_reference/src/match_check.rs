@@ -61,7 +61,7 @@ impl<'a> Mapped<'a> {
                 .all(|(pattern, slot)| pattern.is_wildcard() || pattern.head() == slot.head()),
             Clause::Attributes => self.attributes_agree(),
             Clause::Inputs => self.mapped().all(|(pattern, slot)| self.reads_images(pattern, slot)),
-            Clause::Interior => self.interior_is_private(),
+            Clause::Interior => self.interior_images().all(|image| !self.is_read_elsewhere(image)),
         }
     }
 
@@ -90,14 +90,14 @@ impl<'a> Mapped<'a> {
         pattern.is_wildcard() || slot.inputs().eq(images)
     }
 
-    fn interior_is_private(self) -> bool {
-        let is_output = |vertex: u8| self.rule.source_outputs().any(|output| output == vertex);
-        let is_interior = |vertex: u8, pattern: Pattern| {
+    /// The interior images that must be private: those of "neither rule input nor source
+    /// output", and of no Const.
+    pub fn interior_images(self) -> impl Iterator<Item = u16> + 'a {
+        let is_output = move |vertex: u8| self.rule.source_outputs().any(|output| output == vertex);
+        let vertices = (0..).zip(self.rule.sources().zip(self.images));
+        let interior = vertices.filter(move |&(vertex, (pattern, _))| {
             !pattern.is_input_kind() && !is_output(vertex) && pattern.kind() != CONST
-        };
-        let mut vertices = (0..).zip(self.rule.sources().zip(self.images));
-        vertices.all(|(vertex, (pattern, &image))| {
-            !is_interior(vertex, pattern) || !self.is_read_elsewhere(image)
-        })
+        });
+        interior.map(|(_, (_, &image))| image)
     }
 }

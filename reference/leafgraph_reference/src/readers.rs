@@ -23,7 +23,7 @@ impl<'a> Mapped<'a> {
     }
 
     /// The slots that read this one, each once.
-    pub fn readers_of(self, slot: u16) -> impl Iterator<Item = u16> + 'a {
+    fn readers_of(self, slot: u16) -> impl Iterator<Item = u16> + 'a {
         let slots = self.graph.slots().zip(0..);
         slots
             .filter(move |(reader, _)| reader.inputs().any(|input| input == slot))
