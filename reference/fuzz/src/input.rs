@@ -16,10 +16,10 @@
 //! bytes 6-7 say, 0 where there are none, and 512 where they say more. Where a search
 //! finds a match, every vertex of it is asked about, too.
 //!
-//! With all bits of byte 0 and bit 15 of bytes 12-13 off any bytes whatever reach
-//! the library. A block that has been mutated would mostly fail at its lengths,
-//! though, and never get further; so each bit repairs one thing that byte mutations
-//! break:
+//! With all bits of byte 0 and bit 15 of bytes 12-13 off any graph and rule whatever
+//! reach the library, and with bit 0 alone any map. A block that has been mutated
+//! would mostly fail at its lengths, though, and never get further; so each bit
+//! repairs one thing that byte mutations break:
 //!
 //! | Bit | Repair |
 //! |---|---|
