@@ -16,8 +16,8 @@ use leafgraph_reference::MAP_LENGTH;
 
 use crate::graphs::{
     chain_with_gaps, crowded, dead_chain, double_relus, first_double_relu, gain_and_mean,
-    gains_and_means, hanging_from_cycle, in_a_chain, leading_to_cycle, pairs, shared_const,
-    side_by_side, two_relus,
+    gains_and_means, hanging_from_cycle, in_a_chain, leading_to_cycle, most_places, nested_tuples,
+    pairs, shared_const, side_by_side, two_relus,
 };
 
 /// What a call leaves; only searches and rewritings write the map, and questions are
@@ -150,12 +150,21 @@ type Asked = (Images, usize);
 
 /// The first three have the same blocks: the second does all that the first does but
 /// to answer, and the third has a map that is refused at the first output's image. So
-/// they tell what the answer takes, and what the test of the map takes.
-const QUESTIONS: [(&str, u64, Graph, Rule, Asked); 4] = [
+/// they tell what the answer takes, and what the test of the map takes. The last two do
+/// so for the answer alone, with a rule that has as many places to count as a rule can.
+const QUESTIONS: [(&str, u64, Graph, Rule, Asked); 6] = [
     ("read elsewhere: answered", YES, chain, rr, (last_of_chain, 2)),
     ("read elsewhere: no such vertex", NO_SUCH_VERTEX, chain, rr, (last_of_chain, 3)),
     ("read elsewhere: no match", NOT_A_MATCH, chain, rr, (past_chain, 2)),
     ("read elsewhere: 2 outputs", YES, |slots| pairs(slots, true), p7_rule, (last_pair, 1)),
+    ("read elsewhere: most places", DONE, nested_tuples, most_places, (first_slots, 1)),
+    (
+        "read elsewhere: most places, no such vertex",
+        NO_SUCH_VERTEX,
+        nested_tuples,
+        most_places,
+        (first_slots, 16),
+    ),
 ];
 
 /// RR's last match in a chain.
@@ -166,6 +175,11 @@ fn last_of_chain(slots: u16) -> Vec<u16> {
 /// The same but for the output, which names no slot.
 fn past_chain(slots: u16) -> Vec<u16> {
     vec![slots - 3, slots - 2, slots]
+}
+
+/// As many as a rule can have, in order.
+fn first_slots(_: u16) -> Vec<u16> {
+    (0..MAX_VERTICES as u16).collect()
 }
 
 /// The one match of P7's rule in `pairs`.

@@ -2,12 +2,12 @@
 //! second program's own examples.
 
 use leafgraph_reference::blocks::{
-    access_node, add, any_node, call, call_pattern, chain, constant, empty, operation_node, relu,
-    target_place, tuple, variable, wildcard, GraphParts, RuleParts, Vertex,
+    access_node, add, any_node, call, call_pattern, chain, constant, empty, operation_node,
+    pattern, relu, target_place, tuple, variable, wildcard, GraphParts, RuleParts, Vertex,
 };
 use leafgraph_reference::graph::OUTPUT_PLACES;
-use leafgraph_reference::operators::{CAST, GAIN, MEAN, PLACES, RELU};
-use leafgraph_reference::rule::{PLUS, TIMES};
+use leafgraph_reference::operators::{CAST, GAIN, MEAN, PLACES, RELU, TUPLE};
+use leafgraph_reference::rule::{MAX_VERTICES, PLUS, TIMES};
 
 /// For RR: every slot but the first has its kind and operator, and only the
 /// last one reads another relu.
@@ -139,6 +139,31 @@ pub fn two_relus() -> RuleParts {
         target_outputs: vec![0; 2],
         nodes: vec![],
     }
+}
+
+/// As many source vertices as a rule can have, and all their places in use: each Tuple
+/// reads the vertex before it six times. All of it becomes x.
+pub fn most_places() -> RuleParts {
+    let last = MAX_VERTICES as u8 - 1;
+    let mut source = vec![wildcard()];
+    source.extend((0..last).map(|input| pattern(TUPLE, 0, &[input; PLACES], &[])));
+    RuleParts {
+        source,
+        target: vec![],
+        source_outputs: vec![last],
+        target_outputs: vec![0],
+        nodes: vec![],
+    }
+}
+
+/// For that rule: its one match is in the first slots, the outermost Tuple is the graph's output,
+/// and relus read the Variable behind it.
+pub fn nested_tuples(slots: u16) -> GraphParts {
+    let last = MAX_VERTICES as u16 - 1;
+    let mut table = vec![variable()];
+    table.extend((0..last).map(reads));
+    table.resize(slots.into(), relu(0));
+    GraphParts::new(table, &[last])
 }
 
 /// For the look at RR's output: all read the Variable, so that no relu reads a
