@@ -36,9 +36,12 @@ def read_results(text):
     return facts, rows
 
 
+QUESTION = "read elsewhere"
+
+
 def operation(call):
-    """The first word of the call: check, match, rewrite, sweep, squeeze or import."""
-    return call.replace(":", " ").split()[0]
+    """The first word of the call, as check, match or rewrite; of a question its two words."""
+    return QUESTION if call.startswith(QUESTION) else call.replace(":", " ").split()[0]
 
 
 def operations(rows):
@@ -69,6 +72,25 @@ def times_table(rows, wanted):
         if operation(row.call) == wanted
     ]
     return markdown_table(("Call", "Slots", "Proved, ns", "Second, ns", "Ratio"), cells)
+
+
+# The parts of a question, each the time of one call less that of another with the same blocks.
+PARTS = (
+    ("Checks of both blocks", "no match", None),
+    ("Test of the map", "no such vertex", "no match"),
+    ("The answer, most places", "most places", "most places, no such vertex"),
+)
+
+
+def parts_table(rows):
+    """What each part of a question takes in the proved library, by the number of slots."""
+    times = {(row.call, row.slots): row.proved for row in rows}
+    cells = []
+    for slots in sorted({row.slots for row in rows if row.slots}):
+        parts = [times[f"{QUESTION}: {whole}", slots] - times.get((f"{QUESTION}: {less}", slots), 0)
+                 for _, whole, less in PARTS]
+        cells.append((str(slots), *(f"{part:.0f}" for part in parts)))
+    return markdown_table(("Slots", *(name for name, _, _ in PARTS)), cells)
 
 
 def exponent(before, after, column):
@@ -157,6 +179,12 @@ COLOURS = {
     "import: a chain": "#0072B2",
     "import: a chain, reversed": "#CC79A7",
     "import: one slot in all places": "#D55E00",
+    "read elsewhere: answered": "#0072B2",
+    "read elsewhere: no such vertex": "#56B4E9",
+    "read elsewhere: no match": "#F0E442",
+    "read elsewhere: 2 outputs": "#D55E00",
+    "read elsewhere: most places": "#009E73",
+    "read elsewhere: most places, no such vertex": "#999999",
 }
 OTHER = "#009E73"
 INK, GRID, FRAME, EQUAL, LIMIT = "#222222", "#E4E4E4", "#666666", "#444444", "#B22222"
@@ -177,7 +205,7 @@ def panel_of(call):
 
 def is_thin(call):
     """Whether a call has a thin line with open squares: it may run together with a thick one."""
-    return "2 outputs" in call if panel_of(call) == LOOK else call.endswith(("none", "all live", "read outside"))
+    return "2 outputs" in call if panel_of(call) == LOOK else call.endswith(("none", "all live", "read outside", "no such vertex"))
 
 
 def text(x, y, words, more=""):
@@ -344,6 +372,7 @@ def made():
     parts = {f"times of {wanted}": times_table(rows, wanted) for wanted in operations(rows)}
     parts["run"] = run_sentences(facts, rows)
     parts["exponents"] = exponents_table(rows)
+    parts["parts of a question"] = parts_table(rows)
     return {**pictures(facts, rows), PAGE: filled(PAGE.read_text(encoding="utf-8"), parts)}
 
 
