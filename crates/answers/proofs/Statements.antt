@@ -24,7 +24,7 @@ use Rattle.answers.proofs.Squeezing.{squeeze-replies, squeeze-keeps, sq
 use Rattle.answers.proofs.Importing.{import-replies, import-version, check-version}
 use Rattle.answers.proofs.Asking.{done-every, ask-replies}
 
--- Number and place are all that the C side gets: what is said of them is said of the whole reply.
+-- Where there is no value, number and place are the whole reply.
 pub whole-word : (reply n p : ℕ) → Says reply n p → reply ≡ n + 2 ^ 8 * p
 unfolding numberIn placeIn valueIn
 whole-word reply n p says = omega (arith, says .number, says .place, says .value)

@@ -400,7 +400,7 @@ abbrev pub AnswersWritten : List ℕ → List ℕ → List ℕ → Type 0
 AnswersWritten graph rule mapAfter =
     (vertex reply : ℕ) → Asked graph rule mapAfter vertex reply → Inner rule vertex → numberIn reply ≡ 0
 
--- "A map is a match exactly where matching from its output images gives it": one attempt tells, and no search. Follows from the definitions,
+-- A map is a match exactly where one attempt at its own output images gives it: nothing has to be searched. Follows from the definitions,
 -- for a sound rule.
 abbrev pub OneAttempt : List ℕ → List ℕ → Type 0
 OneAttempt graph rule =

@@ -71,7 +71,7 @@ noSuchVertex = 42
 abbrev pub done : Reply
 done = Done 0
 
--- done, with the answer to a question: "yes is value 1"
+-- done, with the answer to a question: value 1 is yes, and 0 is no
 unfoldable pub answered : Bool → Reply
 answered holds = Done (cond holds 1 0)
 

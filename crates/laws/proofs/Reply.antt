@@ -29,7 +29,7 @@ module _ (reply : Reply) (number : numberOf reply < 2 ^ 8) where
 
 -- ---- replies without a value, and without a place too
 
--- no request names a value yet
+-- no value stands beside it
 abbrev pub Valueless : Reply → Type 0
 Valueless reply = valueBeside reply ≡ 0
 

@@ -31,8 +31,8 @@ fn is_inner(rule: &[u8], vertex: usize) -> bool
     !is_rule_input(rule, vertex)
 }
 
-// 41, then 42, and then the answer, for which the graph gives the count alone that the image's slot stores. Both refusals are looked for before
-// either is told.
+// 41, then 42, and then the answer, for which the graph gives nothing but the count that the image's slot stores. Both refusals are looked for
+// before either is told.
 fn answer(graph: &[u8], rule: &[u8], map: &[u8], vertex: usize) -> Reply
     requires { ⌜ SoundGraph (now graph) ⌝ }
     requires { ⌜ SoundRule (now rule) ⌝ }

@@ -43,9 +43,10 @@ pub const NEW_CYCLE: u8 = 7;
 // The list of moves is not 2N bytes.
 pub const BAD_MOVES_LENGTH: u8 = 40;
 
-// The map is no match, and the number is no source vertex or that of a rule input.
+// The map is no match.
 pub const NOT_A_MATCH: u8 = 41;
 
+// The vertex is a rule input, or no source vertex.
 pub const NO_SUCH_VERTEX: u8 = 42;
 
 // The refusal with this number and this place. No request names a value beside the place yet.
