@@ -71,7 +71,8 @@ from 0, as in 'match', and is no rule input (no wildcard and no variable).
 
   yes  it is a graph output, or something reads it that no source vertex matches,
        or that a rule input matches: what a rule input matches stays
-  no   only other slots of the match read it, or nothing does
+  no   nothing reads it, or only slots that source vertices match which are no
+       rule inputs
 
 Both have the exit status 0. If there is no match, the exit status is 3.
 
