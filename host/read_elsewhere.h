@@ -56,7 +56,7 @@ struct read_call {
 #define DOUBLED_CONST doubled_const_rule, sizeof doubled_const_rule
 #define RELU_AND_OTHER relu_and_other_rule, sizeof relu_and_other_rule
 
-/* In each there is one match at most, but in the chains of relus. */
+/* In each there is one match at most, except in the chains of relus. */
 #define CHAIN {{3, NO_OUTPUT}, {VARIABLE, RELU_0, RELU_1, RELU_2, EMPTY}}
 #define ONE_SUM {{2, NO_OUTPUT}, {SEVEN, VARIABLE, SUM, EMPTY, EMPTY}}
 #define SUM_IMAGES {1, 0, 2, NO_OUTPUT}

@@ -258,7 +258,7 @@ fn a_match_refused_is_noticed() {
     assert_eq!(private_only, shared);
 }
 
-/// Programs that take a map for a match although one clause does not hold.
+/// A program that does not look at the places behind the source vertices'.
 #[test]
 fn a_map_half_looked_at_is_noticed() {
     let behind = noticed_of(|graph, rule, map, vertex| {

@@ -102,8 +102,7 @@ pub fn import(graph: &mut [u8]) -> u64 {
 
 pub fn is_read_elsewhere(graph: &[u8], rule: &[u8], map: &[u8], vertex: usize) -> u64 {
     let (graph_len, rule_len, map_len) = (graph.len(), rule.len(), map.len());
-    // SAFETY: as for the checks; nothing is written, so that the three may even
-    // overlap.
+    // SAFETY: as for the checks; nothing is written.
     unsafe {
         lg_is_read_elsewhere(
             graph.as_ptr(),

@@ -89,10 +89,11 @@ pub fn import(graph: &mut [u8]) -> u64 {
 }
 
 /// "Given a sound version 2 graph, a rule, its match and one non-input source
-/// vertex": yes where the image is named by anything but the match. "Refusals: 1,
-/// the graph and rule ones, then 41 when the map isn't a match (any, with 65535
-/// from S on), 42 when it is no such vertex." A vertex is any number and is
-/// compared with S as it is.
+/// vertex": "yes exactly when the image is a graph output or is read by something
+/// other than the image of a non-input source vertex. Refusals: 1, the graph and
+/// rule ones, then 41 when the map isn't a match (any, with 65535 from S on), 42
+/// when it is no such vertex." A vertex is any number and is compared with S as it
+/// is.
 pub fn is_read_elsewhere(graph: &[u8], rule: &[u8], map: &[u8], vertex: usize) -> u64 {
     reply_to_question(try_is_read_elsewhere(graph, rule, map, vertex))
 }
