@@ -40,8 +40,8 @@ def says_what_is_wrong(edit):
 def first_error(log):
     """The first error with the lines that belong to it; None if there is none.
     A function without a proof file has no error, but a note of what is not proved.
-    An error that something else was not admitted follows from another error or note,
-    and is passed over: those of callers may stand before it."""
+    An error which says that something else was not admitted follows from another error
+    or note, and is passed over: a caller's may stand before the one that it follows from."""
     lines = log.read_text(encoding="utf-8", errors="replace").split("\n")
     for at, line in enumerate(lines):
         if FOLLOWS.search(line):
