@@ -70,10 +70,10 @@ pub fn refuse(number: u8) -> Reply
 pub fn answer_with(yes: bool) -> Reply
     ensures { λ r. ⌜ r ≡ answer.answered yes ⌝ }
 {
-    if yes {
-        return Reply::Done(1);
+    if !yes {
+        return Reply::Done(0);
     }
-    Reply::Done(0)
+    Reply::Done(1)
 }
 
 // The first of two replies that refuses, or done.
