@@ -21,7 +21,7 @@ use Rattle.definitions.specs.Operations.{imagesIn}
 use Rattle.laws.proofs.Members.{holds, true-holds}
 use Rattle.theory.proofs.Results.{Layout, results-unique, results-exist}
 use Rattle.encoding.specs.Tables.{Table, Words}
-use Rattle.encoding.proofs.Blocks.{block-back, block-sound}
+use Rattle.encoding.proofs.Blocks.{block-back, block-sound, holdable}
 use Rattle.replacement.proofs.Site.{Site, site}
 use Rattle.replacement.proofs.Table.{stays-vertex, staying-vertex, new-outputs, new-layout}
 use Rattle.replacement.proofs.Consts.{reads-none, const-unmoved, const-untouched, const-stays}
@@ -64,7 +64,7 @@ module _ (graph rule images : List ℕ) (values : List (List ℤ)) where
     accepted-sound bytes = rw (a .block) (block-sound new table (words bytes) (a .acyclic))
 
     pub accepted-table : Bytes graph → graphOf graphAfter ≡ new
-    accepted-table bytes = ap graphOf (a .block) ∙ block-back new table graphVersion (trueCount new) (words bytes)
+    accepted-table bytes = ap graphOf (a .block) ∙ block-back new (holdable new table) graphVersion (trueCount new) (words bytes)
 
     -- demand 3 for the two tables
     pub at : Site g r images

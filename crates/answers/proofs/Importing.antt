@@ -24,7 +24,7 @@ use Rattle.laws.proofs.Graph.{length-slots}
 use Rattle.graph_check.proofs.Sound.{form-judged, only-sound-as}
 use Rattle.encoding.specs.Tables.{Table, Words}
 use Rattle.encoding.proofs.Headers.{version-apart}
-use Rattle.encoding.proofs.Blocks.{block-length, header-held, block-back, block-sound}
+use Rattle.encoding.proofs.Blocks.{block-length, header-held, block-back, block-sound, holdable}
 use Rattle.encoding.proofs.Graphs.{table-as, words-of, canonical-as}
 use Rattle.answers.specs.Written.{OutsideVersion, OutsideCount, SameByte}
 use Rattle.answers.specs.Statements.{CheckedGraph, Imported, formNumbers, Verdict, Imports, ImportReplies, OneVersion}
@@ -91,9 +91,9 @@ module _ (graph : List ℕ) (reply : ℕ) (graphAfter : List ℕ) (contract : Im
 
     header-kept : (i : ℕ) → i < headerBytes → OutsideVersion i → byteAt graphAfter i ≡ byteAt graph i
     header-kept i l outside =
-        byte-after i ∙ header-held g table graphVersion (trueCount g) i l
+        byte-after i ∙ header-held g (holdable g table) graphVersion (trueCount g) i l
         ∙ version-apart graphVersion importVersion (length (g .slots)) (g .outputs) i outside
-        ∙ sym (header-held g table importVersion (storedCount graph) i l) ∙ byte-before i
+        ∙ sym (header-held g (holdable g table) importVersion (storedCount graph) i l) ∙ byte-before i
 
     records-kept : (k : ℕ) → k < slotCount graph → (i : ℕ) → i < slotBytes → OutsideCount i → SameByte graph graphAfter k i
     records-kept k inside i l outside =
@@ -105,11 +105,11 @@ module _ (graph : List ℕ) (reply : ℕ) (graphAfter : List ℕ) (contract : Im
     imports : Imports graph graphAfter
     imports = record {
       sound = after-sound;
-      table = ap graphOf left ∙ block-back g table graphVersion (trueCount g) words;
+      table = ap graphOf left ∙ block-back g (holdable g table) graphVersion (trueCount g) words;
       header = header-kept;
       records = records-kept;
-      size = ap length left ∙ block-length g table graphVersion (trueCount g)
-          ∙ sym (block-length g table importVersion (storedCount graph)) ∙ ap length old;
+      size = ap length left ∙ block-length g (holdable g table) graphVersion (trueCount g)
+          ∙ sym (block-length g (holdable g table) importVersion (storedCount graph)) ∙ ap length old;
     }
 
   pub import-replies : ImportReplies graph reply graphAfter

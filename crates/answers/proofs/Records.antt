@@ -9,7 +9,7 @@ use Rattle.definitions.specs.Fields.{byteAt}
 use Rattle.definitions.specs.Graph.{slotBytes, graphVersion, recordAt, Slot, Graph, graphOf, slotOf, trueCount, countTail, slotBlock, blockAs, graphBlock}
 use Rattle.encoding.specs.Tables.{Table}
 use Rattle.encoding.proofs.Tails.{count-apart}
-use Rattle.encoding.proofs.Blocks.{inputs-fit, attributes-fit, record-held}
+use Rattle.encoding.proofs.Blocks.{inputs-fit, attributes-fit, record-held, holdable}
 use Rattle.answers.specs.Written.{OutsideCount, KeepsRecord}
 
 module _ (g new : Graph) (table : Table g) (later : Table new) (k : ℕ) (inside : k < length (g .slots)) (within : k < length (new .slots))
@@ -18,9 +18,9 @@ module _ (g new : Graph) (table : Table g) (later : Table new) (k : ℕ) (inside
     held : getD (slotBlock (countTail (after k)) (slotOf g k)) i 0 ≡ getD (slotBlock (countTail (before k)) (slotOf g k)) i 0
         → byteAt (blockAs version after new) (recordAt k + i) ≡ byteAt (blockAs old before g) (recordAt k + i)
     held e =
-        record-held new later version after k within i l
+        record-held new (holdable new later) version after k within i l
         ∙ ap (λ (s : Slot). getD (slotBlock (countTail (after k)) s) i 0) same ∙ e
-        ∙ sym (record-held g table old before k inside i l)
+        ∙ sym (record-held g (holdable g table) old before k inside i l)
 
     -- of any versions, and with any counts
     pub other-bytes : OutsideCount i → byteAt (blockAs version after new) (recordAt k + i) ≡ byteAt (blockAs old before g) (recordAt k + i)

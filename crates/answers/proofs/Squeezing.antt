@@ -29,7 +29,7 @@ use Rattle.graph_check.proofs.Sound.{every-sound}
 use Rattle.encoding.specs.Tables.{Table, Words}
 use Rattle.encoding.proofs.Numbers.{length-u16, u16-back}
 use Rattle.encoding.proofs.Pieces.{length-numbered, numbered-at}
-use Rattle.encoding.proofs.Blocks.{few-slots, block-length, block-back, block-sound}
+use Rattle.encoding.proofs.Blocks.{few-slots, block-length, block-back, block-sound, holdable}
 use Rattle.encoding.proofs.Graphs.{table-of, words-of, canonical}
 use Rattle.tidying.proofs.Carried.{Carries}
 use Rattle.tidying.proofs.Counts.{squeezed-count}
@@ -229,7 +229,7 @@ module _ (graph moves : List ℕ) (reply : ℕ) (graphAfter movesAfter : List �
     listed = contract .listed ∙ where-done (movesBlock (graphOf graph)) moves told
 
     same-table : graphOf graphAfter ≡ squeeze (graphOf graph)
-    same-table = ap graphOf left ∙ block-back (squeeze (graphOf graph)) later graphVersion (trueCount (squeeze (graphOf graph))) words
+    same-table = ap graphOf left ∙ block-back (squeeze (graphOf graph)) (holdable (squeeze (graphOf graph)) later) graphVersion (trueCount (squeeze (graphOf graph))) words
 
     after-sound : SoundGraph graphAfter
     after-sound = rw left (block-sound (squeeze (graphOf graph)) later words (squeezed-acyclic (graphOf graph) table (sound .form .acyclic)))
@@ -297,8 +297,8 @@ module _ (graph moves : List ℕ) (reply : ℕ) (graphAfter movesAfter : List �
 
     same-size : length graphAfter ≡ length graph
     same-size =
-        ap length left ∙ block-length (squeeze (graphOf graph)) later graphVersion (trueCount (squeeze (graphOf graph))) ∙ ap recordAt (squeezed-size (graphOf graph))
-        ∙ sym (block-length (graphOf graph) table graphVersion (trueCount (graphOf graph))) ∙ ap length (canonical graph sound (contract .lentGraph))
+        ap length left ∙ block-length (squeeze (graphOf graph)) (holdable (squeeze (graphOf graph)) later) graphVersion (trueCount (squeeze (graphOf graph))) ∙ ap recordAt (squeezed-size (graphOf graph))
+        ∙ sym (block-length (graphOf graph) (holdable (graphOf graph) table) graphVersion (trueCount (graphOf graph))) ∙ ap length (canonical graph sound (contract .lentGraph))
 
     squeezes : Squeezes graph graphAfter movesAfter
     squeezes = record {

@@ -16,7 +16,7 @@ use Rattle.laws.proofs.Graph.{length-slots}
 use Rattle.laws.proofs.Reply.{where-done, where-refused}
 use Rattle.graph_check.proofs.Sound.{every-sound}
 use Rattle.encoding.specs.Tables.{Table, Words}
-use Rattle.encoding.proofs.Blocks.{block-length, header-held, block-back, block-sound}
+use Rattle.encoding.proofs.Blocks.{block-length, header-held, block-back, block-sound, holdable}
 use Rattle.encoding.proofs.Graphs.{table-of, words-of, canonical}
 use Rattle.tidying.proofs.Carried.{Carries}
 use Rattle.tidying.proofs.Swept.{unneeded-sound, swept-size, stays-slot, empty-only, empty-every, swept-table, swept-words, swept-acyclic, swept-carries, swept-twice}
@@ -59,7 +59,7 @@ module _ (graph : List ℕ) (reply : ℕ) (graphAfter : List ℕ) (contract : Sw
     left = contract .left ∙ where-done (graphBlock (sweep g)) graph (every-sound graph sound)
 
     same-table : graphOf graphAfter ≡ sweep g
-    same-table = ap graphOf left ∙ block-back (sweep g) later graphVersion (trueCount (sweep g)) words
+    same-table = ap graphOf left ∙ block-back (sweep g) (holdable (sweep g) later) graphVersion (trueCount (sweep g)) words
 
     after-sound : SoundGraph graphAfter
     after-sound = rw left (block-sound (sweep g) later words (swept-acyclic g table (sound .form .acyclic)))
@@ -80,14 +80,14 @@ module _ (graph : List ℕ) (reply : ℕ) (graphAfter : List ℕ) (contract : Sw
     header-kept : (i : ℕ) → i < headerBytes → byteAt graphAfter i ≡ byteAt graph i
     unfolding sweep
     header-kept i l =
-        byte-after i ∙ header-held (sweep g) later graphVersion (trueCount (sweep g)) i l
+        byte-after i ∙ header-held (sweep g) (holdable (sweep g) later) graphVersion (trueCount (sweep g)) i l
         ∙ ap (λ (n : ℕ). getD (headerBlock graphVersion n (g .outputs)) i 0) (swept-size g table)
-        ∙ sym (header-held g table graphVersion (trueCount g) i l) ∙ byte-before i
+        ∙ sym (header-held g (holdable g table) graphVersion (trueCount g) i l) ∙ byte-before i
 
     same-size : length graphAfter ≡ length graph
     same-size =
-        ap length left ∙ block-length (sweep g) later graphVersion (trueCount (sweep g)) ∙ ap recordAt (swept-size g table)
-        ∙ sym (block-length g table graphVersion (trueCount g))
+        ap length left ∙ block-length (sweep g) (holdable (sweep g) later) graphVersion (trueCount (sweep g)) ∙ ap recordAt (swept-size g table)
+        ∙ sym (block-length g (holdable g table) graphVersion (trueCount g))
         ∙ ap length (canonical graph sound (contract .lentGraph))
 
     sweeps : Sweeps graph graphAfter

@@ -22,48 +22,13 @@ use Rattle.laws.proofs.Counts.{reads-most}
 use Rattle.laws.proofs.Operators.{few-inputs, few-attributes}
 use Rattle.laws.proofs.Graph.{slot-past, vertex-inside, slot-of, length-slots, length-attributes}
 use Rattle.graph_fields.specs.Layout.{ReadableGraph, Closed, OutputsNamed}
-use Rattle.encoding.specs.Tables.{slotFits, Table, Words}
+use Rattle.encoding.specs.Tables.{slotFits, Table, Holdable, Words}
 use Rattle.encoding.proofs.Pieces.{at-first, tabulated, headed-length, headed-at, headed-cut}
 use Rattle.encoding.proofs.Records.{length-slot, tail-held, kind-back, operator-back, attribute-count-back, inputs-back, attributes-back, record-fits}
 use Rattle.encoding.proofs.Tails.{length-tail, count-read-back, tail-fits}
 use Rattle.encoding.proofs.Headers.{length-header, count-back, output-count-back, outputs-back, header-fits}
 
-module _ (g : Graph) (table : Table g) where
-  -- ---- what the graph's counts are, and its inputs
-
-  pub few-slots : length (g .slots) ≤ slotLimit
-  few-slots =
-      leb-true (length (g .slots)) slotLimit (and-right (leb 1 (length (g .slots))) (leb (length (g .slots)) slotLimit) (table .size))
-
-  few-outputs : length (g .outputs) ≤ outputLimit
-  few-outputs =
-      leb-true (length (g .outputs)) outputLimit
-      (and-right (leb 1 (length (g .outputs))) (leb (length (g .outputs)) outputLimit) (table .outputCount))
-
-  pub shaped : (k : ℕ) → k < length (g .slots)
-      → shapeFits (slotOf g k .kind) (slotOf g k .operator) (length (slotOf g k .inputs)) (length (slotOf g k .attributes)) ≡ true
-  unfolding slotFits
-  shaped k l =
-      let s = slotOf g k in
-      and-left (shapeFits (s .kind) (s .operator) (length (s .inputs)) (length (s .attributes)))
-      (not (eqb (s .kind) kindProj) || atLeastOne (signed (getD (s .attributes) 0 0))) (table .shapes k l)
-
-  pub inputs-fit : (k : ℕ) → k < length (g .slots) → length (inputsOf g k) ≤ inputLimit
-  inputs-fit k l =
-      let s = slotOf g k in few-inputs (s .kind) (s .operator) (length (s .inputs)) (length (s .attributes)) (shaped k l)
-
-  pub attributes-fit : (k : ℕ) → k < length (g .slots) → length (slotOf g k .attributes) ≤ attributeLimit
-  attributes-fit k l =
-      let s = slotOf g k in few-attributes (s .kind) (s .operator) (length (s .inputs)) (length (s .attributes)) (shaped k l)
-
-  pub input-inside : (k i : ℕ) → i < length (inputsOf g k) → getD (inputsOf g k) i unusedPlace < length (g .slots)
-  input-inside k i l =
-      let v = getD (inputsOf g k) i unusedPlace in vertex-inside g v (table .inputs k v (mem-at (inputsOf g k) i unusedPlace l))
-
-  output-inside : (i : ℕ) → i < length (g .outputs) → getD (g .outputs) i unusedPlace < length (g .slots)
-  output-inside i l =
-      let v = getD (g .outputs) i unusedPlace in vertex-inside g v (table .outputs v (mem-at (g .outputs) i unusedPlace l))
-
+module _ (g : Graph) (holds : Holdable g) where
   -- an attribute is a word, and so is what stands past the last
   pub word-at : Words g → (k : ℕ) → k < length (g .slots) → (i : ℕ) → getD (slotOf g k .attributes) i 0 < 2 ^ 32
   word-at words k inside i =
@@ -87,10 +52,10 @@ module _ (g : Graph) (table : Table g) where
     -- ---- where the block holds the header and the records
 
     pub sized : (k : ℕ) → k < length (g .slots) → length (recordBlock counts g k) ≡ slotBytes
-    sized k l = length-slot (slotOf g k) (inputs-fit k l) (attributes-fit k l) (countTail (counts k)) (length-tail (counts k))
+    sized k l = length-slot (slotOf g k) (holds .inputs k l) (holds .attributes k l) (countTail (counts k)) (length-tail (counts k))
 
     length-headed : length header ≡ headerBytes
-    length-headed = length-header version (length (g .slots)) (g .outputs) few-outputs
+    length-headed = length-header version (length (g .slots)) (g .outputs) (holds .outputs)
 
     pub block-length : length made ≡ recordAt (length (g .slots))
     unfolding blockAs
@@ -120,12 +85,12 @@ module _ (g : Graph) (table : Table g) where
 
     pub block-slots : slotCount made ≡ length (g .slots)
     block-slots =
-        count-back version (length (g .slots)) (g .outputs) few-outputs made header-held (omega (arith, few-slots))
+        count-back version (length (g .slots)) (g .outputs) (holds .outputs) made header-held (omega (arith, holds .slots))
 
     pub block-outputs : graphOf made .outputs ≡ g .outputs
     block-outputs =
-        outputs-back version (length (g .slots)) (g .outputs) few-outputs made header-held
-        (λ i l. omega (arith, output-inside i l, few-slots))
+        outputs-back version (length (g .slots)) (g .outputs) (holds .outputs) made header-held
+        (holds .outputPlaces)
 
     module _ (k : ℕ) (inside : k < length (g .slots)) where
       read-from : slotOf (graphOf made) k ≡ slotFrom made (recordAt k)
@@ -134,27 +99,27 @@ module _ (g : Graph) (table : Table g) where
       kind-same : slotFrom made (recordAt k) .kind ≡ slotOf g k .kind
       unfolding slotFrom
       kind-same =
-          kind-back (slotOf g k) (inputs-fit k inside) (attributes-fit k inside) (countTail (counts k)) made (recordAt k) (record-held k inside)
+          kind-back (slotOf g k) (holds .inputs k inside) (holds .attributes k inside) (countTail (counts k)) made (recordAt k) (record-held k inside)
 
       operator-same : slotFrom made (recordAt k) .operator ≡ slotOf g k .operator
       unfolding slotFrom
       operator-same =
-          operator-back (slotOf g k) (inputs-fit k inside) (attributes-fit k inside) (countTail (counts k)) made (recordAt k) (record-held k inside)
+          operator-back (slotOf g k) (holds .inputs k inside) (holds .attributes k inside) (countTail (counts k)) made (recordAt k) (record-held k inside)
 
       inputs-same : slotFrom made (recordAt k) .inputs ≡ slotOf g k .inputs
       inputs-same =
-          inputs-back (slotOf g k) (inputs-fit k inside) (attributes-fit k inside) (countTail (counts k)) made (recordAt k) (record-held k inside)
-          (λ i l. omega (arith, input-inside k i l, few-slots))
+          inputs-back (slotOf g k) (holds .inputs k inside) (holds .attributes k inside) (countTail (counts k)) made (recordAt k) (record-held k inside)
+          (holds .inputPlaces k)
 
       attribute-count-same : length (slotFrom made (recordAt k) .attributes) ≡ length (slotOf g k .attributes)
       attribute-count-same =
           length-attributes made (recordAt k)
-          ∙ attribute-count-back (slotOf g k) (inputs-fit k inside) (attributes-fit k inside) (countTail (counts k)) made (recordAt k)
+          ∙ attribute-count-back (slotOf g k) (holds .inputs k inside) (holds .attributes k inside) (countTail (counts k)) made (recordAt k)
           (record-held k inside)
 
       tail-same : (i : ℕ) → i < tailBytes → byteAt made (recordAt k + tailOffset + i) ≡ getD (countTail (counts k)) i 0
       tail-same =
-          tail-held (slotOf g k) (inputs-fit k inside) (attributes-fit k inside) (countTail (counts k)) made (recordAt k) (record-held k inside)
+          tail-held (slotOf g k) (holds .inputs k inside) (holds .attributes k inside) (countTail (counts k)) made (recordAt k) (record-held k inside)
 
       -- the count that it stores
       pub block-count : counts k < 65536 → storedCount made k ≡ counts k
@@ -196,24 +161,11 @@ module _ (g : Graph) (table : Table g) where
     block-readable = record {
       whole = record {
         size = rw block-slots block-length;
-        slots = omega (arith, block-slots, few-slots);
-        outputs = omega (arith, output-count-back version (length (g .slots)) (g .outputs) few-outputs made header-held, few-outputs);
+        slots = omega (arith, block-slots, holds .slots);
+        outputs = omega (arith, output-count-back version (length (g .slots)) (g .outputs) (holds .outputs) made header-held, (holds .outputs));
       };
-      inputs = λ k l. rw (block-inputs k) (inputs-fit k (omega (arith, block-slots)));
-      attributes = λ k l. rw (block-attribute-count k) (attributes-fit k (omega (arith, block-slots)));
-    }
-
-    pub block-closed : Closed made
-    block-closed = record {
-      named = λ k i l m. rw (block-inputs k, block-slots) (input-inside k i (rw (block-inputs k) at m));
-    }
-
-    pub block-outputs-named : OutputsNamed made
-    block-outputs-named = record {
-      named = λ i l.
-          let inside : i < length (g .outputs) =
-          omega (arith, output-count-back version (length (g .slots)) (g .outputs) few-outputs made header-held) in
-          rw (block-outputs, block-slots) (output-inside i inside);
+      inputs = λ k l. rw (block-inputs k) (holds .inputs k (omega (arith, block-slots)));
+      attributes = λ k l. rw (block-attribute-count k) (holds .attributes k (omega (arith, block-slots)));
     }
 
     -- the true counts are those of the graph
@@ -237,7 +189,7 @@ module _ (g : Graph) (table : Table g) where
     module _ (words : Words g) where
       attributes-same : (k : ℕ) → k < length (g .slots) → slotFrom made (recordAt k) .attributes ≡ slotOf g k .attributes
       attributes-same k inside =
-          attributes-back (slotOf g k) (inputs-fit k inside) (attributes-fit k inside) (countTail (counts k)) made (recordAt k)
+          attributes-back (slotOf g k) (holds .inputs k inside) (holds .attributes k inside) (countTail (counts k)) made (recordAt k)
           (record-held k inside) (λ i l. word-at words k inside i)
 
       slot-same : (k : ℕ) → k < length (g .slots) → slotFrom made (recordAt k) ≡ slotOf g k
@@ -257,21 +209,82 @@ module _ (g : Graph) (table : Table g) where
       pub block-back : graphOf made ≡ g
       block-back = λ i. record { slots = slots-same i; outputs = block-outputs i }
 
+-- ---- a graph that is sound, but for a cycle and for the size of its attributes
+
+module _ (g : Graph) (table : Table g) where
+  pub few-slots : length (g .slots) ≤ slotLimit
+  few-slots =
+      leb-true (length (g .slots)) slotLimit (and-right (leb 1 (length (g .slots))) (leb (length (g .slots)) slotLimit) (table .size))
+
+  few-outputs : length (g .outputs) ≤ outputLimit
+  few-outputs =
+      leb-true (length (g .outputs)) outputLimit
+      (and-right (leb 1 (length (g .outputs))) (leb (length (g .outputs)) outputLimit) (table .outputCount))
+
+  pub shaped : (k : ℕ) → k < length (g .slots)
+      → shapeFits (slotOf g k .kind) (slotOf g k .operator) (length (slotOf g k .inputs)) (length (slotOf g k .attributes)) ≡ true
+  unfolding slotFits
+  shaped k l =
+      let s = slotOf g k in
+      and-left (shapeFits (s .kind) (s .operator) (length (s .inputs)) (length (s .attributes)))
+      (not (eqb (s .kind) kindProj) || atLeastOne (signed (getD (s .attributes) 0 0))) (table .shapes k l)
+
+  pub inputs-fit : (k : ℕ) → k < length (g .slots) → length (inputsOf g k) ≤ inputLimit
+  inputs-fit k l =
+      let s = slotOf g k in few-inputs (s .kind) (s .operator) (length (s .inputs)) (length (s .attributes)) (shaped k l)
+
+  pub attributes-fit : (k : ℕ) → k < length (g .slots) → length (slotOf g k .attributes) ≤ attributeLimit
+  attributes-fit k l =
+      let s = slotOf g k in few-attributes (s .kind) (s .operator) (length (s .inputs)) (length (s .attributes)) (shaped k l)
+
+  pub input-inside : (k i : ℕ) → i < length (inputsOf g k) → getD (inputsOf g k) i unusedPlace < length (g .slots)
+  input-inside k i l =
+      let v = getD (inputsOf g k) i unusedPlace in vertex-inside g v (table .inputs k v (mem-at (inputsOf g k) i unusedPlace l))
+
+  output-inside : (i : ℕ) → i < length (g .outputs) → getD (g .outputs) i unusedPlace < length (g .slots)
+  output-inside i l =
+      let v = getD (g .outputs) i unusedPlace in vertex-inside g v (table .outputs v (mem-at (g .outputs) i unusedPlace l))
+
+  -- such a graph can be held, cycle or not
+  pub holdable : Holdable g
+  holdable = record {
+    slots = few-slots;
+    outputs = few-outputs;
+    inputs = inputs-fit;
+    attributes = attributes-fit;
+    inputPlaces = λ k i l. omega (arith, input-inside k i l, few-slots);
+    outputPlaces = λ i l. omega (arith, output-inside i l, few-slots);
+  }
+
+  module _ (version : ℕ) (counts : ℕ → ℕ) where
+    pub block-closed : Closed (blockAs version counts g)
+    block-closed = record {
+      named = λ k i l m. rw (block-inputs g holdable version counts k, block-slots g holdable version counts) (input-inside k i (rw (block-inputs g holdable version counts k) at m));
+    }
+
+    pub block-outputs-named : OutputsNamed (blockAs version counts g)
+    block-outputs-named = record {
+      named = λ i l.
+          let inside : i < length (g .outputs) =
+          omega (arith, output-count-back version (length (g .slots)) (g .outputs) few-outputs (blockAs version counts g) (header-held g holdable version counts)) in
+          rw (block-outputs g holdable version counts, block-slots g holdable version counts) (output-inside i inside);
+    }
+
   -- ---- and the one of version 2 is sound where the graph has no cycle
 
   module _ (counts : ℕ → ℕ) (words : Words g) where
     pub block-form : Acyclic (inputsOf g) → SoundAs graphVersion (blockAs graphVersion counts g)
     block-form acyclic =
         let made = blockAs graphVersion counts g in
-        let back = block-back graphVersion counts words in
+        let back = block-back g holdable graphVersion counts words in
         record {
-          header = header-fits graphVersion (length (g .slots)) (g .outputs) few-outputs made (header-held graphVersion counts)
-              (block-length graphVersion counts) (table .size) (table .outputCount) (omega arith) (omega (arith, few-slots));
+          header = header-fits graphVersion (length (g .slots)) (g .outputs) few-outputs made (header-held g holdable graphVersion counts)
+              (block-length g holdable graphVersion counts) (table .size) (table .outputCount) (omega arith) (omega (arith, few-slots));
           records = λ k l.
-              let inside : k < length (g .slots) = omega (arith, block-slots graphVersion counts) in
+              let inside : k < length (g .slots) = omega (arith, block-slots g holdable graphVersion counts) in
               record-fits (slotOf g k) (inputs-fit k inside) (attributes-fit k inside) (countTail (counts k)) made (recordAt k)
-              (record-held graphVersion counts k inside) graphVersion (table .shapes k inside) (word-at words k inside 0)
-              (tail-fits (counts k) made (recordAt k) (tail-same graphVersion counts k inside));
+              (record-held g holdable graphVersion counts k inside) graphVersion (table .shapes k inside) (word-at g holdable words k inside 0)
+              (tail-fits (counts k) made (recordAt k) (tail-same g holdable graphVersion counts k inside));
           inputs = rw back (table .inputs);
           outputs = rw back (table .outputs);
           acyclic = rw back acyclic;
@@ -293,6 +306,6 @@ module _ (g : Graph) (table : Table g) where
   block-sound words acyclic = record {
     form = block-form (trueCount g) words acyclic;
     counts = λ k l.
-        let inside : k < length (g .slots) = omega (arith, block-slots graphVersion (trueCount g)) in
-        rw (block-back graphVersion (trueCount g) words) (block-count graphVersion (trueCount g) k inside (count-small k));
+        let inside : k < length (g .slots) = omega (arith, block-slots g holdable graphVersion (trueCount g)) in
+        rw (block-back g holdable graphVersion (trueCount g) words) (block-count g holdable graphVersion (trueCount g) k inside (count-small k));
   }

@@ -25,7 +25,7 @@ use Rattle.encoding.proofs.Numbers.{u32-small}
 use Rattle.encoding.proofs.Records.{record-read}
 use Rattle.encoding.proofs.Tails.{tail-read}
 use Rattle.encoding.proofs.Headers.{header-read}
-use Rattle.encoding.proofs.Blocks.{block-length, header-held, record-held}
+use Rattle.encoding.proofs.Blocks.{block-length, header-held, record-held, holdable}
 
 -- ---- a slot follows its kind where its counts do and the index of a Proj is at least 1
 
@@ -107,7 +107,7 @@ module _ (version : ℕ) (block : List ℕ) (sound : SoundAs version block) (byt
 
   header-same : (i : ℕ) → i < headerBytes → byteAt made i ≡ byteAt block i
   header-same i l =
-      header-held (graphOf block) table version (storedCount block) i l
+      header-held (graphOf block) (holdable (graphOf block) table) version (storedCount block) i l
       ∙ ap (λ (n : ℕ). getD (headerBlock version n (graphOf block .outputs)) i 0) (length-slots block)
       ∙ header-read version block (sound .header) bytes i l
 
@@ -117,14 +117,14 @@ module _ (version : ℕ) (block : List ℕ) (sound : SoundAs version block) (byt
       let e : headerBytes + (slotBytes * k + i) ≡ recordAt k + i = omega arith in
       let fits = sound .records k l in
       let tail = countTail (storedCount block k) in
-      rw e (record-held (graphOf block) table version (storedCount block) k (omega (arith, length-slots block)) i m
+      rw e (record-held (graphOf block) (holdable (graphOf block) table) version (storedCount block) k (omega (arith, length-slots block)) i m
       ∙ ap (λ (s : Slot). getD (slotBlock tail s) i 0) (slot-of block k l)
       ∙ record-read version block (recordAt k) fits bytes tail (tail-read version block (recordAt k) fits bytes) i m)
 
   pub canonical-as : made ≡ block
   canonical-as =
       let length-same : length made ≡ recordAt (slotCount block) =
-      block-length (graphOf block) table version (storedCount block) ∙ ap recordAt (length-slots block) in
+      block-length (graphOf block) (holdable (graphOf block) table) version (storedCount block) ∙ ap recordAt (length-slots block) in
       let Same : ℕ → Type 0 = λ i. byteAt made i ≡ byteAt block i in
       ext-getD 0 made block (length-same ∙ sym (header-size block version (sound .header)))
       (λ i l. in-parts Same headerBytes (slotBytes * slotCount block) header-same

@@ -16,7 +16,7 @@ use Rattle.encoding.specs.Tables.{Table}
 use Rattle.encoding.proofs.Pieces.{headed-length, headed-cut}
 use Rattle.encoding.proofs.Numbers.{length-u16}
 use Rattle.encoding.proofs.Records.{front, inputPlaces, attributePlaces, slot-parts, upto-attributes}
-use Rattle.encoding.proofs.Blocks.{inputs-fit, attributes-fit, record-cut, header-cut, block-slots, block-true-count, block-readable, block-closed, block-outputs-named}
+use Rattle.encoding.proofs.Blocks.{inputs-fit, attributes-fit, record-cut, header-cut, block-slots, block-true-count, block-readable, block-closed, block-outputs-named, holdable}
 use Rattle.graph_records.specs.Records.{slotAt}
 use Rattle.graph_slots.specs.Written.{SlotWritten, Halfway}
 use Rattle.graph_slots.proofs.Laws.{drop-further}
@@ -151,7 +151,7 @@ module _ (version : ℕ) (counts : ℕ → ℕ) (g : Graph) (table : Table g) wh
 
   pub made-countable : CountableGraph made
   made-countable = record {
-    readable = block-readable g table version counts;
+    readable = block-readable g (holdable g table) version counts;
     closed = block-closed g table version counts;
     outputs = block-outputs-named g table version counts;
   }
@@ -159,13 +159,13 @@ module _ (version : ℕ) (counts : ℕ → ℕ) (g : Graph) (table : Table g) wh
   each : (k : ℕ) → k < length (g .slots) → withCount (trueCount (graphOf made) k) (slotAt made (recordAt k)) ≡ recordBlock (trueCount g) g k
   unfolding slotAt
   each k l =
-      ap₂ withCount (block-true-count g table version counts k) (record-cut g table version counts k l)
+      ap₂ withCount (block-true-count g (holdable g table) version counts k) (record-cut g (holdable g table) version counts k l)
       ∙ with-count (trueCount g k) (counts k) (slotOf g k) (inputs-fit g table k l) (attributes-fit g table k l)
 
   pub made-recounted : recounted made ≡ blockAs version (trueCount g) g
   unfolding recounted blockAs
   made-recounted =
-      ap₂ _++_ (header-cut g table version counts)
+      ap₂ _++_ (header-cut g (holdable g table) version counts)
       (ap (λ (n : ℕ). concatMap (λ k. withCount (trueCount (graphOf made) k) (slotAt made (recordAt k))) (tabulate n (λ k. k)))
-      (block-slots g table version counts)
+      (block-slots g (holdable g table) version counts)
       ∙ pieces-same (λ k. withCount (trueCount (graphOf made) k) (slotAt made (recordAt k))) (recordBlock (trueCount g) g) (length (g .slots)) each)

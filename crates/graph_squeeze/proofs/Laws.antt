@@ -19,7 +19,7 @@ use Rattle.laws.proofs.Graph.{length-slots, vertex-inside}
 use Rattle.laws.proofs.Filtered.{filtered-most}
 use Rattle.encoding.specs.Tables.{Table}
 use Rattle.encoding.proofs.Tails.{zero-tail}
-use Rattle.encoding.proofs.Blocks.{few-slots, inputs-fit, attributes-fit, input-inside, word-at, sized, block-length, header-cut, record-held, record-cut}
+use Rattle.encoding.proofs.Blocks.{few-slots, inputs-fit, attributes-fit, input-inside, word-at, sized, block-length, header-cut, record-held, record-cut, holdable}
 use Rattle.encoding.proofs.Graphs.{table-of, words-of, canonical}
 use Rattle.graph_records.specs.Records.{Writable, slotAt}
 use Rattle.graph_slots.specs.Written.{emptyBytes, SlotWritten, Halfway}
@@ -46,10 +46,10 @@ module _ (block : List ℕ) (sound : SoundGraph block) (bytes : Bytes block) whe
   middle = take headerBytes block ++ drop headerBytes new
 
   pub new-length : length new ≡ recordAt (slotCount block)
-  new-length = block-length (squeeze g) after-table graphVersion (λ i. 0) ∙ ap recordAt (squeezed-size g ∙ length-slots block)
+  new-length = block-length (squeeze g) (holdable (squeeze g) after-table) graphVersion (λ i. 0) ∙ ap recordAt (squeezed-size g ∙ length-slots block)
 
   old-length : length block ≡ recordAt (slotCount block)
-  old-length = ap length (sym (canonical block sound bytes)) ∙ block-length g table graphVersion (trueCount g) ∙ ap recordAt (length-slots block)
+  old-length = ap length (sym (canonical block sound bytes)) ∙ block-length g (holdable g table) graphVersion (trueCount g) ∙ ap recordAt (length-slots block)
 
   header-length : length (take headerBytes block) ≡ headerBytes
   header-length = length-take-le headerBytes block (omega (arith, old-length))
@@ -84,7 +84,7 @@ module _ (block : List ℕ) (sound : SoundGraph block) (bytes : Bytes block) whe
             (λ (t : ltb i (length (inputsOf g v)) ≡ false).
             omega (arith, List·getD-eq-default (inputsOf g v) unusedPlace (ltb-false i (length (inputsOf g v)) t)))
             (decided (ltb i (length (inputsOf g v))));
-        words = word-at g table (words-of block bytes) v inside;
+        words = word-at g (holdable g table) (words-of block bytes) v inside;
       }
 
   names : (v : ℕ) → Renamable (inputsOf g v)
@@ -103,7 +103,7 @@ module _ (block : List ℕ) (sound : SoundGraph block) (bytes : Bytes block) whe
       tail = countTail (trueCount g v);
       bytes = λ i l.
           byte-same i ∙ ap (λ (b : List ℕ). byteAt b (recordAt v + i)) (sym (canonical block sound bytes))
-          ∙ record-held g table graphVersion (trueCount g) v (omega (arith, length-slots block)) i l;
+          ∙ record-held g (holdable g table) graphVersion (trueCount g) v (omega (arith, length-slots block)) i l;
     }
 
     still-slot : HeldSlot graph v
@@ -136,7 +136,7 @@ module _ (block : List ℕ) (sound : SoundGraph block) (bytes : Bytes block) whe
     unfolding squeeze
     new-header =
         ap₂ (headerBlock graphVersion) (sym (squeezed-size g ∙ length-slots block)) (names-same (g .outputs) (sound .form .outputs))
-        ∙ sym (header-cut (squeeze g) after-table graphVersion (λ i. 0))
+        ∙ sym (header-cut (squeeze g) (holdable (squeeze g) after-table) graphVersion (λ i. 0))
 
     module _ {graph : List ℕ} (k : ℕ) (inside : k < slotCount block) (h : Halfway k graph middle block) where
       held : k < length (squeeze g .slots)
@@ -148,10 +148,10 @@ module _ (block : List ℕ) (sound : SoundGraph block) (bytes : Bytes block) whe
       unfolding slotAt
       step s same written =
           let bytesSame : slotAt middle (recordAt k) ≡ slotBlock (replicate tailBytes 0) s =
-          middle-slot k ∙ record-cut (squeeze g) after-table graphVersion (λ i. 0) k held ∙ ap₂ slotBlock zero-tail same in
+          middle-slot k ∙ record-cut (squeeze g) (holdable (squeeze g) after-table) graphVersion (λ i. 0) k held ∙ ap₂ slotBlock zero-tail same in
           let size : length (slotBlock (replicate tailBytes 0) s) ≡ slotBytes =
           ap₂ (λ (tail : List ℕ) (t : Slot). length (slotBlock tail t)) (sym zero-tail) (sym same)
-          ∙ sized (squeeze g) after-table graphVersion (λ i. 0) k held in
+          ∙ sized (squeeze g) (holdable (squeeze g) after-table) graphVersion (λ i. 0) k held in
           halfway-write k h written (omega (arith, h .size, middle-length)) size bytesSame
 
       module _ (low : k < count) where

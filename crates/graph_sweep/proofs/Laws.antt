@@ -24,7 +24,7 @@ use Rattle.reachability.proofs.Marks.{marks-unique}
 use Rattle.reachability.proofs.Reaching.{reaching-marks}
 use Rattle.encoding.specs.Tables.{Table}
 use Rattle.encoding.proofs.Tails.{zero-tail}
-use Rattle.encoding.proofs.Blocks.{block-length, header-cut, record-cut}
+use Rattle.encoding.proofs.Blocks.{block-length, header-cut, record-cut, holdable}
 use Rattle.encoding.proofs.Graphs.{table-of, canonical}
 use Rattle.graph_records.specs.Records.{slotAt}
 use Rattle.graph_slots.specs.Written.{emptyBytes, Halfway}
@@ -78,11 +78,11 @@ module _ (block : List ℕ) (sound : SoundGraph block) where
     swept-start =
         let old = canonical block sound bytes in
         record {
-          size = ap length (sym old) ∙ block-length g table graphVersion (trueCount g) ∙ ap recordAt (sym (swept-size g table))
-              ∙ sym (block-length (sweep g) after-table graphVersion (oldCounts g));
-          front = ap (take headerBytes) (sym old) ∙ header-cut g table graphVersion (trueCount g)
+          size = ap length (sym old) ∙ block-length g (holdable g table) graphVersion (trueCount g) ∙ ap recordAt (sym (swept-size g table))
+              ∙ sym (block-length (sweep g) (holdable (sweep g) after-table) graphVersion (oldCounts g));
+          front = ap (take headerBytes) (sym old) ∙ header-cut g (holdable g table) graphVersion (trueCount g)
               ∙ ap (λ (n : ℕ). headerBlock graphVersion n (g .outputs)) (sym (swept-size g table))
-              ∙ sym (header-cut (sweep g) after-table graphVersion (oldCounts g));
+              ∙ sym (header-cut (sweep g) (holdable (sweep g) after-table) graphVersion (oldCounts g));
           back = refl;
         }
 
@@ -90,13 +90,13 @@ module _ (block : List ℕ) (sound : SoundGraph block) where
       slot-new : slotAt new (recordAt v) ≡ slotBlock (countTail (oldCounts g v)) (slotOf (sweep g) v)
       unfolding slotAt
       slot-new =
-          record-cut (sweep g) after-table graphVersion (oldCounts g) v (omega (arith, swept-size g table, length-slots block))
+          record-cut (sweep g) (holdable (sweep g) after-table) graphVersion (oldCounts g) v (omega (arith, swept-size g table, length-slots block))
 
       slot-old : slotAt block (recordAt v) ≡ slotBlock (countTail (trueCount g v)) (slotOf g v)
       unfolding slotAt
       slot-old =
           ap (λ (b : List ℕ). slotAt b (recordAt v)) (sym (canonical block sound bytes))
-          ∙ record-cut g table graphVersion (trueCount g) v (omega (arith, length-slots block))
+          ∙ record-cut g (holdable g table) graphVersion (trueCount g) v (omega (arith, length-slots block))
 
       pub swept-keep : isUnneeded g (reachingOutputs g) v ≡ false → slotAt new (recordAt v) ≡ slotAt block (recordAt v)
       unfolding oldCounts
@@ -112,4 +112,4 @@ module _ (block : List ℕ) (sound : SoundGraph block) where
           ∙ ap (λ (tail : List ℕ). slotBlock tail emptySlot) zero-tail
 
     pub swept-end : length new ≡ recordAt (slotCount block)
-    swept-end = block-length (sweep g) after-table graphVersion (oldCounts g) ∙ ap recordAt (swept-size g table ∙ length-slots block)
+    swept-end = block-length (sweep g) (holdable (sweep g) after-table) graphVersion (oldCounts g) ∙ ap recordAt (swept-size g table ∙ length-slots block)

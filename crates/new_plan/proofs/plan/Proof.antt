@@ -17,7 +17,7 @@ use Rattle.graph_check.proofs.Readable.{graph-readable}
 use Rattle.rule_check.proofs.Readable.{rule-readable}
 use Rattle.attributes.proofs.Sound.{rule-evaluable}
 use Rattle.encoding.specs.Tables.{Table}
-use Rattle.encoding.proofs.Blocks.{block-readable, block-closed, block-cycle}
+use Rattle.encoding.proofs.Blocks.{block-readable, block-closed, block-cycle, holdable}
 use Rattle.graph_fields.specs.Layout.{ReadableGraph, Closed}
 use Rattle.graph_uses.specs.Countable.{CountableGraph}
 use Rattle.graph_counts.specs.Recounted.{recounted}
@@ -164,13 +164,13 @@ module _ (c : tie.After-write-table) where
 judged : (c : tie.After-has-cycle) → c .has-cycle .result ≡ hasCycle (new (c .before .before .before .before))
 judged c =
     let w = c .before .before .before .before in
-    c .has-cycle .ensures ∙ ap (λ block. hasCycle (graphOf block)) (w .write-table .ensures) ∙ block-cycle (new w) (table w) graphVersion (λ i. 0)
+    c .has-cycle .ensures ∙ ap (λ block. hasCycle (graphOf block)) (w .write-table .ensures) ∙ block-cycle (new w) (holdable (new w) (table w)) graphVersion (λ i. 0)
 
 has-cycle-requires : tie.Need-has-cycle-requires
 has-cycle-requires c κs =
     let w = c .before .before .before in
     let written = sym (w .write-table .ensures) in (
-      subst ReadableGraph written (block-readable (new w) (table w) graphVersion (λ i. 0)),
+      subst ReadableGraph written (block-readable (new w) (holdable (new w) (table w)) graphVersion (λ i. 0)),
       subst Closed written (block-closed (new w) (table w) graphVersion (λ i. 0)),
     )
 

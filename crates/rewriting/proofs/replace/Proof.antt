@@ -11,7 +11,7 @@ use Rattle.definitions.specs.Reply.{done}
 use Rattle.definitions.specs.Graph.{slotLimit, graphVersion, recordAt, trueCount, SoundGraph}
 use Rattle.graph_fields.specs.Layout.{WholeGraph}
 use Rattle.graph_check.proofs.Readable.{graph-readable}
-use Rattle.encoding.proofs.Blocks.{block-readable}
+use Rattle.encoding.proofs.Blocks.{block-readable, holdable}
 use Rattle.new_plan.proofs.Replies.{not-both}
 use borrow.Author.Needs.{needs}
 use Rattle.rewriting.proofs.replace.Statement.{statement}
@@ -90,7 +90,7 @@ commit-requires c κs =
     let p = t .before in
     let made = p .plan .ensures .done _ (z .enum-told .given .1) in
     let same = front _ (p .plan .last .1 .1 .1 .0) _ (filled t) ∙ made .3 in
-    (search needs, subst WholeGraph (sym same) (block-readable (made .0) (made .1) graphVersion (trueCount (made .0)) .whole))
+    (search needs, subst WholeGraph (sym same) (block-readable (made .0) (holdable (made .0) (made .1)) graphVersion (trueCount (made .0)) .whole))
 
 same-length-2 : tie.Need-same-length-2
 same-length-2 c = search needs
