@@ -16,4 +16,7 @@ pub mod Sweep
 pub mod Squeeze
 pub mod Import
 pub mod ReadElsewhere
+pub mod Numerals
+pub mod Sheet
+pub mod Listing
 pub mod Results

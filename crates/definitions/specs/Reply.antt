@@ -67,6 +67,20 @@ notAMatch = 41
 abbrev pub noSuchVertex : ℕ
 noSuchVertex = 42
 
+-- the text buffer is shorter than the listing; the text is no listing; its graph is not sound; the graph buffer is not as long as that
+-- graph's block
+abbrev pub shortText : ℕ
+shortText = 43
+
+abbrev pub badListing : ℕ
+badListing = 44
+
+abbrev pub unsoundListing : ℕ
+unsoundListing = 45
+
+abbrev pub badGraphLength : ℕ
+badGraphLength = 46
+
 -- done, without a value
 abbrev pub done : Reply
 done = Done 0

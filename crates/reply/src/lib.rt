@@ -49,6 +49,18 @@ pub const NOT_A_MATCH: u8 = 41;
 // The vertex is a rule input, or no source vertex.
 pub const NO_SUCH_VERTEX: u8 = 42;
 
+// The text buffer is shorter than the listing.
+pub const SHORT_TEXT: u8 = 43;
+
+// The text is no listing.
+pub const BAD_LISTING: u8 = 44;
+
+// The graph of the listing is not sound.
+pub const UNSOUND_LISTING: u8 = 45;
+
+// The graph buffer is not as long as the block of the listing's graph.
+pub const BAD_GRAPH_LENGTH: u8 = 46;
+
 // The refusal with this number and this place. No request names a value beside the place yet.
 pub fn refuse_at(number: u8, index: u32) -> Reply
     ensures { λ r. ⌜ r ≡ answer.refusedAt number index ⌝ }
