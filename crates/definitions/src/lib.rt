@@ -21,6 +21,8 @@ pub const TAIL_BYTES: usize = SLOT_BYTES - TAIL_OFFSET;
 pub const COUNT_OFFSET: usize = TAIL_OFFSET;
 
 pub const SLOT_LIMIT: usize = 512;
+// The length of the longest block.
+pub const BLOCK_LIMIT: usize = HEADER_BYTES + SLOT_BYTES * SLOT_LIMIT;
 
 pub const OUTPUT_LIMIT: usize = 4;
 // The letter of its mark, `T`, where its version stands, and the version; the import takes another.

@@ -1,4 +1,5 @@
-// One slot of a graph block, written in place: its 48 bytes are lent on, and every other byte stays.
+// One slot of a graph block, written in place: its 48 bytes are lent on, and every other byte stays. And room for a block of any size.
+use definitions::BLOCK_LIMIT;
 use definitions::HEADER_BYTES;
 use definitions::SLOT_BYTES;
 use definitions::TAIL_BYTES;
@@ -8,7 +9,7 @@ use graph_records::write_record;
 ghost use mathlib.Core.Path.{_≡_};
 ghost use Prim.Native.Nat.{_+_, _≤_};
 ghost use lib.ListN.{length};
-ghost use Rattle.definitions.specs.Graph.{tailBytes, inputLimit, attributeLimit, recordAt};
+ghost use Rattle.definitions.specs.Graph.{tailBytes, slotLimit, inputLimit, attributeLimit, recordAt};
 ghost use Rattle.graph_records.specs.Records.{recordBytes};
 ghost use Rattle.graph_slots.specs.Written.{emptyBytes, SlotWritten};
 
@@ -32,4 +33,11 @@ pub fn clear_slot(graph: &mut [u8], k: usize)
 {
     let tail = [0u8; TAIL_BYTES];
     write_slot(graph, k, empty_record(), &tail);
+}
+
+// Room for a table: zeros, as many as the longest block has bytes.
+pub fn blank_table() -> [u8; BLOCK_LIMIT]
+    ensures { λ r. ⌜ length r ≡ recordAt slotLimit ⌝ }
+{
+    [0u8; BLOCK_LIMIT]
 }

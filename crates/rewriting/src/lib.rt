@@ -3,32 +3,20 @@
 use blocks::check_blocks;
 use blocks::write_map;
 use commit::commit;
-use definitions::HEADER_BYTES;
 use definitions::Reply;
 use definitions::SIDE_CAPACITY;
-use definitions::SLOT_BYTES;
-use definitions::SLOT_LIMIT;
+use graph_slots::blank_table;
 use new_plan::plan;
 use reply::NO_MATCH;
 use reply::refuse;
 use search::least_match;
 ghost use mathlib.Core.Path.{_≡_};
-ghost use lib.ListN.{length, take};
-ghost use Rattle.definitions.specs.Graph.{slotLimit, recordAt, graphOf};
+ghost use lib.ListN.{take};
+ghost use Rattle.definitions.specs.Graph.{graphOf};
 ghost use Rattle.definitions.specs.Rule.{sourceCount, ruleOf};
 ghost use Rattle.definitions.specs.Operations as operation;
 ghost use Rattle.new_plan.specs.Planned.{Matched};
 ghost use Rattle.rewriting.specs.Replaced.{Replaced};
-
-// The length of the longest graph block.
-const BLOCK_LIMIT: usize = HEADER_BYTES + SLOT_BYTES * SLOT_LIMIT;
-
-// Room for a table: zeros, as many as the longest block has bytes.
-fn blank() -> [u8; BLOCK_LIMIT]
-    ensures { λ r. ⌜ length r ≡ recordAt slotLimit ⌝ }
-{
-    [0u8; BLOCK_LIMIT]
-}
 
 // Rewrites the graph at this match, or says how that is refused, and then leaves the graph as it is.
 fn replace(graph: &mut [u8], rule: &[u8], images: &[u16; SIDE_CAPACITY]) -> Reply
@@ -36,7 +24,7 @@ fn replace(graph: &mut [u8], rule: &[u8], images: &[u16; SIDE_CAPACITY]) -> Repl
     ensures { λ r. ⌜ Replaced (operation.rewritten (graphOf (now (graph .entry))) (ruleOf (now (rule .entry)))
         (take (sourceCount (now (rule .entry))) (now (images .entry)))) r (now (graph .entry)) (now (graph .exit)) ⌝ }
 {
-    let mut table = blank();
+    let mut table = blank_table();
     let size = graph.len();
     match plan(graph, rule, images, &mut table[0..size]) {
         Reply::Refused(why) => return Reply::Refused(why),

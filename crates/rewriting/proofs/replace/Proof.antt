@@ -35,8 +35,8 @@ start c = c .before .before .before .before .before
 filled : (c : tie.After-table2) → length (c .before .plan .last .1 .1 .1 .0) ≡ length (start (c .before .before) .args .graph .now) - 0
 filled c = c .table2 .given ∙ c .before .before .table .given .2
 
-blank-requires : tie.Need-blank-requires
-blank-requires c κs = search needs
+blank-table-requires : tie.Need-blank-table-requires
+blank-table-requires c κs = search needs
 
 sub-plan : tie.Need-sub-plan
 sub-plan c = search needs
@@ -45,7 +45,7 @@ part-table-start : tie.Need-part-table-start
 part-table-start c = search needs
 
 part-table-end : tie.Need-part-table-end
-part-table-end c = let s = c .before .before .before .before in omega (arith, short (s .args .graph .now) (s .pre .soundGraph), c .before .blank .ensures)
+part-table-end c = let s = c .before .before .before .before in omega (arith, short (s .args .graph .now) (s .pre .soundGraph), c .before .blank-table .ensures)
 
 plan-requires : tie.Need-plan-requires
 plan-requires c κs =
@@ -111,7 +111,7 @@ pub replace-spec : {M : Type 1} → statement M
 replace-spec =
     tie.close
     (tie.spec
-    blank-requires
+    blank-table-requires
     sub-plan
     part-table-start
     part-table-end
