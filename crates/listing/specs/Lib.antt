@@ -1,0 +1,5 @@
+pub mod Typing
+pub mod Forms
+pub mod Grammar
+pub mod Parts
+pub mod Examples

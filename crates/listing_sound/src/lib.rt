@@ -1,0 +1,1 @@
+// Whether the graph of a listing is sound: theorems, and no code.
