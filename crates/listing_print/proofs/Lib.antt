@@ -1,0 +1,5 @@
+pub mod Laying
+pub mod Numbers
+pub mod Rows
+pub mod Words
+pub mod Lines
