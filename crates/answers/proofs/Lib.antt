@@ -10,8 +10,11 @@ pub mod Demands
 pub mod Records
 pub mod Unchanged
 pub mod Tidying
+pub mod GraphFirst
 pub mod Sweeping
 pub mod Squeezing
 pub mod Importing
 pub mod Asking
+pub mod Writing
+pub mod Reading
 pub mod Statements

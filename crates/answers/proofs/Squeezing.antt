@@ -17,7 +17,6 @@ use Rattle.definitions.specs.Fields.{u16Bytes}
 use Rattle.definitions.specs.Operators.{kindVariable}
 use Rattle.definitions.specs.Reply.{done, badMovesLength, refused, packed, numberIn, placeIn, valueIn}
 use Rattle.definitions.specs.Graph.{graphVersion, slotCount, storedCount, Graph, renamed, graphOf, slotOf, isVertex, isVariable, recordAt, trueCount, graphBlock, graphReply, SoundGraph}
-use Rattle.definitions.specs.Faults.{GraphFault}
 use Rattle.definitions.specs.Squeeze.{movedTo, squeeze, movesBlock, movesReply, squeezeReply, squeezeGraph, squeezeMoves}
 use Rattle.definitions.specs.Results.{Meaning}
 use Rattle.laws.proofs.Lists.{decided, true-not-false, map-same}
@@ -37,7 +36,8 @@ use Rattle.tidying.proofs.Squeezed.{vertexCount, comesFrom, count-most, moved-e
 use Rattle.answers.specs.Tidied.{wentTo, Renumbers}
 use Rattle.answers.specs.Statements.{Says, graphNumbers, squeezeNumbers, Squeezed, GraphVerdict, Squeezes, SqueezeReplies, SqueezeKeeps, SqueezedTwice}
 use Rattle.answers.proofs.Blocks.{graph-verdict, read-done, read-refused}
-use Rattle.answers.proofs.Tidying.{refused-why, layout, keeps}
+use Rattle.answers.proofs.Tidying.{layout, keeps}
+use Rattle.answers.proofs.GraphFirst.{sound-or-not, refused-why, GraphFirst, wrong, right, wrong-graph, graph-fault}
 
 -- ---- the list
 
@@ -76,14 +76,10 @@ module _ (graph moves : List ℕ) (reply : ℕ) (graphAfter movesAfter : List �
     wrongMoves : SoundGraph graph → (length moves ≡ 2 * slotCount graph → ⊥) → squeezeReply graph moves ≡ refused badMovesLength → Answer
     accepted : SoundGraph graph → length moves ≡ 2 * slotCount graph → squeezeReply graph moves ≡ done → Answer
 
-  judged : GraphVerdict graph (packed (graphReply graph))
-  judged = graph-verdict graph (packed (graphReply graph)) refl
-
   answer : Answer
   unfolding squeezeReply movesReply
   answer = ⊎-elim
-      (λ (t : eqb (numberIn (packed (graphReply graph))) 0 ≡ true).
-      let sound = judged .done .0 (eqb-true (numberIn (packed (graphReply graph))) 0 t) in
+      (λ (sound : SoundGraph graph).
       let then : squeezeReply graph moves ≡ movesReply graph moves =
       first-done (movesReply graph moves ∷ []) (every-sound graph sound)
       ∙ first-last (movesReply graph moves) (moves-valueless graph moves) in
@@ -93,11 +89,10 @@ module _ (graph moves : List ℕ) (reply : ℕ) (graphAfter movesAfter : List �
       (λ (s : eqb (length moves) (2 * slotCount graph) ≡ false).
       wrongMoves sound (eqb-false (length moves) (2 * slotCount graph) s) (then ∙ rw s))
       (decided (eqb (length moves) (2 * slotCount graph))))
-      (λ (t : eqb (numberIn (packed (graphReply graph))) 0 ≡ false).
-      let unsound : SoundGraph graph → ⊥ = λ sound. eqb-false (numberIn (packed (graphReply graph))) 0 t (judged .done .1 sound) in
+      (λ (unsound : SoundGraph graph → ⊥).
       let why = refused-why graph unsound in
       wrongGraph unsound (first-refused (why .0) (movesReply graph moves ∷ []) (why .1) ∙ sym (why .1)))
-      (decided (eqb (numberIn (packed (graphReply graph))) 0))
+      (sound-or-not graph)
 
   says-done : squeezeReply graph moves ≡ done → Says reply 0 0
   says-done e = read-done reply (contract .replied ∙ ap packed e)
@@ -109,20 +104,11 @@ module _ (graph moves : List ℕ) (reply : ℕ) (graphAfter movesAfter : List �
   says-graph e = graph-verdict graph reply (contract .replied ∙ ap packed e)
 
   -- 0 and 40 are no faults of a graph
-  apart-done : numberIn reply ≡ 0 → member (numberIn reply) graphNumbers ≡ true → ⊥
+  about-graph : Answer → GraphFirst graph reply
   unfolding member
-  apart-done h t = true-not-false (rw h at t) refl
-
-  apart-moves : numberIn reply ≡ badMovesLength → member (numberIn reply) graphNumbers ≡ true → ⊥
-  unfolding member
-  apart-moves h t = true-not-false (rw h at t) refl
-
-  faultless : {n p : ℕ} → SoundGraph graph → GraphFault graph n p → ⊥
-  unfolding member
-  faultless {n} {p} sound fault =
-      let told = judged .fault n p .1 fault in
-      let zero : n ≡ 0 = sym (told .1 .number) ∙ judged .done .1 sound in
-      true-not-false (rw zero at (told .0)) refl
+  about-graph (wrongGraph unsound e) = wrong unsound (says-graph e)
+  about-graph (wrongMoves sound other e) = right sound (rw (says-moves e .number))
+  about-graph (accepted sound size e) = right sound (rw (says-done e .number))
 
   -- ---- each case of the reply, and no other
 
@@ -135,26 +121,6 @@ module _ (graph moves : List ℕ) (reply : ℕ) (graphAfter movesAfter : List �
   to-done (wrongGraph unsound e) good = absurd (unsound (good .0))
   to-done (wrongMoves sound other e) good = absurd (other (good .1))
   to-done (accepted sound size e) good = says-done e .number
-
-  by-graph : Answer → member (numberIn reply) graphNumbers ≡ true → SoundGraph graph → ⊥
-  by-graph (wrongGraph unsound e) t = unsound
-  by-graph (wrongMoves sound other e) t = absurd (apart-moves (says-moves e .number) t)
-  by-graph (accepted sound size e) t = absurd (apart-done (says-done e .number) t)
-
-  to-graph : Answer → (SoundGraph graph → ⊥) → member (numberIn reply) graphNumbers ≡ true
-  to-graph (wrongGraph unsound e) h = says-graph e .refused .1 unsound
-  to-graph (wrongMoves sound other e) h = absurd (h sound)
-  to-graph (accepted sound size e) h = absurd (h sound)
-
-  by-fault : Answer → (n p : ℕ) → (member n graphNumbers ≡ true) × Says reply n p → GraphFault graph n p
-  by-fault (wrongGraph unsound e) n p h = says-graph e .fault n p .0 h
-  by-fault (wrongMoves sound other e) n p h = absurd (apart-moves (says-moves e .number) (rw (h .1 .number) (h .0)))
-  by-fault (accepted sound size e) n p h = absurd (apart-done (says-done e .number) (rw (h .1 .number) (h .0)))
-
-  to-fault : Answer → (n p : ℕ) → GraphFault graph n p → (member n graphNumbers ≡ true) × Says reply n p
-  to-fault (wrongGraph unsound e) n p fault = says-graph e .fault n p .1 fault
-  to-fault (wrongMoves sound other e) n p fault = absurd (faultless sound fault)
-  to-fault (accepted sound size e) n p fault = absurd (faultless sound fault)
 
   by-moves : Answer → numberIn reply ≡ badMovesLength → SoundGraph graph × (length moves ≡ 2 * slotCount graph → ⊥)
   unfolding member
@@ -340,8 +306,8 @@ module _ (graph moves : List ℕ) (reply : ℕ) (graphAfter movesAfter : List �
   pub squeeze-replies : SqueezeReplies graph moves reply graphAfter movesAfter
   squeeze-replies = record {
     done = (by-done answer, to-done answer);
-    wrongGraph = (by-graph answer, to-graph answer);
-    graphFault = λ n p. (by-fault answer n p, to-fault answer n p);
+    wrongGraph = wrong-graph graph reply (about-graph answer);
+    graphFault = graph-fault graph reply (about-graph answer);
     wrongMoves = (by-moves answer, to-moves answer);
     listed = by-number answer;
     plain = by-plain answer;

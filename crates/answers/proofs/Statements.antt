@@ -4,7 +4,7 @@ use mathlib.Core.Path.{_≡_, sym, ap, _∙_, subst}
 use mathlib.Core.List.{List}
 use Prim.Native.Nat.{ℕ, _+_, _*_, _^_}
 use native.Mathlib.Omega.{arith}
-use Rattle.definitions.specs.Reply.{numberIn, placeIn, valueIn}
+use Rattle.definitions.specs.Reply.{packed, numberIn, placeIn, valueIn}
 use Rattle.definitions.specs.Graph.{graphVersion, importVersion, graphOf, graphBlock}
 use Rattle.definitions.specs.Rule.{sourceCount, ruleOf, SoundRule}
 use Rattle.definitions.specs.Results.{Meaning}
@@ -12,8 +12,10 @@ use Rattle.definitions.specs.Operations.{imagesIn}
 use Rattle.theory.proofs.Fixing.{sound-fixing}
 use Rattle.theory.proofs.Least.{match-attempted}
 use Rattle.encoding.proofs.Graphs.{canonical}
+use Rattle.listing.proofs.Listings.{one-outcome}
+use Rattle.listing.proofs.Graphs as listings
 use Rattle.answers.specs.Rewritten.{Due}
-use Rattle.answers.specs.Statements.{Says, CheckedGraph, CheckedRule, Searched, Rewrote, Swept, Squeezed, Imported, Asked, GraphVerdict, RuleVerdict, OneBlock, MatchReplies, Yields, RewriteReplies, Demand3, SweepReplies, SweepKeeps, SweptTwice, SqueezeReplies, SqueezeKeeps, SqueezedTwice, ImportReplies, OneVersion, AskReplies, AnswersWritten, OneAttempt}
+use Rattle.answers.specs.Statements.{Says, CheckedGraph, CheckedRule, Searched, Rewrote, Swept, Squeezed, Imported, Asked, GraphVerdict, RuleVerdict, OneBlock, MatchReplies, Yields, RewriteReplies, Demand3, SweepReplies, SweepKeeps, SweptTwice, SqueezeReplies, SqueezeKeeps, SqueezedTwice, ImportReplies, OneVersion, AskReplies, AnswersWritten, OneAttempt, Wrote, ReadText, WriteReplies, ReadReplies, OneAnswer, OneListing, ReadsBack, WritesBack}
 use Rattle.answers.proofs.Blocks.{graph-verdict, rule-verdict}
 use Rattle.answers.proofs.Matching.{match-replies}
 use Rattle.answers.proofs.Rewriting.{block-replies, due, replied, listed, no-value, refusal-keeps, written}
@@ -23,6 +25,8 @@ use Rattle.answers.proofs.Sweeping.{sweep-replies, sweep-keeps, sweep-t
 use Rattle.answers.proofs.Squeezing.{squeeze-replies, squeeze-keeps, squeeze-twice}
 use Rattle.answers.proofs.Importing.{import-replies, import-version, check-version}
 use Rattle.answers.proofs.Asking.{done-every, ask-replies}
+use Rattle.answers.proofs.Writing.{write-replies}
+use Rattle.answers.proofs.Reading.{read-replies, writes-back, reads-back}
 
 -- Where there is no value, number and place are the whole reply.
 pub whole-word : (reply n p : ℕ) → Says reply n p → reply ≡ n + 2 ^ 8 * p
@@ -128,3 +132,27 @@ asked = ask-replies
 
 pub one-attempt : (graph rule : List ℕ) → SoundRule rule → OneAttempt graph rule
 one-attempt graph rule sound = match-attempted (graphOf graph) (ruleOf rule) (sound-fixing rule sound)
+
+module _ (graph text : List ℕ) (reply : ℕ) (textAfter : List ℕ) (contract : Wrote graph text reply textAfter) where
+  -- lg_write_listing
+  pub wrote : WriteReplies graph text reply textAfter
+  wrote = write-replies graph text reply textAfter contract
+
+  pub wrote-read : numberIn reply ≡ 0 → ReadsBack graph reply textAfter
+  wrote-read = reads-back graph text reply textAfter contract
+
+module _ (text graph : List ℕ) (reply : ℕ) (graphAfter : List ℕ) (contract : ReadText text graph reply graphAfter) where
+  -- lg_read_listing
+  pub read : ReadReplies text graph reply graphAfter
+  read = read-replies text graph reply graphAfter contract
+
+  pub read-written : numberIn reply ≡ 0 → WritesBack text graphAfter
+  read-written = writes-back text graph reply graphAfter contract
+
+pub one-answer : OneAnswer
+one-answer text graph reply other graphAfter otherAfter first second =
+    let same = one-outcome (first .read) (second .read) in
+    (first .replied ∙ ap packed (same .0) ∙ sym (second .replied), same .1)
+
+pub one-listing : OneListing
+one-listing one other bytes also sound second same = listings.one-block one other sound second bytes also same

@@ -24,7 +24,8 @@ use Rattle.answers.specs.Written.{KeepsRecord}
 use Rattle.answers.specs.Statements.{Swept, GraphVerdict, Sweeps, SweepReplies, SweepKeeps, SweptTwice}
 use Rattle.answers.proofs.Blocks.{graph-verdict}
 use Rattle.answers.proofs.Records.{record-kept}
-use Rattle.answers.proofs.Tidying.{refused-why, layout, keeps}
+use Rattle.answers.proofs.Tidying.{layout, keeps}
+use Rattle.answers.proofs.GraphFirst.{refused-why}
 
 module _ (graph : List ℕ) (reply : ℕ) (graphAfter : List ℕ) (contract : Swept graph reply graphAfter) where
   abbrev g : Graph

@@ -1,31 +1,17 @@
 -- What sweep and squeeze have in common: a sound block before and after, and results that are carried from one table to the other.
 -- Assumes nothing.
-use mathlib.Core.Path.{_≡_, refl, ap, _∙_}
+use mathlib.Core.Path.{_≡_, ap, _∙_}
 use mathlib.Core.Bool.{Bool, true}
 use mathlib.Core.List.{List, map, List·Memᴰ}
 use Prim.Native.Nat.{ℕ}
 use lib.ListN.{length, getD, length-map}
-use Rattle.definitions.specs.declared.Refusal.{Refusal}
-use Rattle.definitions.specs.declared.Reply.{Reply}
-use Rattle.definitions.specs.declared.Reply.the-variants.{Done, Refused}
-use Rattle.definitions.specs.Graph.{unusedPlace, Graph, graphOf, isVertex, graphReply, SoundGraph}
+use Rattle.definitions.specs.Graph.{unusedPlace, Graph, graphOf, isVertex, SoundGraph}
 use Rattle.definitions.specs.Results.{Meaning, Follows}
 use Rattle.laws.proofs.Lists.{map-at}
 use Rattle.laws.proofs.Members.{mem-at}
-use Rattle.laws.proofs.Reply.{done-plain}
-use Rattle.laws.proofs.Operations.{graph-valueless}
 use Rattle.theory.proofs.Results.{Layout, results-unique, results-exist}
-use Rattle.graph_check.proofs.Sound.{only-sound}
 use Rattle.tidying.proofs.Carried.{Carries, carried-vertex, carried-results}
 use Rattle.answers.specs.Tidied.{KeepsResults}
-
--- a block that is not sound is refused
-pub refused-why : (graph : List ℕ) → (SoundGraph graph → ⊥) → (why : Refusal) × (graphReply graph ≡ Refused why)
-refused-why graph unsound = by (graphReply graph) refl
-  where
-    by : (reply : Reply) → graphReply graph ≡ reply → (why : Refusal) × (graphReply graph ≡ Refused why)
-    by (Done value) e = absurd (unsound (only-sound graph (done-plain (graph-valueless graph) e)))
-    by (Refused why) e = (why, e)
 
 -- the table of a sound block
 pub layout : (graph : List ℕ) → SoundGraph graph → Layout (graphOf graph)

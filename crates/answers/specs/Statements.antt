@@ -12,11 +12,12 @@ use mathlib.Core.Option.{some}
 use Prim.Native.Nat.{ℕ, _+_, _*_, _<_, _≤_}
 use lib.Dec.{T}
 use lib.IntN.{ℤ}
-use lib.ListN.{length}
+use lib.ListN.{length, take, drop}
 use Rattle.definitions.specs.Lists.{member}
+use Rattle.definitions.specs.declared.Reply.{Reply}
 use Rattle.definitions.specs.Fields.{Bytes, byteAt, u16At}
-use Rattle.definitions.specs.Reply.{badMapLength, badGraphHeader, badGraphRecord, badGraphName, graphHasCycle, badGraphCount, badRuleHeader, badRuleRecord, badRuleOrder, badRuleOutputs, badRuleExpression, noMatch, noResult, noRoom, newCycle, badMovesLength, notAMatch, noSuchVertex, packed, numberIn, placeIn, valueIn}
-use Rattle.definitions.specs.Graph.{headerBytes, slotBytes, unusedPlace, versionOffset, importVersion, slotCount, storedCount, renamed, graphOf, slotOf, isVertex, graphBlock, graphReply, SoundAs, SoundGraph}
+use Rattle.definitions.specs.Reply.{badMapLength, badGraphHeader, badGraphRecord, badGraphName, graphHasCycle, badGraphCount, badRuleHeader, badRuleRecord, badRuleOrder, badRuleOutputs, badRuleExpression, noMatch, noResult, noRoom, newCycle, badMovesLength, notAMatch, noSuchVertex, shortText, badListing, unsoundListing, badGraphLength, packed, numberIn, placeIn, valueIn}
+use Rattle.definitions.specs.Graph.{headerBytes, slotBytes, unusedPlace, versionOffset, importVersion, slotCount, storedCount, recordAt, renamed, graphOf, slotOf, isVertex, graphBlock, graphReply, SoundAs, SoundGraph}
 use Rattle.definitions.specs.Rule.{sourceCount, ruleOf, isRuleInput, ruleReply, SoundRule}
 use Rattle.definitions.specs.Faults.{FaultAs, GraphFault, RuleFault}
 use Rattle.definitions.specs.Match.{imageOf, readAttribute, isConst, mustBePrivate, placesOf, Match, MatchFrom, outputImages, LeastFrom, attempt}
@@ -26,6 +27,8 @@ use Rattle.definitions.specs.Sweep.{Unneeded, sweepGraph}
 use Rattle.definitions.specs.Squeeze.{squeezeReply, squeezeGraph, squeezeMoves}
 use Rattle.definitions.specs.Import.{importReply, importGraph}
 use Rattle.definitions.specs.ReadElsewhere.{ReadElsewhere, elsewhereReply}
+use Rattle.definitions.specs.Sheet.{Sheet, SheetFits, printed}
+use Rattle.definitions.specs.Listing.{listing, graphIn, Stops, writeReply, writeText, ReadListing}
 use Rattle.definitions.specs.Results.{Meaning, Follows}
 use Rattle.answers.specs.Written.{OutsideVersion, OutsideCount, SameByte, KeepsRecord}
 use Rattle.answers.specs.Rewritten.{Due, SharedConst, ReadsNone, Keeps}
@@ -34,8 +37,8 @@ use Rattle.answers.specs.Tidied.{wentTo, Renumbers, KeepsResults}
 -- ==== the contracts
 
 -- Names with After are the lent bytes at the return, the others as they came. What is lent to read only cannot be written: the rule
--- always, the graph by the checks, by lg_find_match and by lg_is_read_elsewhere, and the map by the last. For lg_find_match lib.rt gives the
--- graph's bytes as they came for graphAfter.
+-- always, the graph by the checks, by lg_find_match, lg_is_read_elsewhere and lg_write_listing, the map by the third of these, and the text
+-- by lg_read_listing. For lg_find_match lib.rt gives the graph's bytes as they came for graphAfter.
 
 -- lg_check_graph and lg_check_rule: the reply is the definition's
 abbrev pub CheckedGraph : List ℕ → ℕ → Type 0
@@ -78,6 +81,18 @@ pub record Imported (graph : List ℕ) (reply : ℕ) (graphAfter : List ℕ) : T
 -- lg_is_read_elsewhere: the reply is the definition's, the answer with it
 abbrev pub Asked : List ℕ → List ℕ → List ℕ → ℕ → ℕ → Type 0
 Asked graph rule map vertex reply = reply ≡ packed (elsewhereReply graph rule map vertex)
+
+-- lg_write_listing: reply and text bytes are the definition's, the text's length with the reply; what it is lent to read are bytes
+pub record Wrote (graph text : List ℕ) (reply : ℕ) (textAfter : List ℕ) : Type 0 where
+  pub replied : reply ≡ packed (writeReply graph text)
+  pub left : textAfter ≡ writeText graph text
+  pub lentGraph : Bytes graph
+
+-- lg_read_listing: reply and graph bytes are those that ReadListing gives, which is one reply and one list of bytes for each text and graph
+pub record ReadText (text graph : List ℕ) (reply : ℕ) (graphAfter : List ℕ) : Type 0 where
+  pub answer : Reply
+  pub replied : reply ≡ packed answer
+  pub read : ReadListing text graph answer graphAfter
 
 -- ==== what follows: the checks
 
@@ -406,3 +421,97 @@ abbrev pub OneAttempt : List ℕ → List ℕ → Type 0
 OneAttempt graph rule =
     (images : List ℕ) → Match (graphOf graph) (ruleOf rule) images
     ↔ (attempt (graphOf graph) (ruleOf rule) (outputImages (ruleOf rule) images) ≡ some images)
+
+-- ==== what follows: writing a listing
+
+-- the numbers that writing gives
+abbrev pub writeNumbers : List ℕ
+writeNumbers = 0 ∷ graphNumbers ++ shortText ∷ []
+
+-- follows from Wrote
+pub record WriteReplies (graph text : List ℕ) (reply : ℕ) (textAfter : List ℕ) : Type 0 where
+  pub done : (numberIn reply ≡ 0) ↔ (SoundGraph graph × (length (listing (graphOf graph)) ≤ length text))
+  -- "the graph ones": n with place p exactly where n is the first kind of fault that holds and p its lowest place
+  pub wrongGraph : (member (numberIn reply) graphNumbers ≡ true) ↔ (SoundGraph graph → ⊥)
+  pub graphFault : (n p : ℕ) → ((member n graphNumbers ≡ true) × Says reply n p) ↔ GraphFault graph n p
+  -- "then 43 text buffer shorter than the listing"
+  pub short : (numberIn reply ≡ shortText) ↔ (SoundGraph graph × (length text < length (listing (graphOf graph))))
+  pub listed : member (numberIn reply) writeNumbers ≡ true
+  -- only the graph's faults have a place
+  pub plain : member (numberIn reply) graphNumbers ≡ false → placeIn reply ≡ 0
+  -- "Writing returns the text's length": below 65536 for every graph; a refusal has no value
+  pub size : numberIn reply ≡ 0 → valueIn reply ≡ length (listing (graphOf graph))
+  pub sizeLimit : valueIn reply < 65536
+  pub refusalValue : (numberIn reply ≡ 0 → ⊥) → valueIn reply ≡ 0
+  -- "keeps the rest of the buffer"
+  pub written : numberIn reply ≡ 0 → textAfter ≡ listing (graphOf graph) ++ drop (valueIn reply) text
+  pub refusalKeeps : (numberIn reply ≡ 0 → ⊥) → textAfter ≡ text
+
+-- ==== what follows: reading a listing
+
+-- the text is the listing of a sheet, and its graph is or is not sound
+pub record Lists (text : List ℕ) (s : Sheet) : Type 0 where
+  pub fits : SheetFits s
+  pub same : printed s ≡ text
+
+abbrev pub SoundSheet : Sheet → Type 0
+SoundSheet s = SoundGraph (graphBlock (graphIn s))
+
+-- the numbers that reading gives
+abbrev pub readNumbers : List ℕ
+readNumbers = 0 ∷ badListing ∷ unsoundListing ∷ badGraphLength ∷ []
+
+-- What is read, on reply 0: "reading it gives the same block with true counts".
+pub record ReadGraph (text graphAfter : List ℕ) : Type 0 where
+  pub sound : SoundGraph graphAfter
+  pub bytes : Bytes graphAfter
+  pub same : listing (graphOf graphAfter) ≡ text
+
+-- follows from ReadText
+pub record ReadReplies (text graph : List ℕ) (reply : ℕ) (graphAfter : List ℕ) : Type 0 where
+  -- "44 with the place of the first byte at which no listing can go on, or the text's length where it ends early": with place p exactly
+  -- where the text stops at p
+  pub stops : (p : ℕ) → Says reply badListing p ↔ Stops text p
+  -- and with some place exactly where the text is no listing
+  pub noListing : (numberIn reply ≡ badListing) ↔ ((s : Sheet) → Lists text s → ⊥)
+  -- "45 unsound graph"
+  pub unsound : (numberIn reply ≡ unsoundListing) ↔ ((s : Sheet) × Lists text s × (SoundSheet s → ⊥))
+  -- "46 graph buffer not exactly 24 + 48N bytes"
+  pub wrongLength : (numberIn reply ≡ badGraphLength)
+      ↔ ((s : Sheet) × Lists text s × SoundSheet s × (length graph ≡ recordAt (s .size) → ⊥))
+  -- "exactly such listings are accepted": where the text is the listing of some sound graph, and the buffer is as long as its block. What
+  -- stood in the buffer is not judged.
+  pub done : (numberIn reply ≡ 0)
+      ↔ ((block : List ℕ) × SoundGraph block × Bytes block × (listing (graphOf block) ≡ text) × (length graph ≡ length block))
+  pub listed : member (numberIn reply) readNumbers ≡ true
+  -- only 44 has a place, and it is below 65536; nothing has a value
+  pub plain : (numberIn reply ≡ badListing → ⊥) → placeIn reply ≡ 0
+  pub placeLimit : placeIn reply < 65536
+  pub value : valueIn reply ≡ 0
+  pub reads : numberIn reply ≡ 0 → ReadGraph text graphAfter
+  pub refusalKeeps : (numberIn reply ≡ 0 → ⊥) → graphAfter ≡ graph
+
+-- A text and a buffer have one answer. Follows from ReadText of both.
+abbrev pub OneAnswer : Type 0
+OneAnswer = (text graph : List ℕ) (reply other : ℕ) (graphAfter otherAfter : List ℕ) → ReadText text graph reply graphAfter
+    → ReadText text graph other otherAfter → (reply ≡ other) × (graphAfter ≡ otherAfter)
+
+-- ==== what follows: there and back
+
+-- "Every sound graph has one listing": two sound blocks of bytes with one listing are the same bytes. Follows from the definitions.
+abbrev pub OneListing : Type 0
+OneListing = (one other : List ℕ) → Bytes one → Bytes other → SoundGraph one → SoundGraph other
+    → listing (graphOf one) ≡ listing (graphOf other) → one ≡ other
+
+-- Reading what was written, the bytes of the text up to the length that writing gave, into a buffer as long as the graph, is done and gives
+-- exactly the graph's bytes. Follows from Wrote and reply 0.
+abbrev pub ReadsBack : List ℕ → ℕ → List ℕ → Type 0
+ReadsBack graph reply textAfter =
+    (buffer : List ℕ) (again : ℕ) (bufferAfter : List ℕ) → ReadText (take (valueIn reply) textAfter) buffer again bufferAfter
+    → length buffer ≡ length graph → (numberIn again ≡ 0) × (bufferAfter ≡ graph)
+
+-- And writing what was read, into a buffer that is long enough, is done and gives exactly the text. Follows from ReadText and reply 0.
+abbrev pub WritesBack : List ℕ → List ℕ → Type 0
+WritesBack text graphAfter =
+    (buffer : List ℕ) (again : ℕ) (bufferAfter : List ℕ) → Wrote graphAfter buffer again bufferAfter
+    → length text ≤ length buffer → (numberIn again ≡ 0) × (valueIn again ≡ length text) × (take (length text) bufferAfter ≡ text)

@@ -2,7 +2,7 @@
 // their C prototypes. None has a `requires`: any bytes are answered. The contracts stand in
 // answers/specs/Statements, each with what follows from it.
 use reply::pack;
-ghost use Rattle.answers.specs.Statements.{CheckedGraph, CheckedRule, Searched, Rewrote, Swept, Squeezed, Imported, Asked};
+ghost use Rattle.answers.specs.Statements.{CheckedGraph, CheckedRule, Searched, Rewrote, Swept, Squeezed, Imported, Asked, Wrote, ReadText};
 
 // Checks a graph block: 0, or 20 to 24, all but 20 with a place.
 #[no_mangle]
@@ -73,4 +73,23 @@ pub extern "C" fn lg_is_read_elsewhere(graph: &[u8], rule: &[u8], map: &[u8], ve
     ensures { λ r. ⌜ Asked (now (graph .entry)) (now (rule .entry)) (now (map .entry)) vertex r ⌝ }
 {
     pack(read_elsewhere::is_read_elsewhere(graph, rule, map, vertex))
+}
+
+// Writes the listing of a graph into the lent text: what the check refuses, 43 where the text is shorter than the listing, or 0, with the
+// listing's length as value; what stands behind the listing stays. A refusal leaves every byte as it came.
+#[no_mangle]
+pub extern "C" fn lg_write_listing(graph: &[u8], text: &mut [u8]) -> u64
+    ensures { λ r. ⌜ Wrote (now (graph .entry)) (now (text .entry)) r (now (text .exit)) ⌝ }
+{
+    pack(listing_write::write_listing(graph, text))
+}
+
+// Reads a listing into the lent graph: 44 where the text is no listing, with the place of the first byte at which none can go on, or the text's
+// length where it ends early; 45 where its graph is not sound; 46 where the lent graph is not as long as that graph's block; or 0. A refusal leaves
+// every byte as it came.
+#[no_mangle]
+pub extern "C" fn lg_read_listing(text: &[u8], graph: &mut [u8]) -> u64
+    ensures { λ r. ⌜ ReadText (now (text .entry)) (now (graph .entry)) r (now (graph .exit)) ⌝ }
+{
+    pack(listing_read::read_listing(text, graph))
 }
