@@ -1,4 +1,5 @@
-//! Builders of graph and rule blocks, for tests, examples and the comparison.
+//! Builders of graph and rule blocks, for tests, examples and the comparison, and for
+//! what a listing says.
 //!
 //! They write what they are told, sound or not: counts of inputs, of attributes
 //! and of what names a slot follow from the lists given, unused places and zero
@@ -6,7 +7,7 @@
 
 use crate::counts::write_counts;
 use crate::fields::{put_i32, put_u16};
-use crate::graph::{self, write_record, Version, OUTPUT_PLACES, VERSION};
+use crate::graph::{self, write_record, Graph, Slot, Version, OUTPUT_PLACES, VERSION};
 use crate::operators::{
     ADD, CALL, CONST, CONV2D, EMPTY, GAIN, MEAN, PROJ, RELU, SUB, TUPLE, VARIABLE, WILDCARD,
 };
@@ -83,6 +84,17 @@ impl Vertex {
 impl GraphParts {
     pub fn new(slots: Vec<Vertex>, outputs: &[u16]) -> GraphParts {
         GraphParts { slots, outputs: outputs.to_vec() }
+    }
+
+    /// What a sound graph has.
+    pub fn of(graph: Graph) -> GraphParts {
+        let parts = |slot: Slot| Vertex {
+            kind: slot.kind(),
+            operator: slot.operator(),
+            inputs: slot.inputs().collect(),
+            attributes: slot.attributes().collect(),
+        };
+        GraphParts { slots: graph.slots().map(parts).collect(), outputs: graph.outputs().collect() }
     }
 
     /// The block, with true counts. At most four outputs, six inputs and six

@@ -1,14 +1,15 @@
 //! The second program of leafgraph: document 01, with requests 1/13, 2/13 and 4/13
-//! to 6/13 of document 02, in plain Rust.
+//! to 7/13 of document 02, in plain Rust.
 //!
 //! It is written from these papers alone, not from the proved library, so that
 //! an error of reading in one of the two shows up as a difference between
 //! them. Sentences in quotation marks are document 01's or a request's.
 //!
 //! "Four operations: check a graph, check a rule, find a match, rewrite",
-//! request 4/13's sweep and squeeze, request 5/13's import, and request 6/13's
-//! question. Each answers any bytes of any length. The reply holds its number in
-//! bits 0 to 7, its place in bits 8 to 39 and its value in bits 40 to 63.
+//! request 4/13's sweep and squeeze, request 5/13's import, request 6/13's
+//! question, and request 7/13's listing, written and read. Each answers any bytes of
+//! any length. The reply holds its number in bits 0 to 7, its place in bits 8 to 39
+//! and its value in bits 40 to 63.
 #![forbid(unsafe_code)]
 
 pub mod attributes;
@@ -21,6 +22,7 @@ pub mod generate;
 pub mod graph;
 pub mod graph_faults;
 mod import;
+pub mod listing;
 pub mod match_check;
 pub mod matching;
 pub mod meaning;
@@ -38,9 +40,10 @@ pub mod rule_faults;
 pub mod squeeze;
 pub mod sweep;
 
+use blocks::GraphParts;
 use graph::{Graph, MAX_BLOCK};
 use readers::Mapped;
-use reply::{reply_of, reply_to_question, Refusal};
+use reply::{reply_of, reply_to_question, reply_with_value, Refusal, NO_LISTING};
 use rule::Rule;
 
 /// "map buffer isn't 32 bytes": the only length of a map that is taken.
@@ -96,6 +99,22 @@ pub fn import(graph: &mut [u8]) -> u64 {
 /// is.
 pub fn is_read_elsewhere(graph: &[u8], rule: &[u8], map: &[u8], vertex: usize) -> u64 {
     reply_to_question(try_is_read_elsewhere(graph, rule, map, vertex))
+}
+
+/// "Write a graph as text". "Writing returns the text's length and keeps the rest of the
+/// buffer." "Refusals: writing gives the graph ones, then 43 text buffer shorter than the
+/// listing".
+pub fn write_listing(graph: &[u8], text: &mut [u8]) -> u64 {
+    reply_with_value(try_write_listing(graph, text))
+}
+
+/// "and read it back": "reading it gives the same block with true counts, and exactly
+/// such listings are accepted". "Reading gives 44 with the place of the first byte at
+/// which no listing can go on, or the text's length where it ends early, 45 unsound
+/// graph, 46 graph buffer not exactly 24 + 48N bytes, in that order." What the buffer
+/// held before is not looked at.
+pub fn read_listing(text: &[u8], graph: &mut [u8]) -> u64 {
+    reply_of(try_read_listing(text, graph))
 }
 
 fn try_find_match(graph: &[u8], rule: &[u8], start: usize, map: &mut [u8]) -> Result<(), Refusal> {
@@ -157,6 +176,25 @@ fn try_is_read_elsewhere(
         return Err(Refusal::NO_SUCH_VERTEX);
     }
     Ok(mapped.is_read_elsewhere(images[vertex]))
+}
+
+fn try_write_listing(graph: &[u8], text: &mut [u8]) -> Result<u32, Refusal> {
+    let listing = listing::listing_of(&GraphParts::of(Graph::parse(graph)?));
+    let place = text.get_mut(..listing.len()).ok_or(Refusal::TEXT_LENGTH)?;
+    place.copy_from_slice(listing.as_bytes());
+    Ok(listing.len() as u32)
+}
+
+fn try_read_listing(text: &[u8], graph: &mut [u8]) -> Result<(), Refusal> {
+    let parts = listing::parts_of(text)
+        .map_err(|stop| Refusal { number: NO_LISTING, place: stop.place as u32 })?;
+    let block = parts.block();
+    Graph::parse(&block).map_err(|_| Refusal::UNSOUND_LISTING)?;
+    if graph.len() != block.len() {
+        return Err(Refusal::BLOCK_LENGTH);
+    }
+    graph.copy_from_slice(&block);
+    Ok(())
 }
 
 fn check_map_length(map: &[u8]) -> Result<(), Refusal> {

@@ -1,7 +1,8 @@
 //! "Inside, a reply is one of two cases, done or a refusal with its number
 //! and place record". Request 2/13 tells the kinds of fault apart, "20 to 23
 //! replace 2 and 30 to 34 replace 3", and gives the place; request 5/13 adds 24.
-//! From request 6/13 on done may have a value, which is 1 for yes and 0 for no.
+//! From request 6/13 on done may have a value: 1 for yes and 0 for no, and in request
+//! 7/13 the length of a text that was written.
 
 /// A graph's "record against its kind", with its slot.
 pub const GRAPH_RECORD: u8 = 21;
@@ -19,6 +20,10 @@ pub const RULE_ORDER: u8 = 32;
 /// "an expression, nodes first, then each vertex's use of them", with the node
 /// or the vertex.
 pub const RULE_EXPRESSION: u8 = 34;
+
+/// A text that is no listing, with "the place of the first byte at which no listing can
+/// go on, or the text's length where it ends early".
+pub const NO_LISTING: u8 = 44;
 
 /// A refusal: its number and its place.
 #[derive(Clone, Copy, Debug, PartialEq, Eq)]
@@ -51,6 +56,12 @@ impl Refusal {
     pub const NOT_A_MATCH: Refusal = Refusal::without_place(41);
     /// "42 when it is no such vertex": not a non-input source vertex
     pub const NO_SUCH_VERTEX: Refusal = Refusal::without_place(42);
+    /// "43 text buffer shorter than the listing"
+    pub const TEXT_LENGTH: Refusal = Refusal::without_place(43);
+    /// "45 unsound graph", in a listing
+    pub const UNSOUND_LISTING: Refusal = Refusal::without_place(45);
+    /// "46 graph buffer not exactly 24 + 48N bytes"
+    pub const BLOCK_LENGTH: Refusal = Refusal::without_place(46);
 
     /// "wherever no request names a place, 0"
     const fn without_place(number: u8) -> Refusal {
@@ -82,11 +93,15 @@ pub fn reply_of(outcome: Result<(), Refusal>) -> u64 {
     }
 }
 
-/// The reply to a question, with its answer as the value, in bits 40 to 63.
+/// The reply to a question, with its answer as the value.
 pub fn reply_to_question(outcome: Result<bool, Refusal>) -> u64 {
+    reply_with_value(outcome.map(u32::from))
+}
+
+/// The reply with a value, in bits 40 to 63, where it is done.
+pub fn reply_with_value(outcome: Result<u32, Refusal>) -> u64 {
     match outcome {
-        Ok(true) => YES,
-        Ok(false) => DONE,
+        Ok(value) => DONE | u64::from(value) << VALUE,
         Err(refusal) => reply_of(Err(refusal)),
     }
 }

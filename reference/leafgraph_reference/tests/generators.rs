@@ -11,7 +11,7 @@ use leafgraph_reference::random::Random;
 use leafgraph_reference::removal::removed_slots;
 use leafgraph_reference::reply::number_of;
 use leafgraph_reference::rule::Rule;
-use leafgraph_reference::{check_graph, check_rule, find_match, import, rewrite};
+use leafgraph_reference::{check_graph, check_rule, find_match, import, read_listing, rewrite};
 
 #[test]
 fn sound_graphs_are_accepted() {
@@ -189,4 +189,23 @@ fn sequences_are_sound() {
         assert!(rules.iter().all(|rule| check_rule(&rule.block()) == 0), "{rules:?}");
         assert!(!rules.is_empty());
     }
+}
+
+/// Texts of every sort, accepted and refused for every reason; 46, the buffer's, stands
+/// for what is accepted with another one.
+#[test]
+fn texts_get_every_reply() {
+    let mut random = Random::new(16);
+    let mut replies: BTreeMap<u8, usize> = BTreeMap::new();
+    let mut origins: BTreeMap<&str, usize> = BTreeMap::new();
+    for _ in 0..5000 {
+        let (origin, text) = any_text(&mut random);
+        let reply = read_listing(&text, &mut []);
+        *replies.entry(number_of(reply)).or_default() += 1;
+        *origins.entry(origin).or_default() += 1;
+    }
+    assert!(replies.keys().copied().eq([44, 45, 46]), "{replies:?}");
+    assert!(replies.values().all(|&count| count > 500), "{replies:?}");
+    assert_eq!(origins.len(), 20, "{origins:?}");
+    assert!(origins.values().all(|&count| count > 50), "{origins:?}");
 }

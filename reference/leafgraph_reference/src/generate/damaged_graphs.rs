@@ -37,6 +37,19 @@ fn parts_to_damage(random: &mut Random) -> GraphParts {
     }
 }
 
+/// A sound graph's parts after one damage or a few that keep every record in the shape
+/// of its kind; seldom with no vertex left.
+pub fn damaged_parts(random: &mut Random) -> GraphParts {
+    let mut parts = sound_graph(random);
+    for sort in damages(random, PART_SORTS) {
+        damage_parts(random, &mut parts, sort);
+    }
+    if random.chance(3) {
+        parts.slots.fill(empty());
+    }
+    parts
+}
+
 /// This graph's block after one damage or a few. It may be a sound one of version
 /// 1, or one with another version or wrong counts and no other damage.
 pub fn damaged_graph_of(random: &mut Random, mut parts: GraphParts) -> Vec<u8> {

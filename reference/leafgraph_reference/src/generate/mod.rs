@@ -1,5 +1,5 @@
 //! Random blocks for the comparison and for tests: sound ones of all shapes,
-//! and damaged ones that are only just unsound.
+//! and damaged ones that are only just unsound. And texts, listings and others.
 
 mod agreeing;
 mod constants;
@@ -12,6 +12,7 @@ mod filling;
 mod graphs;
 mod insertion;
 mod lawful;
+mod listings;
 mod noise;
 mod rewritings;
 mod rules;
@@ -22,10 +23,11 @@ mod targets;
 mod wrong_counts;
 
 pub use cuts::{matching_case, same_meaning_case, Case};
-pub use damaged_graphs::{damaged_graph, damaged_graph_of, damaged_version_1_graph};
+pub use damaged_graphs::{damaged_graph, damaged_graph_of, damaged_parts, damaged_version_1_graph};
 pub use damaged_rules::{damaged_rule, damaged_rule_of};
 pub use graphs::{sound_graph, sound_graph_of};
 pub use lawful::lawful_rules;
+pub use listings::any_text;
 pub use noise::{
     noise, noise_with_graph_header, noise_with_rule_header, noise_with_version_1_header,
 };
