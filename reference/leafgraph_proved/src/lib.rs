@@ -36,6 +36,8 @@ extern "C" {
         map_len: usize,
         vertex: usize,
     ) -> u64;
+    fn lg_write_listing(graph: *const u8, graph_len: usize, text: *mut u8, text_len: usize) -> u64;
+    fn lg_read_listing(text: *const u8, text_len: usize, graph: *mut u8, graph_len: usize) -> u64;
 }
 
 pub fn check_graph(graph: &[u8]) -> u64 {
@@ -114,4 +116,15 @@ pub fn is_read_elsewhere(graph: &[u8], rule: &[u8], map: &[u8], vertex: usize) -
             vertex,
         )
     }
+}
+
+pub fn write_listing(graph: &[u8], text: &mut [u8]) -> u64 {
+    // SAFETY: as for the checks; and the text, which may be written, does not overlap
+    // the graph, since it is borrowed for this call alone.
+    unsafe { lg_write_listing(graph.as_ptr(), graph.len(), text.as_mut_ptr(), text.len()) }
+}
+
+pub fn read_listing(text: &[u8], graph: &mut [u8]) -> u64 {
+    // SAFETY: as above, with the graph written and the text read.
+    unsafe { lg_read_listing(text.as_ptr(), text.len(), graph.as_mut_ptr(), graph.len()) }
 }
