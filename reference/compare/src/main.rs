@@ -1,15 +1,16 @@
 //! Runs the proved library and the second program on the same random blocks
 //! and reports any difference.
 //!
-//!     compare [--seed S] [--calls N] checks|matching|rewriting|cleanups|readers|mixed
+//!     compare [--seed S] [--calls N] checks|matching|rewriting|cleanups|readers|listings|mixed
 //!
 //! - checks: the two checks, and with every fifth call an import;
 //! - matching: searches;
 //! - rewriting: rewritings by themselves, and in sequences on one graph;
 //! - cleanups: sweeps and squeezes;
 //! - readers: whether a stage is read elsewhere;
-//! - mixed: imports, rewritings, sweeps and squeezes in sequences on one graph, and
-//!   whether stages of each match are read elsewhere.
+//! - listings: graphs written as text, and texts read;
+//! - mixed: imports, rewritings, sweeps and squeezes in sequences on one graph, whether
+//!   stages of each match are read elsewhere, and each table written as text and read.
 //!
 //! The same seed gives the same calls. Exit status 0: no difference, enough
 //! calls were done, and everything that must be tried was; 1: otherwise; 2:
@@ -24,6 +25,7 @@ mod count_fault_classes;
 mod graph_fault_classes;
 mod import_classes;
 mod imports;
+mod listings;
 mod look_classes;
 mod maps;
 mod matching;
@@ -31,7 +33,9 @@ mod mixed;
 mod mixed_classes;
 mod namers;
 mod nearly;
+mod place_classes;
 mod questions;
+mod read_classes;
 mod reader_classes;
 mod readers;
 mod refusal_classes;
@@ -42,8 +46,10 @@ mod rule_fault_classes;
 mod sequences;
 mod squeeze_classes;
 mod sweep_classes;
+mod tables;
 mod tally;
 mod unmatched_classes;
+mod written_classes;
 
 use std::env;
 use std::process::ExitCode;
@@ -54,7 +60,7 @@ use tally::Tally;
 
 const DEFAULT_SEED: u64 = 1;
 const USAGE: &str =
-    "usage: compare [--seed S] [--calls N] checks|matching|rewriting|cleanups|readers|mixed";
+    "usage: compare [--seed S] [--calls N] checks|matching|rewriting|cleanups|readers|listings|mixed";
 
 /// What is compared.
 #[derive(Clone, Copy)]
@@ -64,12 +70,13 @@ struct Mode {
     default_calls: u64,
 }
 
-const MODES: [Mode; 6] = [
+const MODES: [Mode; 7] = [
     Mode { name: "checks", run: checks::run, default_calls: 1_250_000 },
     Mode { name: "matching", run: matching::run, default_calls: 300_000 },
     Mode { name: "rewriting", run: rewriting::run, default_calls: 300_000 },
     Mode { name: "cleanups", run: cleanups::run, default_calls: 300_000 },
     Mode { name: "readers", run: readers::run, default_calls: 400_000 },
+    Mode { name: "listings", run: listings::run, default_calls: 200_000 },
     Mode { name: "mixed", run: mixed::run, default_calls: 200_000 },
 ];
 

@@ -1,6 +1,7 @@
 //! One graph imported, and then rewritten, swept and squeezed in any order. Each
 //! call works on the table that the last one left, and all counts must be true
-//! after it. About each match that comes up it is asked what is read elsewhere.
+//! after it. About each match that comes up it is asked what is read elsewhere, and each
+//! table is written as a listing and read.
 
 use leafgraph_proved::guarded::{Guarded, SHIFTS};
 use leafgraph_reference::generate::sequence;
@@ -15,6 +16,7 @@ use crate::arguments::Arguments;
 use crate::cleanups::{Cleanup, Lent, SQUEEZE, SWEEP};
 use crate::mixed_classes::{History, Operation, CLASSES};
 use crate::questions::Questions;
+use crate::tables::{self, Tables};
 use crate::tally::{Call, Tally, CHANGED};
 use crate::{imports, questions};
 
@@ -30,15 +32,18 @@ pub fn run(random: &mut Random, calls: u64) -> Vec<Tally> {
     let name = "import, rewrite, sweep and squeeze in sequence";
     let mut tally = Tally::new(name, &NUMBERS, &CLASSES);
     let mut asked = questions::tally();
+    let mut listed = tables::tally();
     while tally.calls() < calls {
         let sequence = sequence(random);
         let of_version_1 = random.chance(50);
+        let graph = match of_version_1 {
+            true => sequence.graph.version_1_block(),
+            false => sequence.graph.block(),
+        };
         let mut run = Run {
             history: History::new(sequence.graph.slots.len(), !of_version_1),
-            graph: match of_version_1 {
-                true => sequence.graph.version_1_block(),
-                false => sequence.graph.block(),
-            },
+            tables: Tables::new(&graph),
+            graph,
             rules: sequence.rules.iter().map(|rule| rule.block()).collect(),
             questions: Questions::default(),
         };
@@ -50,8 +55,9 @@ pub fn run(random: &mut Random, calls: u64) -> Vec<Tally> {
         }
         run.history.count(&mut tally);
         run.questions.ask_all(random, &mut asked);
+        run.tables.list_all(random, &mut listed);
     }
-    vec![tally, asked]
+    vec![tally, asked, listed]
 }
 
 /// A sequence under way.
@@ -60,6 +66,7 @@ struct Run {
     rules: Vec<Vec<u8>>,
     history: History,
     questions: Questions,
+    tables: Tables,
 }
 
 impl Run {
@@ -166,6 +173,7 @@ impl Run {
 
     fn take(&mut self, operation: Operation, graph: Vec<u8>) {
         self.history.done(operation, &self.graph, &graph);
+        self.tables.note(operation, &graph);
         self.graph = graph;
     }
 
