@@ -66,6 +66,6 @@ if [ "$status" -ne 0 ]; then
     die "FAILED with status $status; the failing input: ${input:-none, see build/fuzz/log}"
 fi
 grep -E '^stat::(number_of_executed_units|average_exec_per_sec|new_units_added)' "$out/log"
-sed -n '/^compared/,/lg_is_read_elsewhere/p' "$out/log"
+sed -n '/^compared/,/lg_read_listing/p' "$out/log"
 grep -qE '^compared [1-9]' "$out/log" || die "no call was compared"
 echo "fuzz: no difference"

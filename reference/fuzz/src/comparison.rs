@@ -3,11 +3,11 @@
 use std::fmt;
 
 use leafgraph_proved::guarded::Guarded;
-use leafgraph_reference::reply::number_of;
+use leafgraph_reference::reply::{number_of, value_of};
 use leafgraph_reference::rule::Rule;
 
 use crate::input::Input;
-use crate::judgement::{Cleaned, Imported, Rewriting};
+use crate::judgement::{Cleaned, Imported, Listed, Rewriting};
 use crate::library::{Lent, Library, Operation, OPERATIONS, SECOND};
 use crate::tally::Tally;
 
@@ -33,7 +33,8 @@ impl fmt::Display for Difference {
 }
 
 /// What is done at the end with the graph that the rewritings leave.
-const CLEANED: [Operation; 3] = [Operation::Sweep, Operation::Squeeze, Operation::Rewrite];
+const CLEANED: [Operation; 4] =
+    [Operation::Sweep, Operation::Squeeze, Operation::Rewrite, Operation::WriteListing];
 
 /// Cuts the bytes and makes all calls, and once more with the graph in the other
 /// version: of one version the import takes it, of the other all else.
@@ -45,9 +46,9 @@ pub fn compare(library: &Library, bytes: &[u8], tally: &mut Tally) -> Result<(),
 }
 
 impl Input {
-    /// All eight calls, and questions about the match where there is one; further
+    /// All ten calls, and questions about the match where there is one; further
     /// rewritings of the graph if the input asks for them. Then the graph that is left
-    /// is swept, squeezed and rewritten once more.
+    /// is swept, squeezed, rewritten once more and listed.
     fn compare_all(mut self, library: &Library, tally: &mut Tally) -> Result<(), Difference> {
         for operation in OPERATIONS.into_iter().filter(|&one| one != Operation::Rewrite) {
             self.compare(library, operation, 0, tally)?;
@@ -96,8 +97,8 @@ impl Input {
         let call = self.call(library, operation);
         let expected = self.expected(operation);
         tally.record(operation, expected.reply);
-        let mut faults = call.faults(self, &expected);
-        if expected.reply == 0 {
+        let mut faults = call.faults(self, &expected, &self.buffer_for(operation));
+        if number_of(expected.reply) == 0 {
             faults.extend(self.judge(library, operation, &expected));
         }
         if !faults.is_empty() {
@@ -121,6 +122,13 @@ impl Input {
                 Cleaned { old, new, list }.faults(library, self.seed)
             }
             Operation::Import => Imported { old, new }.faults(library),
+            Operation::WriteListing => {
+                let text = &done.buffer[..value_of(done.reply) as usize];
+                Listed { graph: old, text }.faults(library)
+            }
+            Operation::ReadListing => {
+                Listed { graph: &done.buffer, text: &self.text }.faults(library)
+            }
             Operation::CheckGraph
             | Operation::CheckRule
             | Operation::FindMatch
@@ -128,20 +136,33 @@ impl Input {
         }
     }
 
+    /// The buffer of this operation, if it is about listings.
+    fn buffer_for(&self, operation: Operation) -> Vec<u8> {
+        match operation {
+            Operation::WriteListing => self.text_buffer(),
+            Operation::ReadListing => self.graph_buffer(),
+            _ => vec![],
+        }
+    }
+
     fn call(&self, library: &Library, operation: Operation) -> Call {
-        let [graph, rule, map, list] = self.shifts;
+        let [graph, rule, map, list, text, buffer] = self.shifts;
         let mut call = Call {
             reply: 0,
             graph: Guarded::new(&self.graph, graph),
             rule: Guarded::new(&self.rule, rule),
             map: Guarded::new(&self.map, map),
             list: Guarded::new(&self.list, list),
+            text: Guarded::new(&self.text, text),
+            buffer: Guarded::new(&self.buffer_for(operation), buffer),
         };
         let lent = Lent {
             graph: call.graph.lend(),
             rule: call.rule.lend(),
             map: call.map.lend(),
             list: call.list.lend(),
+            text: call.text.lend(),
+            buffer: call.buffer.lend(),
         };
         call.reply = library.call(operation, lent, self.start);
         call
@@ -150,9 +171,17 @@ impl Input {
     fn expected(&self, operation: Operation) -> Expected {
         let (mut graph, mut rule) = (self.graph.clone(), self.rule.clone());
         let (mut map, mut list) = (self.map.clone(), self.list.clone());
-        let lent = Lent { graph: &mut graph, rule: &mut rule, map: &mut map, list: &mut list };
+        let (mut text, mut buffer) = (self.text.clone(), self.buffer_for(operation));
+        let lent = Lent {
+            graph: &mut graph,
+            rule: &mut rule,
+            map: &mut map,
+            list: &mut list,
+            text: &mut text,
+            buffer: &mut buffer,
+        };
         let reply = SECOND.call(operation, lent, self.start);
-        Expected { reply, graph, map, list }
+        Expected { reply, graph, map, list, buffer }
     }
 
     fn describe(&self) -> String {
@@ -161,6 +190,7 @@ impl Input {
             ("rule", &self.rule),
             ("map", &self.map),
             ("list", &self.list),
+            ("text", &self.text),
         ];
         let blocks = blocks.map(|(name, block)| {
             let hex: String = block.iter().map(|byte| format!("{byte:02x}")).collect();
@@ -177,6 +207,8 @@ struct Call {
     rule: Guarded,
     map: Guarded,
     list: Guarded,
+    text: Guarded,
+    buffer: Guarded,
 }
 
 /// What the second program made of it.
@@ -185,10 +217,12 @@ struct Expected {
     graph: Vec<u8>,
     map: Vec<u8>,
     list: Vec<u8>,
+    buffer: Vec<u8>,
 }
 
 impl Call {
-    fn faults(&self, input: &Input, expected: &Expected) -> Vec<String> {
+    /// The last block is what the operation's buffer held.
+    fn faults(&self, input: &Input, expected: &Expected, buffer: &Vec<u8>) -> Vec<String> {
         let mut faults = vec![];
         if self.reply != expected.reply {
             let (library, second) = (self.reply, expected.reply);
@@ -200,6 +234,8 @@ impl Call {
             ("rule", &self.rule, &input.rule, &input.rule),
             ("map", &self.map, &expected.map, &input.map),
             ("list", &self.list, &expected.list, &input.list),
+            ("text", &self.text, &input.text, &input.text),
+            ("buffer", &self.buffer, &expected.buffer, buffer),
         ];
         for (name, lent, expected, before) in blocks {
             faults.extend(lent.overwritten().map(|at| {

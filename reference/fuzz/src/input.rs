@@ -3,28 +3,29 @@
 //! | Bytes | What |
 //! |---|---|
 //! | 0 | repairs, a bit each |
-//! | 1 | map length; the list is by as many bytes longer or shorter than 2N as this is than 32 |
-//! | 2 | the first byte of the map and of the list before the call; each further one is one more |
+//! | 1 | map length; the list, and the buffers that a listing is written to or read into, are by as many bytes longer or shorter than they should be as this is than 32 |
+//! | 2 | the first byte of the map, of the list and of those buffers before the call; each further one is one more |
 //! | 3 | bits 0-1 further rewritings after an accepted one; bits 2-4 and 5-7 by how many bytes graph and rule are shifted in memory |
 //! | 4-11 | start, and the vertex that is asked about, little-endian |
 //! | 12-13 | little-endian: bits 0-14 graph length, at most all that follow; bit 15 one more repair, of counts |
 //! | 14- | the graph block, then the rule block up to the end |
 //!
 //! Bytes 0 to 13 that are missing count as 0. No field names an operation: all
-//! eight are called with each input, and once more with the same graph in the
+//! ten are called with each input, and once more with the same graph in the
 //! other version, where it is one of version 1 or 2. N is what the graph block's
 //! bytes 6-7 say, 0 where there are none, and 512 where they say more. Where a search
-//! finds a match, every vertex of it is asked about, too.
+//! finds a match, every vertex of it is asked about, too. The text that is read is the
+//! graph's own listing, where it has one and the input brings no other.
 //!
 //! With all bits of byte 0 and bit 15 of bytes 12-13 off any graph and rule whatever
-//! reach the library, and with bit 0 alone any map. A block that has been mutated
+//! reach the library, and with bit 0 alone any map and any text. A block that has been mutated
 //! would mostly fail at its lengths, though, and never get further; so each bit
 //! repairs one thing that byte mutations break:
 //!
 //! | Bit | Repair |
 //! |---|---|
-//! | 0 | the rule begins at the first mark `LGR`, whatever the graph length says: bytes may be put in or taken out of either block. Where a mark `LGM` follows, the rule ends there, and the bytes behind it are the map before the call |
-//! | 1 | the map is 32 bytes long, cut or filled up with 255 where it is given, and the list 2N |
+//! | 0 | the rule begins at the first mark `LGR`, whatever the graph length says: bytes may be put in or taken out of either block. Where a mark `LGM` follows, the rule ends there, and the bytes behind it are the map before the call. Where a mark `LGL` follows, rule or map end there, and the bytes behind it are the text that is read |
+//! | 1 | the map is 32 bytes long, cut or filled up with 255 where it is given, the list 2N, and the buffers of listings as long as they should be |
 //! | 2 | the start is taken modulo 600, a little more than the most slots |
 //! | 3 | the graph's length: N by the bytes there are, no part of a record |
 //! | 4 | the graph's outputs and records: counts by kind and operator, unused places and bytes, inputs and outputs below N; a named Empty slot becomes a Variable |
@@ -36,8 +37,10 @@
 //! What is right already stays as it is, so a sound block passes unchanged. The
 //! headers' marks, versions and zero bytes are never repaired.
 
+use leafgraph_reference::blocks::GraphParts;
 use leafgraph_reference::counts::write_true_counts;
-use leafgraph_reference::graph::{slots_told, Version, MAX_SLOTS};
+use leafgraph_reference::graph::{slots_told, Graph, Version, HEADER, MAX_SLOTS, RECORD};
+use leafgraph_reference::listing::listing_of;
 use leafgraph_reference::random::mixed;
 use leafgraph_reference::MAP_LENGTH;
 
@@ -55,8 +58,9 @@ pub const RULE_RECORDS: u8 = 1 << 7;
 /// The bytes before the blocks.
 const CONTROL: usize = 14;
 const RULE_MARK: &[u8] = b"LGR";
-/// No block has this mark: it only says where an input's map begins.
+/// No block has these marks: they only say where an input's map and text begin.
 const MAP_MARK: &[u8] = b"LGM";
+const TEXT_MARK: &[u8] = b"LGL";
 const STARTS: u64 = 600;
 /// In the 16 bits of the graph length, what says that counts are repaired.
 const COUNTS: u16 = 1 << 15;
@@ -82,10 +86,16 @@ pub struct Input {
     pub start: usize,
     pub map: Vec<u8>,
     pub list: Vec<u8>,
+    /// The text that is read.
+    pub text: Vec<u8>,
+    /// By how many bytes the buffers of listings are longer than they should be.
+    pub spare: isize,
+    /// The first byte of these buffers.
+    pub first: u8,
     /// How many rewritings may follow an accepted one.
     pub further: usize,
-    /// By how many bytes graph, rule, map and list are shifted in memory.
-    pub shifts: [usize; 4],
+    /// By how many bytes graph, rule, map, list, text and buffer are shifted in memory.
+    pub shifts: [usize; 6],
     /// Draws the meanings under which demand 3 is judged: the same input must
     /// always be judged alike.
     pub seed: u64,
@@ -110,6 +120,11 @@ impl Control {
         [&self.input_bytes(graph, rule), MAP_MARK, map].concat()
     }
 
+    /// An input with this text, and no block.
+    pub fn input_bytes_with_text(&self, text: &[u8]) -> Vec<u8> {
+        [&self.input_bytes(&[], &[]), TEXT_MARK, text].concat()
+    }
+
     fn repairs(&self, what: u8) -> bool {
         self.repairs & what != 0
     }
@@ -125,6 +140,14 @@ impl Control {
         match self.repairs(CUT_AT_MARK) {
             true => bytes.windows(mark.len()).position(|part| part == mark),
             false => None,
+        }
+    }
+
+    /// All before the text, and the text where there is one.
+    fn cut_text<'a>(&self, bytes: &'a [u8]) -> (&'a [u8], Option<&'a [u8]>) {
+        match self.position_of(TEXT_MARK, bytes) {
+            Some(at) => (&bytes[..at], Some(&bytes[at + TEXT_MARK.len()..])),
+            None => (bytes, None),
         }
     }
 
@@ -174,7 +197,7 @@ impl Control {
 
     /// So many bytes as they are before a call.
     fn counting(&self, length: usize) -> Vec<u8> {
-        (0..length).map(|at| self.map_byte.wrapping_add(at as u8)).collect()
+        counting_from(self.map_byte, length)
     }
 
     fn start(&self) -> usize {
@@ -183,6 +206,24 @@ impl Control {
             false => self.start as usize,
         }
     }
+}
+
+fn counting_from(first: u8, length: usize) -> Vec<u8> {
+    (0..length).map(|at| first.wrapping_add(at as u8)).collect()
+}
+
+/// The listing of a sound graph; no bytes for any other.
+fn listing(graph: &[u8]) -> Vec<u8> {
+    let graph = Graph::parse(graph).ok();
+    graph.map_or(vec![], |graph| listing_of(&GraphParts::of(graph)).into_bytes())
+}
+
+/// N as the digits behind a text's first word tell it, at most 512; 0 where there are
+/// none.
+fn slots_listed(text: &[u8]) -> usize {
+    let digits = text.get("graph ".len()..).into_iter().flatten();
+    let digits = digits.take_while(|byte| byte.is_ascii_digit()).take(4);
+    digits.fold(0, |slots, digit| 10 * slots + usize::from(digit - b'0')).min(MAX_SLOTS)
 }
 
 impl Input {
@@ -196,6 +237,7 @@ impl Input {
         let length = u16::from_le_bytes(graph_length.try_into().expect("two bytes"));
         let counts = length & COUNTS != 0;
         let control = Control { repairs, counts, map_length, map_byte, steps_and_shifts, start };
+        let (blocks, text) = control.cut_text(blocks);
         let (graph, rule) = blocks.split_at(control.cut(blocks, length & !COUNTS));
         let (mut graph, (mut rule, map)) = (graph.to_vec(), control.cut_map(rule));
         control.repair_blocks(&mut graph, &mut rule);
@@ -203,17 +245,35 @@ impl Input {
         Input {
             map,
             list: control.counting(control.list_length(&graph)),
+            text: text.map_or_else(|| listing(&graph), <[u8]>::to_vec),
+            spare: control.map_length() as isize - MAP_LENGTH as isize,
+            first: map_byte,
             graph,
             rule,
             start: control.start(),
             further: bits & 3,
-            shifts: [bits >> 2 & 7, bits >> 5 & 7, shift, shift],
+            shifts: [bits >> 2 & 7, bits >> 5 & 7, shift, shift, shift + 1, shift + 2],
             seed: mixed(u64::from_le_bytes(head[..8].try_into().expect("eight bytes"))),
         }
     }
 
+    /// What the graph's listing is written to.
+    pub fn text_buffer(&self) -> Vec<u8> {
+        self.buffer(listing(&self.graph).len())
+    }
+
+    /// What the text is read into, as long as its N says.
+    pub fn graph_buffer(&self) -> Vec<u8> {
+        self.buffer(HEADER + RECORD * slots_listed(&self.text))
+    }
+
+    fn buffer(&self, right: usize) -> Vec<u8> {
+        counting_from(self.first, right.saturating_add_signed(self.spare))
+    }
+
     /// The same with the graph's block in the other version: with true counts, or
-    /// without counts. None where it is of neither version.
+    /// without counts; and with its listing where there was no text. None where it is of
+    /// neither version.
     pub fn in_other_version(&self) -> Option<Input> {
         let mut other = self.clone();
         let graph = &mut other.graph;
@@ -226,6 +286,9 @@ impl Input {
                 repair::set_version(graph, Version::One);
                 repair::remove_counts(graph);
             }
+        }
+        if other.text.is_empty() {
+            other.text = listing(&other.graph);
         }
         Some(other)
     }

@@ -1,7 +1,7 @@
 //! What must hold of a call that is done, whatever the other program says: the new
 //! table is sound for both programs, and its counts are true; of a rewriting, demand
 //! 3; of a sweep and a squeeze, what request 4/13 says of them; of an import, that
-//! no other byte changes.
+//! no other byte changes; of a listing, that graph and text are each other's.
 
 use leafgraph_reference::cleanup::{squeeze_faults, sweep_faults};
 use leafgraph_reference::graph::Graph;
@@ -73,6 +73,30 @@ impl Imported<'_> {
         let mut again = self.new.to_vec();
         if (library.import)(&mut again) != 20 || again != self.new {
             faults.push("a second import is not refused with 20, or writes".into());
+        }
+        faults
+    }
+}
+
+/// A graph and its listing, of which one was given and the other is what was made of it.
+pub struct Listed<'a> {
+    pub graph: &'a [u8],
+    pub text: &'a [u8],
+}
+
+impl Listed<'_> {
+    /// What is wrong with them.
+    pub fn faults(&self, library: &Library) -> Vec<String> {
+        let mut faults = unsound_for(library, self.graph);
+        // No byte is right before, so that each has to be written.
+        let mut graph: Vec<u8> = self.graph.iter().map(|byte| !byte).collect();
+        if (library.read_listing)(self.text, &mut graph) != 0 || graph != self.graph {
+            faults.push("the library does not read the text as this graph".into());
+        }
+        let mut text: Vec<u8> = self.text.iter().map(|byte| !byte).collect();
+        let reply = (library.write_listing)(self.graph, &mut text);
+        if reply != (text.len() as u64) << 40 || text != self.text {
+            faults.push("the library does not write the graph as this text".into());
         }
         faults
     }

@@ -1,4 +1,4 @@
-//! The fuzz target. Any bytes are cut into the arguments of the eight
+//! The fuzz target. Any bytes are cut into the arguments of the ten
 //! operations (`input` has the layout); the proved library is called with them
 //! through its C entry points and the second program beside it, and all that
 //! comes back must be the same.
@@ -13,6 +13,7 @@ pub mod fault_examples;
 pub mod input;
 pub mod judgement;
 pub mod library;
+pub mod listing_examples;
 pub mod question_examples;
 pub mod repair;
 pub mod tally;

@@ -1,7 +1,7 @@
-//! The eight operations, of either program.
+//! The ten operations, of either program.
 
-/// One of document 01's four operations, of request 4/13's two, or request 5/13's or
-/// 6/13's.
+/// One of document 01's four operations, of request 4/13's two, request 5/13's or
+/// 6/13's, or one of request 7/13's two.
 #[derive(Clone, Copy, Debug, PartialEq, Eq)]
 pub enum Operation {
     CheckGraph,
@@ -12,9 +12,11 @@ pub enum Operation {
     Squeeze,
     Import,
     IsReadElsewhere,
+    WriteListing,
+    ReadListing,
 }
 
-pub const OPERATIONS: [Operation; 8] = [
+pub const OPERATIONS: [Operation; 10] = [
     Operation::CheckGraph,
     Operation::CheckRule,
     Operation::FindMatch,
@@ -23,6 +25,8 @@ pub const OPERATIONS: [Operation; 8] = [
     Operation::Squeeze,
     Operation::Import,
     Operation::IsReadElsewhere,
+    Operation::WriteListing,
+    Operation::ReadListing,
 ];
 
 impl Operation {
@@ -36,10 +40,12 @@ impl Operation {
             Operation::Squeeze => "lg_squeeze",
             Operation::Import => "lg_import",
             Operation::IsReadElsewhere => "lg_is_read_elsewhere",
+            Operation::WriteListing => "lg_write_listing",
+            Operation::ReadListing => "lg_read_listing",
         }
     }
 
-    /// Whether the operation writes the graph where it is done.
+    /// Whether the operation writes the graph that it is given, where it is done.
     pub fn writes_graph(self) -> bool {
         use Operation::{Import, Rewrite, Squeeze, Sweep};
         matches!(self, Rewrite | Sweep | Squeeze | Import)
@@ -49,7 +55,8 @@ impl Operation {
     /// rewriting 0 to 7", where "20 to 23 replace 2 and 30 to 34 replace 3"; sweep
     /// and squeeze "bad graph as before, then 40", which is the squeeze's alone.
     /// "A wrong count is 24", and version 1 has none. The question has "1, the graph
-    /// and rule ones, then 41 [...], 42".
+    /// and rule ones, then 41 [...], 42"; "writing gives the graph ones, then 43 [...];
+    /// reading gives 44 [...], 45 [...], 46".
     pub fn numbers(self) -> &'static [u8] {
         match self {
             Operation::CheckGraph | Operation::Sweep => &[0, 20, 21, 22, 23, 24],
@@ -59,11 +66,13 @@ impl Operation {
             Operation::Squeeze => &[0, 20, 21, 22, 23, 24, 40],
             Operation::Import => &[0, 20, 21, 22, 23],
             Operation::IsReadElsewhere => &[0, 1, 20, 21, 22, 23, 24, 30, 31, 32, 33, 34, 41, 42],
+            Operation::WriteListing => &[0, 20, 21, 22, 23, 24, 43],
+            Operation::ReadListing => &[0, 44, 45, 46],
         }
     }
 }
 
-/// What one program has for the eight operations. A test puts a wrong program
+/// What one program has for the ten operations. A test puts a wrong program
 /// here to see that the comparison notices.
 #[derive(Clone, Copy)]
 pub struct Library {
@@ -75,6 +84,8 @@ pub struct Library {
     pub squeeze: fn(&mut [u8], &mut [u8]) -> u64,
     pub import: fn(&mut [u8]) -> u64,
     pub is_read_elsewhere: fn(&[u8], &[u8], &[u8], usize) -> u64,
+    pub write_listing: fn(&[u8], &mut [u8]) -> u64,
+    pub read_listing: fn(&[u8], &mut [u8]) -> u64,
 }
 
 /// The proved library, through its C entry points.
@@ -87,6 +98,8 @@ pub const PROVED: Library = Library {
     squeeze: leafgraph_proved::squeeze,
     import: leafgraph_proved::import,
     is_read_elsewhere: leafgraph_proved::is_read_elsewhere,
+    write_listing: leafgraph_proved::write_listing,
+    read_listing: leafgraph_proved::read_listing,
 };
 
 /// The second program.
@@ -99,6 +112,8 @@ pub const SECOND: Library = Library {
     squeeze: leafgraph_reference::squeeze,
     import: leafgraph_reference::import,
     is_read_elsewhere: leafgraph_reference::is_read_elsewhere,
+    write_listing: leafgraph_reference::write_listing,
+    read_listing: leafgraph_reference::read_listing,
 };
 
 /// What a call is lent, each part of it in bytes that may be written.
@@ -107,13 +122,17 @@ pub struct Lent<'a> {
     pub rule: &'a mut [u8],
     pub map: &'a mut [u8],
     pub list: &'a mut [u8],
+    /// A text to read.
+    pub text: &'a mut [u8],
+    /// Where a listing is written to, or the graph that a text is read as.
+    pub buffer: &'a mut [u8],
 }
 
 impl Library {
     /// Calls one operation with those of these that it takes. The number is where a
     /// search starts, or a vertex.
     pub fn call(&self, operation: Operation, lent: Lent, number: usize) -> u64 {
-        let Lent { graph, rule, map, list } = lent;
+        let Lent { graph, rule, map, list, text, buffer } = lent;
         match operation {
             Operation::CheckGraph => (self.check_graph)(graph),
             Operation::CheckRule => (self.check_rule)(rule),
@@ -123,6 +142,8 @@ impl Library {
             Operation::Squeeze => (self.squeeze)(graph, list),
             Operation::Import => (self.import)(graph),
             Operation::IsReadElsewhere => (self.is_read_elsewhere)(graph, rule, map, number),
+            Operation::WriteListing => (self.write_listing)(graph, buffer),
+            Operation::ReadListing => (self.read_listing)(text, buffer),
         }
     }
 }

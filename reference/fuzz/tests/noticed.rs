@@ -48,9 +48,9 @@ fn right_programs_pass() {
         for start in 0..7 {
             compare(&library, &p1(start), &mut tally).expect("no difference");
         }
-        // In each version eight operations, and three calls on what they leave; in
+        // In each version ten operations, and four calls on what they leave; in
         // version 2, from the five starts that find a match, four questions about it.
-        assert_eq!(tally.calls(), 7 * 2 * 11 + 5 * 4);
+        assert_eq!(tally.calls(), 7 * 2 * 14 + 5 * 4);
     }
 }
 

@@ -1,7 +1,8 @@
 //! Writes the inputs that fuzzing starts from into a folder, as files whose
 //! names begin with `seed-`: document 01's examples, matched Consts that stay
 //! or go, every kind of fault, small random cases of every reply, graphs to sweep
-//! and to squeeze, blocks to import, and maps to ask about. The same files each time.
+//! and to squeeze, blocks to import, maps to ask about, and texts to read. The same
+//! files each time.
 //!
 //!     fuzz_seeds FOLDER [CASES]
 //!
@@ -21,6 +22,7 @@ use leafgraph_fuzz::input::{
     Control, CUT_AT_MARK, GRAPH_LENGTH, GRAPH_RECORDS, LOWER_INPUTS, MAP, RULE_LENGTH,
     RULE_RECORDS, START,
 };
+use leafgraph_fuzz::listing_examples::{reading_examples, writing_examples};
 use leafgraph_fuzz::question_examples::question_examples;
 use leafgraph_reference::blocks::{
     add, any_node, call, call_pattern, chain, constant, constant_node, constant_sum,
@@ -30,8 +32,8 @@ use leafgraph_reference::blocks::{
 };
 use leafgraph_reference::counts::COUNT;
 use leafgraph_reference::generate::{
-    damaged_graph_of, damaged_rule_of, damaged_version_1_graph, noise, rewriting_case, search_case,
-    sequence, Case,
+    any_text, damaged_graph_of, damaged_rule_of, damaged_version_1_graph, noise, rewriting_case,
+    search_case, sequence, Case,
 };
 use leafgraph_reference::graph::{self, Graph};
 use leafgraph_reference::matching::read_map;
@@ -40,7 +42,7 @@ use leafgraph_reference::random::Random;
 use leafgraph_reference::removal::removed_slots;
 use leafgraph_reference::reply::number_of;
 use leafgraph_reference::rule::{Rule, DIVIDE, REMAINDER};
-use leafgraph_reference::{find_match, import, rewrite, squeeze, sweep, MAP_LENGTH};
+use leafgraph_reference::{find_match, import, read_listing, rewrite, squeeze, sweep, MAP_LENGTH};
 
 /// What the corpus is drawn from.
 const SEED: u64 = 20;
@@ -78,6 +80,7 @@ fn main() -> ExitCode {
     seeds.add_cleanups(cases);
     seeds.add_imports(cases);
     seeds.add_questions(cases);
+    seeds.add_listings(cases);
     match seeds.write(Path::new(folder)) {
         Ok(()) => ExitCode::SUCCESS,
         Err(error) => {
@@ -313,6 +316,35 @@ impl Seeds {
             let vertex = self.random.below(rule.source.len());
             let control = self.control(LENGTHS & !MAP | RECORDS, vertex);
             self.add_bytes("question", control.input_bytes_with_map(&graph, &block, &map));
+        }
+    }
+
+    /// The examples, and random texts, some of each number that they get with no buffer:
+    /// with one they are read where they get 46 so. No text is repaired.
+    fn add_listings(&mut self, cases: usize) {
+        let length = |spare: i8| (MAP_LENGTH as u8).saturating_add_signed(spare);
+        for example in reading_examples() {
+            let map_length = length(example.spare);
+            let control = Control { map_length, ..self.control(CUT_AT_MARK, 0) };
+            let bytes = control.input_bytes_with_text(example.text.as_bytes());
+            self.add_bytes(&format!("listing-{}", example.name), bytes);
+        }
+        for example in writing_examples() {
+            let map_length = length(example.spare);
+            let control = Control { map_length, ..self.control(CUT_AT_MARK, 0) };
+            let name = format!("listing-{}", example.name);
+            self.add(&name, control, &example.graph.block(), &rr().block());
+        }
+        let mut counts: BTreeMap<u8, usize> = [44, 45, 46].map(|number| (number, 0)).into();
+        while counts.values().any(|&count| count < cases) {
+            let (_, text) = any_text(&mut self.random);
+            let number = number_of(read_listing(&text, &mut []));
+            let count = counts.get_mut(&number).expect("one of the numbers");
+            if text.len() <= LONGEST && *count < cases {
+                *count += 1;
+                let control = self.control(CUT_AT_MARK | MAP, 0);
+                self.add_bytes("listing", control.input_bytes_with_text(&text));
+            }
         }
     }
 
