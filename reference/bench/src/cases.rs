@@ -1,7 +1,7 @@
 //! What is timed: searches that have to look at everything or, to compare with,
 //! at nothing, rewritings at the end of such a search, sweeps and squeezes that
 //! change everything or nothing, imports, questions whether a stage is read
-//! elsewhere, and the checks.
+//! elsewhere, listings written and read, and the checks.
 
 use std::hint::black_box;
 
@@ -9,6 +9,7 @@ use leafgraph_reference::blocks::{
     chain, dropped_constant, p7_rule, reversed_chain, rr, GraphParts, RuleParts,
 };
 use leafgraph_reference::graph::UNUSED;
+use leafgraph_reference::listing::listing_of;
 use leafgraph_reference::matching::write_map;
 use leafgraph_reference::reply::{refuse_at, reply_of, DONE, GRAPH_CYCLE, YES};
 use leafgraph_reference::rule::MAX_VERTICES;
@@ -17,19 +18,20 @@ use leafgraph_reference::MAP_LENGTH;
 use crate::graphs::{
     chain_with_gaps, crowded, dead_chain, double_relus, first_double_relu, gain_and_mean,
     gains_and_means, hanging_from_cycle, in_a_chain, leading_to_cycle, most_places, nested_tuples,
-    pairs, shared_const, side_by_side, two_relus,
+    pairs, shared_const, side_by_side, two_relus, variables,
 };
+use crate::plain;
 
 /// What a call leaves; only searches and rewritings write the map, and questions are
 /// given one.
-#[derive(Debug, PartialEq, Eq)]
 pub struct Answer {
     pub reply: u64,
     pub map: [u8; MAP_LENGTH],
 }
 
 /// A call. The bytes lent to it are what a rewriting, a sweep, a squeeze or an import
-/// writes, anew from the same graph each time; the other calls do not look at them.
+/// writes, anew from the same graph each time, or what a listing is written to or read
+/// into; the other calls do not look at them.
 pub type Program = Box<dyn Fn(&mut Vec<u8>) -> Answer>;
 
 pub struct Case {
@@ -40,6 +42,16 @@ pub struct Case {
     pub reply: u64,
     pub proved: Program,
     pub second: Program,
+    /// A plain program that does the same without judging what it is given, where there
+    /// is one.
+    pub plain: Option<Program>,
+}
+
+impl Case {
+    /// In the order of a row's times.
+    pub fn programs(&self) -> impl Iterator<Item = &Program> {
+        [&self.proved, &self.second].into_iter().chain(&self.plain)
+    }
 }
 
 const SIZES: [u16; 6] = [16, 32, 64, 128, 256, 512];
@@ -167,6 +179,21 @@ const QUESTIONS: [(&str, u64, Graph, Rule, Asked); 6] = [
     ),
 ];
 
+/// A call with bytes that it reads and bytes that it writes.
+type ReadAndWrite = fn(&[u8], &mut [u8]) -> u64;
+
+/// Of the library, of the second program and of the plain one.
+const WRITE_LISTING: [ReadAndWrite; 3] =
+    [leafgraph_proved::write_listing, leafgraph_reference::write_listing, plain::write_listing];
+const READ_LISTING: [ReadAndWrite; 3] =
+    [leafgraph_proved::read_listing, leafgraph_reference::read_listing, plain::read_listing];
+
+/// Lines with one short number beside the slot's, and lines as long as they come.
+const LISTINGS: [(&str, &str, Graph); 2] = [
+    ("write listing: a chain", "read listing: a chain", chain),
+    ("write listing: all Variables", "read listing: all Variables", variables),
+];
+
 /// RR's last match in a chain.
 fn last_of_chain(slots: u16) -> Vec<u16> {
     vec![slots - 3, slots - 2, slots - 1]
@@ -237,6 +264,45 @@ pub fn questions() -> Vec<Case> {
     QUESTIONS.into_iter().flat_map(of_all_sizes).collect()
 }
 
+/// Each timed call is lent the bytes that the last one left.
+pub fn listings() -> Vec<Case> {
+    let of_all_sizes = |(write, read, graph): (_, _, Graph)| {
+        let written = SIZES.map(|slots| {
+            let (block, text) = block_and_listing(graph(slots));
+            let reply = DONE | (text.len() as u64) << 40;
+            read_and_write(write, reply, slots, (block, text.len()), WRITE_LISTING)
+        });
+        let read = SIZES.map(|slots| {
+            let (block, text) = block_and_listing(graph(slots));
+            read_and_write(read, DONE, slots, (text, block.len()), READ_LISTING)
+        });
+        written.into_iter().chain(read).collect::<Vec<Case>>()
+    };
+    LISTINGS.into_iter().flat_map(of_all_sizes).collect()
+}
+
+fn block_and_listing(graph: GraphParts) -> (Vec<u8>, Vec<u8>) {
+    (graph.block(), listing_of(&graph).into_bytes())
+}
+
+/// These bytes are read, and so many written.
+fn read_and_write(
+    name: &'static str,
+    reply: u64,
+    slots: u16,
+    (bytes, room): (Vec<u8>, usize),
+    programs: [ReadAndWrite; 3],
+) -> Case {
+    let [proved, second, plain] = programs.map(|call| -> Program {
+        let bytes = bytes.clone();
+        Box::new(move |lent| {
+            lent.resize(room, 0);
+            Answer { reply: call(black_box(&bytes), lent), map: [0; MAP_LENGTH] }
+        })
+    });
+    Case { name, slots: Some(slots.into()), reply, proved, second, plain: Some(plain) }
+}
+
 pub fn checks() -> Vec<Case> {
     let of_all_sizes = |(name, graph, reply): (_, Graph, Reply)| {
         SIZES.map(|slots| check_graph(name, slots, graph(slots), reply(slots)))
@@ -249,6 +315,7 @@ pub fn checks() -> Vec<Case> {
         reply: DONE,
         proved: check(leafgraph_proved::check_rule, &block),
         second: check(leafgraph_reference::check_rule, &block),
+        plain: None,
     });
     cases
 }
@@ -276,6 +343,7 @@ fn search(
         reply,
         proved: program(leafgraph_proved::find_match),
         second: program(leafgraph_reference::find_match),
+        plain: None,
     }
 }
 
@@ -305,6 +373,7 @@ fn question(
         reply,
         proved: program(leafgraph_proved::is_read_elsewhere),
         second: program(leafgraph_reference::is_read_elsewhere),
+        plain: None,
     }
 }
 
@@ -350,6 +419,7 @@ fn rewriting(
         reply,
         proved: program(leafgraph_proved::rewrite),
         second: program(leafgraph_reference::rewrite),
+        plain: None,
     }
 }
 
@@ -365,7 +435,7 @@ fn in_place(name: &'static str, graph: Vec<u8>, slots: usize, programs: [InPlace
             Answer { reply: call(table, list), map: [0; MAP_LENGTH] }
         })
     });
-    Case { name, slots: Some(slots), reply: DONE, proved, second }
+    Case { name, slots: Some(slots), reply: DONE, proved, second, plain: None }
 }
 
 fn check_graph(name: &'static str, slots: u16, graph: GraphParts, reply: u64) -> Case {
@@ -376,6 +446,7 @@ fn check_graph(name: &'static str, slots: u16, graph: GraphParts, reply: u64) ->
         reply,
         proved: check(leafgraph_proved::check_graph, &block),
         second: check(leafgraph_reference::check_graph, &block),
+        plain: None,
     }
 }
 

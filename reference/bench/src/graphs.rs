@@ -3,7 +3,8 @@
 
 use leafgraph_reference::blocks::{
     access_node, add, any_node, call, call_pattern, chain, constant, empty, operation_node,
-    pattern, relu, target_place, tuple, variable, wildcard, GraphParts, RuleParts, Vertex,
+    pattern, relu, target_place, tuple, variable, variable_of, wildcard, GraphParts, RuleParts,
+    Vertex,
 };
 use leafgraph_reference::graph::OUTPUT_PLACES;
 use leafgraph_reference::operators::{CAST, GAIN, MEAN, PLACES, RELU, TUPLE};
@@ -205,4 +206,10 @@ pub fn chain_with_gaps(slots: u16) -> GraphParts {
         _ => empty(),
     };
     GraphParts::new((0..slots).map(vertex).collect(), &[slots - 2])
+}
+
+/// For listings: every line has as many attributes as a line can have, and each as many
+/// digits.
+pub fn variables(slots: u16) -> GraphParts {
+    GraphParts::new(vec![variable_of([i32::MIN; 5]); slots.into()], &[slots - 1; OUTPUT_PLACES])
 }

@@ -1,4 +1,5 @@
-//! Times the proved library against the second program on the same blocks.
+//! Times the proved library against the second program on the same blocks, and where
+//! there is one against a plain program too.
 //!
 //!     benchmark [--csv FILE]
 //!
@@ -10,13 +11,16 @@
 mod cases;
 mod graphs;
 mod machine;
+mod plain;
 mod report;
 mod timing;
 
 use std::path::PathBuf;
 use std::process::exit;
 
-use cases::{checks, cleanups, imports, questions, rewritings, searches, Case};
+use cases::{
+    checks, cleanups, imports, listings, questions, rewritings, searches, Answer, Case, Program,
+};
 use report::{print_table, write_csv, Row};
 use timing::best_of_each;
 
@@ -51,30 +55,36 @@ fn csv_file() -> Option<PathBuf> {
 
 /// All rows, each with the best of all passes.
 fn timed() -> Vec<Row> {
-    let cases = [checks(), searches(), rewritings(), cleanups(), imports(), questions()];
+    let cases =
+        [checks(), searches(), rewritings(), cleanups(), imports(), questions(), listings()];
     let cases: Vec<Case> = cases.into_iter().flatten().collect();
     let mut rows: Vec<Row> = cases.iter().map(first_row).collect();
     for pass in 1..=PASSES {
         eprintln!("pass {pass} of {PASSES}");
         for (case, row) in cases.iter().zip(&mut rows) {
-            let (mut one, mut other) = (vec![], vec![]);
-            let (proved, second) =
-                best_of_each(&mut || (case.proved)(&mut one), &mut || (case.second)(&mut other));
-            row.proved = row.proved.min(proved);
-            row.second = row.second.min(second);
+            let mut calls: Vec<_> = case.programs().map(timed_call).collect();
+            row.take(&best_of_each(&mut calls));
         }
     }
     rows
 }
 
-/// A row without figures, once both programs have given the answer that it is
-/// about.
+/// A call with bytes of its own to write.
+fn timed_call(program: &Program) -> impl FnMut() -> Answer + '_ {
+    let mut lent = vec![];
+    move || program(&mut lent)
+}
+
+/// A row without figures, once all programs have given the answer that it is about.
 fn first_row(case: &Case) -> Row {
-    let (mut one, mut other) = (vec![], vec![]);
-    let (proved, second) = ((case.proved)(&mut one), (case.second)(&mut other));
     let row = format!("{}, {:?} slots", case.name, case.slots);
-    assert_eq!(proved, second, "the programs differ: {row}");
-    assert!(one == other, "the programs leave different tables: {row}");
-    assert_eq!(second.reply, case.reply, "another reply: {row}");
-    Row { call: case.name, slots: case.slots, proved: f64::INFINITY, second: f64::INFINITY }
+    let mut left: Vec<Vec<u8>> = vec![];
+    for program in case.programs() {
+        let mut lent = vec![];
+        let answer = program(&mut lent);
+        assert_eq!(answer.reply, case.reply, "another reply: {row}");
+        left.push([&lent[..], &answer.map].concat());
+    }
+    assert!(left.windows(2).all(|pair| pair[0] == pair[1]), "the programs differ: {row}");
+    Row::new(case.name, case.slots, left.len())
 }

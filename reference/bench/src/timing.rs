@@ -1,5 +1,5 @@
-//! Two calls timed in turn, so that what slows the machine down for a while
-//! slows both down.
+//! Calls timed in turn, so that what slows the machine down for a while slows all of
+//! them down.
 
 use std::hint::black_box;
 
@@ -14,18 +14,19 @@ const BATCH: i64 = 300_000;
 /// machine may jump, and then a round seems to take no time.
 const PASSED_OVER: usize = 5;
 
-/// Nanoseconds for each of the two calls, the best of all rounds but a few.
-pub fn best_of_each<A>(one: &mut impl FnMut() -> A, other: &mut impl FnMut() -> A) -> (f64, f64) {
-    let repeats = (repeats(one), repeats(other));
-    let (mut first, mut second) = ([0.0; ROUNDS], [0.0; ROUNDS]);
-    for round in 0..ROUNDS {
-        first[round] = nanoseconds(one, repeats.0);
-        second[round] = nanoseconds(other, repeats.1);
+/// Nanoseconds for each of the calls, the best of all rounds but a few.
+pub fn best_of_each<A>(calls: &mut [impl FnMut() -> A]) -> Vec<f64> {
+    let repeats: Vec<u32> = calls.iter_mut().map(repeats).collect();
+    let mut times = vec![vec![]; calls.len()];
+    for _ in 0..ROUNDS {
+        for ((call, &repeats), times) in calls.iter_mut().zip(&repeats).zip(&mut times) {
+            times.push(nanoseconds(call, repeats));
+        }
     }
-    (nearly_best(first), nearly_best(second))
+    times.into_iter().map(nearly_best).collect()
 }
 
-fn nearly_best(mut rounds: [f64; ROUNDS]) -> f64 {
+fn nearly_best(mut rounds: Vec<f64>) -> f64 {
     rounds.sort_by(f64::total_cmp);
     rounds[PASSED_OVER]
 }
