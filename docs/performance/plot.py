@@ -19,8 +19,12 @@ PAGE = HERE.parent / "PERFORMANCE.md"
 
 # ---- the results
 
-# slots is None where there is no graph; times are in nanoseconds.
-Row = namedtuple("Row", "call slots proved second ratio")
+# slots is None where there is no graph, plain and over_plain where there is no plain
+# program; times are in nanoseconds.
+Row = namedtuple("Row", "call slots proved second ratio plain over_plain")
+
+
+NUMBERS = ("proved ns", "second ns", "ratio", "plain ns", "plain ratio")
 
 
 def read_results(text):
@@ -31,17 +35,20 @@ def read_results(text):
     rows = []
     for cells in csv.DictReader(line for line in lines if not line.startswith("#")):
         slots = int(cells["slots"]) if cells["slots"] else None
-        numbers = (float(cells[name]) for name in ("proved ns", "second ns", "ratio"))
-        rows.append(Row(cells["call"], slots, *numbers))
+        numbers = (cells.get(name) for name in NUMBERS)
+        rows.append(Row(cells["call"], slots, *(float(number) if number else None for number in numbers)))
     return facts, rows
 
 
 QUESTION = "read elsewhere"
+# The operations of two words.
+LONG_NAMES = (QUESTION, "write listing", "read listing")
 
 
 def operation(call):
-    """The first word of the call, as check, match or rewrite; of a question its two words."""
-    return QUESTION if call.startswith(QUESTION) else call.replace(":", " ").split()[0]
+    """The first word of the call, as check, match or rewrite, or its two words."""
+    named = [name for name in LONG_NAMES if call.startswith(name)]
+    return named[0] if named else call.replace(":", " ").split()[0]
 
 
 def operations(rows):
@@ -66,12 +73,17 @@ def markdown_table(head, rows):
 
 
 def times_table(rows, wanted):
+    """With two columns more where there is a plain program."""
+    rows = [row for row in rows if operation(row.call) == wanted]
+    head = ("Call", "Slots", "Proved, ns", "Second, ns", "Ratio")
     cells = [
         (row.call, str(row.slots or "-"), f"{row.proved:.0f}", f"{row.second:.0f}", f"{row.ratio:.2f}")
         for row in rows
-        if operation(row.call) == wanted
     ]
-    return markdown_table(("Call", "Slots", "Proved, ns", "Second, ns", "Ratio"), cells)
+    if all(row.plain for row in rows):
+        head += ("Plain C++, ns", "Ratio to it")
+        cells = [(*line, f"{row.plain:.0f}", f"{row.over_plain:.2f}") for line, row in zip(cells, rows)]
+    return markdown_table(head, cells)
 
 
 # The parts of a question, each the time of one call less that of another with the same blocks.
@@ -185,11 +197,15 @@ COLOURS = {
     "read elsewhere: 2 outputs": "#D55E00",
     "read elsewhere: most places": "#009E73",
     "read elsewhere: most places, no such vertex": "#999999",
+    "write listing: a chain": "#0072B2",
+    "write listing: all Variables": "#D55E00",
+    "read listing: a chain": "#0072B2",
+    "read listing: all Variables": "#D55E00",
 }
 OTHER = "#009E73"
 INK, GRID, FRAME, EQUAL, LIMIT = "#222222", "#E4E4E4", "#666666", "#444444", "#B22222"
 WIDTH, LEFT, RIGHT, HEAD, GAP = 920, 90, 610, 120, 84
-SOLID, DASHED = "", ' stroke-dasharray="7 4"'
+SOLID, DASHED, DOTTED = "", ' stroke-dasharray="7 4"', ' stroke-dasharray="2 3"'
 
 # A line has a call, a dash and points; height and ticks are those of the
 # vertical axis, and share is where a value stands on it, between 0 and 1.
@@ -317,7 +333,9 @@ def duration(exponent_of_ten):
 def growth_panel(title, calls):
     lines = [
         Line(call, dash, [(row.slots, getattr(row, column)) for row in rows])
-        for call, rows in calls.items() for column, dash in (("second", DASHED), ("proved", SOLID))
+        for call, rows in calls.items()
+        for column, dash in (("plain", DOTTED), ("second", DASHED), ("proved", SOLID))
+        if all(getattr(row, column) for row in rows)
     ]
     times = [time for line in lines for _, time in line.points]
     low, high = math.floor(math.log10(min(times))), math.ceil(math.log10(max(times)))
@@ -352,6 +370,8 @@ def pictures(facts, rows):
     growth = [growth_panel(title, calls) for title, calls in panels.items()]
     ratio = [ratio_panel(title, calls, min(ratios), max(ratios)) for title, calls in panels.items()]
     programs = [("proved library", INK, SOLID), ("second program", INK, DASHED)]
+    if any(row.plain for row in rows):
+        programs.append(("plain C++", INK, DOTTED))
     limits = [
         ("1.0: as fast as the second program", EQUAL, SOLID),
         ("1.5: what is slower has to be explained", LIMIT, SOLID),
