@@ -8,6 +8,7 @@
 #include "faults.h"
 #include "imports.h"
 #include "leafgraph.h"
+#include "listing.h"
 #include "read_elsewhere.h"
 #include "shared_constants.h"
 #include "sweep_squeeze.h"
@@ -521,6 +522,125 @@ static int count_import_differences(void) {
     return count;
 }
 
+/* Writes a graph's listing into a text buffer of this length. On done its first bytes are
+ * `text`; on a refusal, and behind the listing, every byte is as it came. */
+static int write_differs(const char *what, const uint8_t *graph, size_t graph_len,
+                         size_t text_len, const char *text, size_t listing_len,
+                         unsigned number, uint32_t place) {
+    uint8_t lent[LONGEST_TEXT + 2], after[LONGEST_TEXT + 2];
+    const uint32_t value = number == LG_DONE ? (uint32_t)listing_len : 0;
+    int count;
+    memset(lent, UNTOUCHED, sizeof lent);
+    memcpy(after, lent, sizeof after);
+    if (number == LG_DONE) {
+        memcpy(after, text, listing_len);
+    }
+    count = reply_differs(what, lg_write_listing(graph, graph_len, lent, text_len),
+                          number, place, value);
+    if (memcmp(lent, after, sizeof lent) != 0) {
+        printf("%s: the text buffer is not what it should be\n", what);
+        count++;
+    }
+    return count;
+}
+
+/* Reads a text into a graph buffer of this length. On done it holds `graph`; on a refusal, and
+ * past its end, every byte is as it came. */
+static int read_differs(const char *what, const char *text, size_t text_len, size_t graph_len,
+                        const uint8_t *graph, unsigned number, uint32_t place) {
+    uint8_t bytes[LONGEST_TEXT + 2], lent[LONGEST_BUFFER + 1], after[LONGEST_BUFFER + 1];
+    int count;
+    memcpy(bytes, text, text_len);
+    memset(lent, UNTOUCHED, sizeof lent);
+    memcpy(after, lent, sizeof after);
+    if (number == LG_DONE) {
+        memcpy(after, graph, graph_len);
+    }
+    count = differs_at(what, lg_read_listing(bytes, text_len, lent, graph_len), number, place);
+    if (memcmp(lent, after, sizeof lent) != 0 || memcmp(bytes, text, text_len) != 0) {
+        printf("%s: lent bytes are not what they should be\n", what);
+        count++;
+    }
+    return count;
+}
+
+/* A sound graph and its listing: each of them makes the other, in buffers of any length that
+ * they may have. */
+static int listing_differs(const char *what, const uint8_t *graph, size_t graph_len,
+                           const char *text, size_t text_len) {
+    return write_differs(what, graph, graph_len, text_len, text, text_len, LG_DONE, 0)
+           + write_differs(what, graph, graph_len, text_len + 1, text, text_len, LG_DONE, 0)
+           + write_differs(what, graph, graph_len, LONGEST_TEXT, text, text_len, LG_DONE, 0)
+           + write_differs(what, graph, graph_len, text_len - 1, text, 0, LG_SHORT_TEXT, 0)
+           + write_differs(what, graph, graph_len, 0, text, 0, LG_SHORT_TEXT, 0)
+           + read_differs(what, text, text_len, graph_len, graph, LG_DONE, 0)
+           + read_differs(what, text, text_len, graph_len - 1, graph, LG_BAD_BUFFER_LENGTH, 0)
+           + read_differs(what, text, text_len, graph_len + 1, graph, LG_BAD_BUFFER_LENGTH, 0);
+}
+
+/* A listing that is cut at each of its bytes, in which one is changed to what no listing has,
+ * or which has one more behind it. */
+static int damaged_listings_differ(const char *text, size_t text_len) {
+    char damaged[LONGEST_TEXT + 1];
+    uint32_t at;
+    int count = 0;
+    for (at = 0; at < text_len; at++) {
+        memcpy(damaged, text, text_len);
+        damaged[at] = '!';
+        count += read_differs("a cut listing", text, at, 0, NULL, LG_NOT_A_LISTING, at);
+        count += read_differs("a changed byte", damaged, text_len, 0, NULL, LG_NOT_A_LISTING, at);
+    }
+    memcpy(damaged, text, text_len);
+    damaged[text_len] = '\n';
+    count += read_differs("a byte behind it", damaged, text_len + 1, TABLE_LENGTH, NULL,
+                          LG_NOT_A_LISTING, (uint32_t)text_len);
+    return count;
+}
+
+static int count_listing_differences(void) {
+    uint8_t graph[TABLE_LENGTH];
+    const size_t kinds = sizeof kinds_text - 1;
+    size_t call, length;
+    int count = listing_differs("all kinds", (const uint8_t *)&kinds_graph, KINDS_LENGTH,
+                                kinds_text, kinds)
+                + damaged_listings_differ(kinds_text, kinds);
+    for (call = 0; call < sizeof listing_calls / sizeof listing_calls[0]; call++) {
+        const struct listing_call *listed = &listing_calls[call];
+        put_table(graph, &listed->table);
+        count += listing_differs(listed->what, graph, sizeof graph, listed->text,
+                                 listed->text_len);
+        count += damaged_listings_differ(listed->text, listed->text_len);
+    }
+    for (length = 0; length < sizeof bad_buffer_lengths / sizeof bad_buffer_lengths[0];
+         length++) {
+        count += read_differs("a graph buffer of another length", listing_calls[0].text,
+                              listing_calls[0].text_len, bad_buffer_lengths[length], NULL,
+                              LG_BAD_BUFFER_LENGTH, 0);
+    }
+    return count;
+}
+
+/* Texts that are refused, whatever the length of the graph buffer is. */
+static int count_text_fault_differences(void) {
+    size_t fault;
+    int count = 0;
+    for (fault = 0; fault < sizeof text_faults / sizeof text_faults[0]; fault++) {
+        const struct text_fault *bad = &text_faults[fault];
+        count += read_differs(bad->what, bad->text, bad->text_len, TABLE_LENGTH, NULL,
+                              LG_NOT_A_LISTING, bad->place);
+        count += read_differs(bad->what, bad->text, bad->text_len, 0, NULL, LG_NOT_A_LISTING,
+                              bad->place);
+    }
+    for (fault = 0; fault < sizeof unsound_listings / sizeof unsound_listings[0]; fault++) {
+        const char *what = unsound_listings[fault].what, *text = unsound_listings[fault].text;
+        const size_t length = unsound_listings[fault].text_len;
+        count += read_differs(what, text, length, HEADER_LENGTH + RECORD_LENGTH, NULL,
+                              LG_UNSOUND_GRAPH, 0);
+        count += read_differs(what, text, length, 1, NULL, LG_UNSOUND_GRAPH, 0);
+    }
+    return count;
+}
+
 static int import_fault_differs(const struct graph_fault *fault) {
     uint8_t graph[TABLE_LENGTH];
     put_import_fault(graph, fault);
@@ -534,7 +654,11 @@ static int graph_fault_differs(const struct graph_fault *fault) {
                       fault->place)
            + calls_differ(fault->what, graph, sizeof graph, two_relus, sizeof two_relus,
                           fault->number, fault->place)
-           + refusals_differ(fault->what, graph, sizeof graph, fault->number, fault->place);
+           + refusals_differ(fault->what, graph, sizeof graph, fault->number, fault->place)
+           + write_differs(fault->what, graph, sizeof graph, LONGEST_TEXT, NULL, 0,
+                           fault->number, fault->place)
+           + write_differs(fault->what, graph, sizeof graph, 0, NULL, 0, fault->number,
+                           fault->place);
 }
 
 static int rule_fault_differs(const struct rule_fault *fault) {

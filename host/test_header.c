@@ -10,7 +10,8 @@ int main(void) {
                 + count_asked_of_p1_differences()
                 + count_rewrite_differences() + count_constants_differences()
                 + count_sweep_differences() + count_squeeze_differences()
-                + count_import_differences() + count_fault_differences()
+                + count_import_differences() + count_listing_differences()
+                + count_text_fault_differences() + count_fault_differences()
                 + count_helper_differences();
     if (count == 0) {
         puts("header test in C: no difference");

@@ -18,6 +18,9 @@ static_assert(LG_BAD_RULE_HEADER == 30 && LG_BAD_RULE_RECORD == 31 && LG_BAD_RUL
               "numbers for a bad rule");
 static_assert(LG_BAD_MOVES_LENGTH == 40 && LG_NO_SLOT == 65535, "numbers for a list of moves");
 static_assert(LG_NOT_A_MATCH == 41 && LG_NO_SUCH_VERTEX == 42, "numbers for a question");
+static_assert(LG_SHORT_TEXT == 43 && LG_NOT_A_LISTING == 44 && LG_UNSOUND_GRAPH == 45
+                  && LG_BAD_BUFFER_LENGTH == 46 && LG_LISTING_ROOM == 65535,
+              "numbers for a listing");
 
 // A block in memory of another kind and at an odd address.
 static std::vector<uint8_t> shifted(const uint8_t *block, size_t length) {
@@ -92,19 +95,39 @@ static int count_shifted_import_differences() {
            + (graph == shifted(after, sizeof after) ? 0 : 1);
 }
 
+static int count_shifted_listing_differences() {
+    const listing_call &call = listing_calls[1];
+    const uint8_t *bytes = reinterpret_cast<const uint8_t *>(call.text);
+    uint8_t block[TABLE_LENGTH];
+    put_table(block, &call.table);
+    const std::vector<uint8_t> graph = shifted(block, sizeof block);
+    const std::vector<uint8_t> text = shifted(bytes, call.text_len);
+    std::vector<uint8_t> written(text.size()), made(graph.size());
+    const uint64_t listed = lg_write_listing(graph.data() + 1, graph.size() - 1,
+                                             written.data() + 1, written.size() - 1);
+    const uint64_t read = lg_read_listing(text.data() + 1, text.size() - 1,
+                                          made.data() + 1, made.size() - 1);
+    return reply_differs("shifted listing", listed, LG_DONE, 0,
+                         static_cast<uint32_t>(call.text_len))
+           + differs("shifted text", read, LG_DONE) + (written == text ? 0 : 1)
+           + (made == graph ? 0 : 1);
+}
+
 int main() {
     const int count = count_differences() + count_find_differences()
                       + count_asked_differences() + count_changed_map_differences()
                       + count_asked_of_p1_differences()
                       + count_rewrite_differences() + count_constants_differences()
                       + count_sweep_differences() + count_squeeze_differences()
-                      + count_import_differences() + count_fault_differences()
+                      + count_import_differences() + count_listing_differences()
+                      + count_text_fault_differences() + count_fault_differences()
                       + count_helper_differences()
                       + count_shifted_differences() + count_shifted_find_differences()
                       + count_shifted_asked_differences()
                       + count_shifted_rewrite_differences()
                       + count_shifted_squeeze_differences()
-                      + count_shifted_import_differences();
+                      + count_shifted_import_differences()
+                      + count_shifted_listing_differences();
     if (count == 0) {
         puts("header test in C++: no difference");
     }

@@ -3,7 +3,8 @@
  * bytes are all the same before; what differs after shows how deep it went. The
  * blocks are the largest, with the longest chains, so that every loop and every
  * recursion is at its deepest: sound ones, and graphs with a cycle, whose lowest
- * slot has to be found. */
+ * slot has to be found. The texts that are read are the listings of these, and the
+ * longest one. */
 
 #define _GNU_SOURCE
 #include <pthread.h>
@@ -33,6 +34,8 @@ static uint8_t rule[16 + 16 * (SIDE + SIDE) + 8 * NODES];
 static uint8_t pair_rule[sizeof rule];
 static uint8_t match[LG_MAP_LENGTH];
 static uint8_t pair_match[sizeof match];
+static uint8_t text[LG_LISTING_ROOM];
+static size_t text_length;
 
 /* Kind, operator and counts, and these input numbers, the last one in the last
  * place. */
@@ -176,6 +179,16 @@ static void *import(void *reply) {
     return NULL;
 }
 
+static void *write_listing(void *reply) {
+    *(uint64_t *)reply = lg_write_listing(graph, sizeof graph, text, sizeof text);
+    return NULL;
+}
+
+static void *read_listing(void *reply) {
+    *(uint64_t *)reply = lg_read_listing(text, text_length, rewritten, sizeof rewritten);
+    return NULL;
+}
+
 /* Graphs with a cycle: in each slot a Tuple of six times the next slot, and in the
  * last of that chain one of the slot where the cycle begins. The slots before it
  * hang from it. Slots are chained upwards, or downwards. */
@@ -203,6 +216,20 @@ static void build_cycle(size_t which) {
         }
         put_slot(slot, "\4\0\6", next, next);
     }
+}
+
+/* Makes the text the listing of such a graph, which lg_write_listing refuses. */
+static void put_cycle_text(void) {
+    unsigned slot;
+    char *at = (char *)text;
+    at += sprintf(at, "graph %d\n", SLOTS);
+    for (slot = 0; slot < SLOTS; slot++) {
+        const unsigned next = graph[record_of(slot) + 4] + 256U * graph[record_of(slot) + 5];
+        at += sprintf(at, "%u tuple [%u %u %u %u %u %u] {}\n", slot, next, next, next, next,
+                      next, next);
+    }
+    at += sprintf(at, "out 0\n");
+    text_length = (size_t)(at - (char *)text);
 }
 
 /* How many bytes of a stack the call used, or 0 where its reply was not the one
@@ -265,20 +292,65 @@ static int show_sweeps(void) {
     return wrong;
 }
 
+/* Makes the graph one of as many bytes of text as there can be: Variables with the
+ * longest numbers. */
+static void build_longest(void) {
+    size_t slot, place;
+    for (slot = 0; slot < SLOTS; slot++) {
+        put_slot(slot, "\2\0\0\5", 0, 0);
+        for (place = 0; place < 5; place++) {
+            memcpy(graph + record_of(slot) + 16 + 4 * place, "\0\0\0\200", 4);
+        }
+    }
+    memcpy(graph + 8, "\4\0\377\1\377\1\377\1\377\1", 10);
+    put_counts(graph);
+}
+
+/* The same of the graph's listing: written, read, and read where it is cut before its last
+ * byte, so that all of it but that is looked at in vain. What is read is the graph again. */
+static int show_listing(const char *writing, const char *reading, const char *cut) {
+    int wrong;
+    text_length = lg_reply_value(lg_write_listing(graph, sizeof graph, text, sizeof text));
+    wrong = judged(writing, used_by(write_listing, (uint64_t)text_length << 40), PROMISED);
+    memset(rewritten, 0, sizeof rewritten);
+    wrong += judged(reading, used_by(read_listing, LG_DONE), PROMISED);
+    wrong += memcmp(rewritten, graph, sizeof graph) == 0 ? 0 : 1;
+    text_length--;
+    return wrong + judged(cut, used_by(read_listing, (uint64_t)text_length << 8
+                                                     | LG_NOT_A_LISTING), PROMISED);
+}
+
+static int show_listings(void) {
+    int wrong = show_listing("writing a listing", "reading one", "reading one that is cut");
+    build_longest();
+    wrong += show_listing("writing the longest listing", "reading it", "reading it when it is cut");
+    memset(graph, 0, sizeof graph); /* no attribute is left, and no output */
+    build_graph();
+    return wrong;
+}
+
 /* Prints the most that a call used on the graphs with a cycle; 0 if each time it gave
- * the cycle's lowest slot and kept the promise. */
-static int show_cycles(const char *what, void *(*call)(void *), size_t promised) {
+ * the reply of this number, with the cycle's lowest slot where it names a place, and kept
+ * the promise. */
+static int show_cycles_refused(const char *what, void *(*call)(void *), size_t promised,
+                               unsigned number) {
     size_t which, used, most = 0;
     for (which = 0; which < sizeof cycles / sizeof cycles[0]; which++) {
+        const uint64_t lowest = number == LG_GRAPH_HAS_CYCLE ? cycles[which].lowest : 0;
         build_cycle(which);
+        put_cycle_text();
         memcpy(rewritten, graph, sizeof graph);
-        used = used_by(call, (uint64_t)cycles[which].lowest << 8 | LG_GRAPH_HAS_CYCLE);
+        used = used_by(call, lowest << 8 | number);
         if (used == 0) {
             return judged(what, 0, promised);
         }
         most = used > most ? used : most;
     }
     return judged(what, most, promised);
+}
+
+static int show_cycles(const char *what, void *(*call)(void *), size_t promised) {
+    return show_cycles_refused(what, call, promised, LG_GRAPH_HAS_CYCLE);
 }
 
 int main(void) {
@@ -295,12 +367,16 @@ int main(void) {
     wrong += show("rewriting with two outputs", rewrite_pair, PROMISED_REWRITING);
     wrong += show_sweeps();
     wrong += show("squeezing", squeeze, PROMISED);
+    wrong += show_listings();
     wrong += show_cycles("checking a graph with a cycle", check_graph, PROMISED);
     wrong += show_cycles("finding a match in one", find_match, PROMISED);
     wrong += show_cycles("asking about a slot of one", ask, PROMISED);
     wrong += show_cycles("rewriting one", rewrite, PROMISED_REWRITING);
     wrong += show_cycles("sweeping one", sweep, PROMISED);
     wrong += show_cycles("squeezing one", squeeze, PROMISED);
+    wrong += show_cycles("writing the listing of one", write_listing, PROMISED);
+    wrong += show_cycles_refused("reading the listing of one", read_listing, PROMISED,
+                                 LG_UNSOUND_GRAPH);
     build_graph();
     make_version_1(graph);
     wrong += show("importing", import, PROMISED);

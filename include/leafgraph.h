@@ -1,7 +1,8 @@
 /* leafgraph: checks the operator graphs of an image pipeline and the rules by
  * which they are rewritten, finds where a rule matches, says whether what it matches is
  * read elsewhere, and rewrites there; sweeps out what no output needs, squeezes what is
- * left together, and imports graphs of the format's first version.
+ * left together, imports graphs of the format's first version, and writes graphs as text
+ * and reads them back.
  *
  * What holds for every function here:
  *
@@ -38,8 +39,9 @@
  * reply 24 for a wrong one. Graph blocks of version 1, which versions before took,
  * are refused with reply 20, except by lg_import, which makes version 2 of them.
  * Version 3.1 adds lg_is_read_elsewhere, with replies 41 and 42, and lg_reply_value.
- * Nothing that was there has changed. */
-#define LEAFGRAPH_VERSION "3.1.0"
+ * Version 3.2 adds lg_write_listing and lg_read_listing, with replies 43 to 46.
+ * Nothing that was there has changed in either. */
+#define LEAFGRAPH_VERSION "3.2.0"
 
 #ifdef __cplusplus
 extern "C" {
@@ -49,8 +51,8 @@ extern "C" {
  * is given. Of a block with faults of several kinds that is the first kind,
  * wherever its fault stands.
  *
- * Those about a block say what their place is (lg_reply_place); with all others
- * it is 0.
+ * Those about a block, and LG_NOT_A_LISTING, say what their place is (lg_reply_place);
+ * with all others it is 0.
  * In a rule with S source vertices, vertex p is source vertex p, or, from S on,
  * target vertex p - S. */
 enum {
@@ -93,6 +95,14 @@ enum {
     LG_NO_SUCH_VERTEX = 42,   /* the number is no source vertex, or one that is a
                                  rule input (a wildcard or a Variable) */
 
+    LG_SHORT_TEXT = 43,        /* the text buffer is shorter than the listing */
+    LG_NOT_A_LISTING = 44,     /* the text has not the form of a listing. Place: the
+                                  first byte at which no listing can go on; or the
+                                  text's length, if a listing ends too early there */
+    LG_UNSOUND_GRAPH = 45,     /* it has that form, and its graph is not sound */
+    LG_BAD_BUFFER_LENGTH = 46, /* the graph buffer is not exactly 24 + 48 N bytes,
+                                  for the N of the listing */
+
     LG_NO_MATCH = 4,  /* no match from the start number on */
     LG_NO_RESULT = 5, /* a target attribute has no result, or a projection's
                          index is below 1 */
@@ -102,12 +112,14 @@ enum {
 };
 
 enum {
-    LG_MAP_LENGTH = 32,  /* the bytes of a map */
-    LG_NO_SLOT = 65535,  /* in a map, past the last source vertex; in a list of
-                            moves, for a slot that was Empty */
+    LG_MAP_LENGTH = 32,      /* the bytes of a map */
+    LG_NO_SLOT = 65535,      /* in a map, past the last source vertex; in a list of
+                                moves, for a slot that was Empty */
+    LG_LISTING_ROOM = 65535, /* bytes in which every listing has room */
 
     /* Bytes 4 and 5 of a graph block. */
-    LG_GRAPH_VERSION = 2,    /* with counts: lg_import makes it, all else takes it */
+    LG_GRAPH_VERSION = 2,    /* with counts: lg_import and lg_read_listing make it, all
+                                else takes it */
     LG_VERSION_TO_IMPORT = 1 /* without them: lg_import takes it */
 };
 
@@ -138,9 +150,10 @@ static inline uint32_t lg_reply_place(uint64_t reply) {
     return (reply >> 8) & 0xffffffff;
 }
 
-/* The value beside a reply: bits 40 to 63. Of lg_is_read_elsewhere it is 1 for yes,
- * with LG_DONE; with any other reply, and of any other function, it is 0. Look at the
- * number first: 0 beside a refusal is no answer. */
+/* The value beside a reply: bits 40 to 63. With LG_DONE it is 1 for yes of
+ * lg_is_read_elsewhere, and the listing's length of lg_write_listing; with any other
+ * reply, and of any other function, it is 0. Look at the number first: 0 beside a
+ * refusal is no answer. */
 static inline uint32_t lg_reply_value(uint64_t reply) {
     const uint64_t value = reply >> 40;
     return value & 0xffffff;
@@ -320,6 +333,57 @@ uint64_t lg_squeeze(uint8_t *graph, size_t graph_len,
  * Stack:   64 KiB.
  */
 uint64_t lg_import(uint8_t *graph, size_t graph_len);
+
+/* Writes a graph as text: its listing. This one is of three slots, the last Empty:
+ *
+ *     graph 3
+ *     0 variable [] {1 3 8 8 1}
+ *     1 call 7 [0] {}
+ *     out 1
+ *
+ * Every sound graph has one listing, which docs/FORMATS.md describes byte by byte. It
+ * is shorter than 65536 bytes, so that LG_LISTING_ROOM bytes are room for any. Its last
+ * byte is the line end (byte 10) of its last line: no zero byte follows. From it
+ * lg_read_listing makes the same block again, every byte of it. The two buffers must
+ * not overlap.
+ *
+ * Reads:   graph_len bytes at graph.
+ * Writes:  on LG_DONE, the first lg_reply_value bytes at text: the listing. Every byte
+ *          behind those stays. On a refusal, nothing.
+ * Replies: LG_DONE if the listing is written, with lg_reply_value its length; else the
+ *          first that applies of what lg_check_graph would refuse and LG_SHORT_TEXT
+ *          (text_len is less than the listing's length, which this does not tell).
+ * Threads: any number at once, each with a text of its own.
+ * Stack:   64 KiB.
+ */
+uint64_t lg_write_listing(const uint8_t *graph, size_t graph_len,
+                          uint8_t *text, size_t text_len);
+
+/* Reads a listing: makes its graph's block of version 2, with true counts. It is done
+ * exactly where the text is what lg_write_listing writes of some sound graph, and
+ * graph_len is 24 + 48 N for that graph's N, which the text's first line tells. What
+ * the graph buffer holds before is not looked at. The two buffers must not overlap.
+ *
+ * The form is judged first, then whether the graph is sound. Of the listing's form is
+ * a text with N from 1 to 512, slots that ascend below N, the numbers of inputs and
+ * attributes that kind and operator want, 1 to 4 outputs, inputs and outputs from 0 to
+ * 65535, and attributes that fit 32 bits. So a number that names no vertex, a
+ * projection's index below 1 and a cycle are no matter of the form: they are
+ * LG_UNSOUND_GRAPH. The place of LG_NOT_A_LISTING is the least p such that no text of
+ * that form begins with the first p + 1 bytes of this one; where the whole text is the
+ * beginning of one that goes on, it is text_len.
+ *
+ * Reads:   text_len bytes at text.
+ * Writes:  on LG_DONE, the graph_len bytes at graph: the graph block. On a refusal,
+ *          nothing.
+ * Replies: LG_DONE if the block is written; else the first that applies of
+ *          LG_NOT_A_LISTING, with its place, LG_UNSOUND_GRAPH and
+ *          LG_BAD_BUFFER_LENGTH (graph_len is not 24 + 48 N).
+ * Threads: any number at once, each with a graph of its own.
+ * Stack:   64 KiB.
+ */
+uint64_t lg_read_listing(const uint8_t *text, size_t text_len,
+                         uint8_t *graph, size_t graph_len);
 
 #ifdef __cplusplus
 }
