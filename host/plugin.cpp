@@ -4,6 +4,7 @@
 #include "leafgraph.hpp"
 
 #include <array>
+#include <string>
 #include <vector>
 
 // Whether the graph is rewritten, and why or why not.
@@ -44,6 +45,23 @@ unsigned named(std::vector<unsigned char> &graph, std::size_t slot) {
         return 0;
     }
     return leafgraph::check_graph(graph) ? leafgraph::stored_count(graph, slot) : 0U;
+}
+
+// How long a graph is as text, in bytes that are lent for it; 0 if it is refused.
+std::size_t listed_length(const std::vector<unsigned char> &graph, std::vector<char> &room) {
+    room.resize(leafgraph::listing_room());
+    return leafgraph::write_listing(graph, room).length();
+}
+
+// A graph as text, and the graph of a text: empty if it is refused.
+std::string mailed(const std::vector<unsigned char> &graph) {
+    std::string text;
+    return leafgraph::assign_listing(graph, text) ? text : "";
+}
+
+std::vector<unsigned char> received(const std::string &text) {
+    std::vector<unsigned char> graph(leafgraph::graph_length(text));
+    return leafgraph::read_listing(text, graph) ? graph : std::vector<unsigned char>();
 }
 
 // Whether both are sound, where neither may be there.

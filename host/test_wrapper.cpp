@@ -7,6 +7,7 @@
 #include "blocks.hpp"
 #include "faults.h"
 #include "imports.h"
+#include "listing.h"
 #include "read_elsewhere.h"
 #include "shared_constants.h"
 #include "sweep_squeeze.h"
@@ -30,6 +31,7 @@ using blocks::Vertex;
 using leafgraph::Answer;
 using leafgraph::Bytes;
 using leafgraph::Code;
+using leafgraph::Listed;
 using leafgraph::Map;
 using leafgraph::Moves;
 using leafgraph::Place;
@@ -431,6 +433,127 @@ void test_stored_counts() {
     expect(leafgraph::stored_count(Bytes(), 0) == 0, "no block");
 }
 
+std::string_view text_of(const listing_call &call) {
+    return {call.text, call.text_len};
+}
+
+// A sound graph and its listing: each of them makes the other.
+void expect_listing(const Block &graph, std::string_view text, const char *what) {
+    std::string room(text.size() + 9, '!');
+    const Listed listed = leafgraph::write_listing(graph, room);
+    expect(bool(listed) && listed.done() && listed.reply.done(), what);
+    expect(listed.text == text && listed.length() == text.size(), what);
+    expect(listed.text.data() == room.data(), "the text is a view of the lent bytes");
+    expect(listed.reply.value() == text.size() && listed.reply.place() == 0, what);
+    expect(room == std::string(text) + std::string(9, '!'), "what is behind it stays");
+    std::string own = "something";
+    expect(leafgraph::assign_listing(graph, own) == listed.reply && own == text, what);
+    Block made(leafgraph::graph_length(text), 0xaa);
+    expect(made.size() == graph.size(), "the first line tells the block's length");
+    expect(leafgraph::read_listing(text, made).done() && made == graph, what);
+}
+
+void test_listings() {
+    for (const listing_call &call : listing_calls) {
+        expect_listing(block_of(call.table), text_of(call), call.what);
+    }
+    const auto *kinds = reinterpret_cast<const std::uint8_t *>(&kinds_graph);
+    expect_listing(Block(kinds, kinds + KINDS_LENGTH), kinds_text, "all kinds");
+    expect_listing(two_relus_graph(), "graph 3\n0 variable [] {1 3 8 8 1}\n1 call 7 [0] {}\n"
+                                      "2 call 7 [1] {}\nout 2\n", "two relus");
+    static_assert(leafgraph::listing_room() == 65535);
+    static_assert(Listed{Reply(Code::short_text), {}}.length() == 0);
+    static_assert(!std::is_convertible_v<Listed, bool>);
+}
+
+// All 512 slots Variables with the longest numbers: no listing is longer.
+void test_longest_listing() {
+    const std::vector<std::int32_t> least(5, INT32_MIN);
+    const Vertex longest = {blocks::variable, blocks::none, {}, least};
+    const Block graph = blocks::graph(std::vector<Vertex>(512, longest), {511, 511, 511, 511});
+    std::string text;
+    Block made(graph.size());
+    expect(leafgraph::assign_listing(graph, text).done(), "the longest listing");
+    expect(text.size() == 39856 && text.size() < leafgraph::listing_room(), "its length");
+    expect(leafgraph::graph_length(text) == graph.size(), "its graph's length");
+    expect(leafgraph::read_listing(text, made).done() && made == graph, "it is read back");
+}
+
+// A refused writing keeps every byte and gives no text.
+void expect_not_listed(const Block &graph, std::size_t length, Reply expected, const char *what) {
+    std::string room(length, '!'), own = "something";
+    const auto [reply, text] = leafgraph::write_listing(graph, room);
+    expect(reply == expected && !reply.done() && text.empty(), what);
+    expect(room == std::string(length, '!'), "a refused writing keeps every byte");
+    if (reply.bad_graph()) {
+        expect(leafgraph::assign_listing(graph, own) == expected && own == "something", what);
+    }
+}
+
+void test_listing_refusals() {
+    for (const graph_fault &fault : all_graph_faults()) {
+        const Block graph = block_with(fault);
+        expect_not_listed(graph, LONGEST_TEXT, leafgraph::check_graph(graph), fault.what);
+        expect_not_listed(graph, 0, leafgraph::check_graph(graph), "a bad graph comes first");
+    }
+    for (const listing_call &call : listing_calls) {
+        for (std::size_t length = 0; length < call.text_len; ++length) {
+            expect_not_listed(block_of(call.table), length, Reply(Code::short_text), call.what);
+        }
+    }
+}
+
+// A refused reading keeps every byte, whatever is lent.
+Reply refused_reading(std::string_view text, std::size_t length) {
+    Block graph(length, 0xaa);
+    const Reply reply = leafgraph::read_listing(text, graph);
+    expect(!reply.done() && graph == Block(length, 0xaa), "a refused reading keeps every byte");
+    expect(!reply.bad_graph() && !reply.bad_rule() && reply.value() == 0, "and is about no block");
+    return reply;
+}
+
+void test_reading_refusals() {
+    for (const text_fault &fault : text_faults) {
+        const std::string_view text(fault.text, fault.text_len);
+        for (const std::size_t length : {leafgraph::graph_length(text), std::size_t{1}}) {
+            const Reply reply = refused_reading(text, length);
+            expect(reply.code() == Code::not_a_listing && reply.place() == fault.place, fault.what);
+            expect(leafgraph::place_in(reply, text) == Place{PlaceKind::text_byte, fault.place},
+                   fault.what);
+        }
+    }
+    for (const auto &unsound : unsound_listings) {
+        const std::string_view text(unsound.text, unsound.text_len);
+        for (const std::size_t length : {leafgraph::graph_length(text), std::size_t{1}}) {
+            const Reply reply = refused_reading(text, length);
+            expect(reply == Reply(Code::unsound_graph), unsound.what);
+            expect(leafgraph::place_in(reply, text).kind == PlaceKind::none, unsound.what);
+        }
+    }
+    for (const std::size_t length : bad_buffer_lengths) {
+        expect(refused_reading(text_of(listing_calls[0]), length)
+                   == Reply(Code::bad_buffer_length), "a graph buffer of another length");
+    }
+}
+
+// What the first line tells, and nothing more.
+void test_graph_length() {
+    const auto length = [](std::string_view text) { return leafgraph::graph_length(text); };
+    expect(length("graph 1\n") == 72 && length("graph 512\n") == 24600, "the least, the largest");
+    expect(length("graph 37\nno listing") == 24 + 48 * 37, "nothing is judged");
+    expect(length("graph 37") == 24 + 48 * 37, "the text may end there");
+    expect(length("graph 0\n") == 0 && length("graph 513\n") == 0, "no number of slots");
+    expect(length("graph 999999999999999999999\n") == 0, "nor this");
+    expect(length("graph \n") == 0 && length("graph -3\n") == 0, "no number");
+    expect(length("") == 0 && length("gra") == 0 && length("Graph 3\n") == 0, "no first line");
+    const std::string text = "graph 512"; // on the heap, with no zero byte of its own to read
+    for (std::size_t cut = 0; cut <= text.size(); ++cut) {
+        const std::vector<char> part(text.begin(), text.begin() + static_cast<std::ptrdiff_t>(cut));
+        const std::size_t slots[] = {0, 5, 51, 512};
+        expect(leafgraph::graph_length(part) == (cut < 7 ? 0 : 24 + 48 * slots[cut - 6]), "cut");
+    }
+}
+
 // The same calls through every kind of buffer.
 void test_kinds_of_buffer() {
     const Block graph = two_relus_graph(), rule = two_relus_rule();
@@ -472,6 +595,30 @@ void test_kinds_of_buffer() {
 #endif
 }
 
+// Texts in every kind of buffer.
+void test_kinds_of_text_buffer() {
+    const listing_call &call = listing_calls[0];
+    const Block graph = block_of(call.table);
+    std::array<char, LONGEST_TEXT> room = {};
+    std::uint8_t bytes[LONGEST_TEXT], table[TABLE_LENGTH];
+    std::vector<std::byte> made(TABLE_LENGTH);
+    const Listed listed = leafgraph::write_listing(graph, room);
+    expect(listed.text == text_of(call), "std::array");
+    expect(leafgraph::write_listing(graph, bytes).text == listed.text, "array");
+    expect(leafgraph::read_listing(listed.text, table).done(), "string_view, array");
+    expect(leafgraph::read_listing(std::string(listed.text), made).done(), "string, vector");
+    expect(leafgraph::read_listing({bytes, listed.length()}, table).done(), "pointer and length");
+    expect(std::memcmp(table, graph.data(), graph.size()) == 0, "the array holds the graph");
+    expect(std::memcmp(made.data(), graph.data(), graph.size()) == 0, "and so does the vector");
+#if __cplusplus > 201703L
+    Block copy(graph.size());
+    expect(leafgraph::write_listing(std::span(graph), std::span(room)).text == text_of(call),
+           "spans");
+    expect(leafgraph::read_listing(std::span(room).first(listed.length()), std::span(copy)).done()
+               && copy == graph, "spans to read");
+#endif
+}
+
 void test_empty_buffers() {
     Block graph = two_relus_graph();
     const Block rule = two_relus_rule();
@@ -499,6 +646,13 @@ void test_empty_buffers() {
                      Code::bad_rule_header, "a null rule");
     expect_no_answer(leafgraph::is_read_elsewhere(graph, rule, {nullptr, 0}, 0),
                      Code::bad_map_length, "a null map to ask about");
+    expect(leafgraph::write_listing({nullptr, 0}, {nullptr, 0}).reply.bad_graph(), "no graph");
+    expect(leafgraph::write_listing(graph, {nullptr, 0}).reply.code() == Code::short_text,
+           "no room");
+    expect(leafgraph::read_listing({nullptr, 0}, graph) == Reply(Code::not_a_listing), "no text");
+    expect(leafgraph::read_listing(text_of(listing_calls[0]), {nullptr, 0}).code()
+               == Code::bad_buffer_length, "a null graph to read into");
+    expect(leafgraph::graph_length({nullptr, 0}) == 0, "no text has no first line");
 }
 
 void test_null_with_a_length() {
@@ -525,6 +679,13 @@ void test_null_with_a_length() {
     expect_no_answer(leafgraph::is_read_elsewhere(null, rule, map, 1), Code::null_buffer, "graph");
     expect_no_answer(leafgraph::is_read_elsewhere(graph, null, map, 1), Code::null_buffer, "rule");
     expect_no_answer(leafgraph::is_read_elsewhere(graph, rule, null, 1), Code::null_buffer, "map");
+    expect(leafgraph::write_listing(null, map).reply.code() == Code::null_buffer, "graph to list");
+    const Listed listed = leafgraph::write_listing(graph, writable_null);
+    expect(listed.reply.code() == Code::null_buffer && listed.text.empty(), "text to write");
+    expect(leafgraph::read_listing(null, graph).code() == Code::null_buffer, "text to read");
+    expect(leafgraph::read_listing(text_of(listing_calls[0]), writable_null).code()
+               == Code::null_buffer, "graph to read into");
+    expect(leafgraph::graph_length(null) == 0, "a null text has no first line");
     expect(graph == before, "the graph is as it came");
 }
 
@@ -592,6 +753,41 @@ void test_squeeze_overlap() {
     expect_squeeze_overlap(0, 0, true);
 }
 
+// A graph and the room for its listing at these offsets of one block; and the listing, and the
+// room for its graph.
+void expect_listing_overlap(std::size_t graph_at, std::size_t text_at, bool overlap) {
+    const listing_call &call = listing_calls[0];
+    const Block graph = block_of(call.table);
+    Block all(700, 0xaa);
+    const WritableBytes block = {all.data() + graph_at, graph.size()};
+    const WritableBytes text = {all.data() + text_at, call.text_len};
+    std::memcpy(block.data(), graph.data(), graph.size());
+    Block before = all;
+    const Listed listed = leafgraph::write_listing(block, text);
+    expect((listed.reply.code() == Code::overlap) == overlap, "overlap in a writing");
+    expect(overlap ? all == before && listed.text.empty() : listed.done(),
+           "nothing was touched, or it is done");
+    std::memcpy(text.data(), call.text, call.text_len);
+    before = all;
+    const Reply read = leafgraph::read_listing(text, block);
+    expect((read.code() == Code::overlap) == overlap, "overlap in a reading");
+    expect(overlap ? all == before : read.done(), "nothing was touched, or it is done");
+}
+
+void test_listing_overlap() {
+    const std::size_t graph = TABLE_LENGTH, text = listing_calls[0].text_len;
+    expect_listing_overlap(0, graph, false);
+    expect_listing_overlap(text, 0, false);
+    expect_listing_overlap(0, graph - 1, true);
+    expect_listing_overlap(text - 1, 0, true);
+    expect_listing_overlap(0, 0, true);
+    expect_listing_overlap(0, 70, true);
+    std::string own(reinterpret_cast<const char *>(block_of(listing_calls[0].table).data()),
+                    TABLE_LENGTH);
+    expect(leafgraph::assign_listing(own, own).done() && own == text_of(listing_calls[0]),
+           "a string that holds the graph may become its listing");
+}
+
 void test_words() {
     std::set<std::string_view> texts;
     for (const Code code :
@@ -599,20 +795,22 @@ void test_words() {
           Code::bad_graph_name, Code::graph_has_cycle, Code::bad_graph_count,
           Code::bad_rule_header, Code::bad_rule_record, Code::bad_rule_order,
           Code::bad_rule_outputs, Code::bad_rule_expression, Code::bad_moves_length,
-          Code::not_a_match, Code::no_such_vertex, Code::no_match, Code::no_result,
+          Code::not_a_match, Code::no_such_vertex, Code::short_text, Code::not_a_listing,
+          Code::unsound_graph, Code::bad_buffer_length, Code::no_match, Code::no_result,
           Code::no_room, Code::cycle, Code::overlap, Code::null_buffer}) {
         texts.insert(leafgraph::what(code));
         expect(Reply(code).what() == std::string_view(leafgraph::what(code)), "the reply's words");
     }
-    expect(texts.size() == 21, "each code has words of its own");
+    expect(texts.size() == 25, "each code has words of its own");
     expect(texts.count(leafgraph::what(static_cast<Code>(200))) == 0, "an unknown number too");
     texts.clear();
     for (const PlaceKind kind : {PlaceKind::none, PlaceKind::slot, PlaceKind::output,
                                  PlaceKind::source_vertex, PlaceKind::target_vertex,
-                                 PlaceKind::node, static_cast<PlaceKind>(200)}) {
+                                 PlaceKind::node, PlaceKind::text_byte,
+                                 static_cast<PlaceKind>(200)}) {
         texts.insert(leafgraph::what(kind));
     }
-    expect(texts.size() == 7, "each kind of place has words of its own");
+    expect(texts.size() == 8, "each kind of place has words of its own");
 }
 
 // Whether an enumeration still has the name that the library's version 1 had for all bad
@@ -636,6 +834,11 @@ void test_numbers_of_faults() {
     static_assert(Reply(Code::bad_moves_length).number() == 40);
     static_assert(Reply(Code::not_a_match).number() == 41);
     static_assert(Reply(Code::no_such_vertex).number() == 42);
+    static_assert(Reply(Code::short_text).number() == 43);
+    static_assert(Reply(Code::not_a_listing).number() == 44);
+    static_assert(Reply(Code::unsound_graph).number() == 45);
+    static_assert(Reply(Code::bad_buffer_length).number() == 46);
+    static_assert(!Reply(Code::unsound_graph).bad_graph());
     static_assert(!Reply(Code::bad_moves_length).bad_graph());
     static_assert(Reply(std::uint64_t{29}).bad_graph() && !Reply(std::uint64_t{19}).bad_graph(),
                   "a later kind of fault is a bad graph, too");
@@ -683,7 +886,7 @@ void expect_a_place_in_any_bytes(Reply reply) {
     for (const std::size_t length : {0U, 1U, 7U, 10U, 24U, 72U, 80U, 104U}) {
         for (const char byte : {'\0', '\1', '\6', '\377'}) {
             const Place place = leafgraph::place_in(reply, std::string(length, byte));
-            expect(place.kind <= PlaceKind::node, "some kind of place");
+            expect(place.kind <= PlaceKind::text_byte, "some kind of place");
         }
     }
     expect(leafgraph::place_in(reply, {nullptr, 1}).kind == PlaceKind::none, "null");
@@ -723,8 +926,19 @@ void test_packed_replies() {
     static_assert(noexcept(leafgraph::import_graph(WritableBytes())));
     static_assert(noexcept(leafgraph::wants_import(Bytes())));
     static_assert(noexcept(leafgraph::stored_count(Bytes(), 0)));
+    static_assert(noexcept(leafgraph::write_listing(Bytes(), WritableBytes()).length()));
+    static_assert(noexcept(leafgraph::read_listing(Bytes(), WritableBytes())));
+    static_assert(noexcept(leafgraph::graph_length(Bytes())));
     static_assert(noexcept(leafgraph::squeeze(WritableBytes(), WritableBytes()).moves[0]));
     static_assert(!std::is_convertible_v<Squeezed, bool> && !std::is_convertible_v<Bytes, Moves>);
+}
+
+// Whether a graph is written as a text that is read back as that graph.
+bool kept_by_text(const Block &graph) {
+    std::array<char, LONGEST_TEXT> room;
+    Block made(graph.size());
+    const Listed listed = leafgraph::write_listing(graph, room);
+    return listed.done() && leafgraph::read_listing(listed.text, made).done() && made == graph;
 }
 
 // Whether an import, a sweep and a squeeze leave what they leave in other tests.
@@ -749,7 +963,8 @@ void test_threads() {
                 Map map;
                 const bool done = leafgraph::rewrite(graph, rule, 0, map).done();
                 const bool asked = leafgraph::is_read_elsewhere(before, rule, map, 1).no();
-                count += done && asked && graph == after && tidied() ? 0 : 1;
+                const bool kept = kept_by_text(before) && kept_by_text(after);
+                count += done && asked && kept && graph == after && tidied() ? 0 : 1;
             }
         });
     }
@@ -775,11 +990,18 @@ int main() {
     test_import();
     test_what_wants_no_import();
     test_stored_counts();
+    test_listings();
+    test_longest_listing();
+    test_listing_refusals();
+    test_reading_refusals();
+    test_graph_length();
     test_kinds_of_buffer();
+    test_kinds_of_text_buffer();
     test_empty_buffers();
     test_null_with_a_length();
     test_overlap();
     test_squeeze_overlap();
+    test_listing_overlap();
     test_words();
     test_numbers_of_faults();
     test_places();

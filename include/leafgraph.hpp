@@ -15,9 +15,11 @@
 // - The numbers of a map and of a list of moves are read by index (Map, Moves), and so
 //   are the counts that a graph block stores (stored_count).
 // - wants_import says whether a block is one of version 1, for import_graph.
+// - A listing is a std::string_view of the bytes that were lent for it, or is assigned to
+//   a std::string; and graph_length says how many bytes the graph of one wants.
 //
-// Nothing here throws, allocates or keeps state. What leafgraph.h says about
-// threads and stack holds here too.
+// Nothing here throws, allocates or keeps state, except assign_listing, which needs memory
+// for a string. What leafgraph.h says about threads and stack holds here too.
 #ifndef LEAFGRAPH_HPP
 #define LEAFGRAPH_HPP
 
@@ -30,6 +32,8 @@
 #include <array>
 #include <cstddef>
 #include <cstdint>
+#include <string>
+#include <string_view>
 #include <type_traits>
 #include <utility>
 
@@ -53,6 +57,10 @@ enum class Code : std::uint16_t {
     bad_moves_length = LG_BAD_MOVES_LENGTH,
     not_a_match = LG_NOT_A_MATCH,
     no_such_vertex = LG_NO_SUCH_VERTEX,
+    short_text = LG_SHORT_TEXT,
+    not_a_listing = LG_NOT_A_LISTING,
+    unsound_graph = LG_UNSOUND_GRAPH,
+    bad_buffer_length = LG_BAD_BUFFER_LENGTH,
     no_match = LG_NO_MATCH,
     no_result = LG_NO_RESULT,
     no_room = LG_NO_ROOM,
@@ -94,6 +102,14 @@ constexpr const char *what(Code code) noexcept {
         return "the map is no match of the rule in the graph";
     case Code::no_such_vertex:
         return "no source vertex of that number, or a rule input";
+    case Code::short_text:
+        return "the text buffer is shorter than the listing";
+    case Code::not_a_listing:
+        return "the text is no listing";
+    case Code::unsound_graph:
+        return "the listing's graph is not sound";
+    case Code::bad_buffer_length:
+        return "the graph buffer has not the length that the listing's graph wants";
     case Code::no_match:
         return "no match from the start number on";
     case Code::no_result:
@@ -131,12 +147,14 @@ public:
     constexpr const char *what() const noexcept { return leafgraph::what(code_); }
 
     // Whether it is about the graph block, or about the rule block: whatever kind of
-    // fault it has, those included that a later version tells apart.
+    // fault it has, those included that a later version tells apart. A listing is no
+    // block: of one that is refused, both are false.
     constexpr bool bad_graph() const noexcept { return number() / 10 == 2; }
     constexpr bool bad_rule() const noexcept { return number() / 10 == 3; }
 
     // The place that a refusal names, as the library gives it: a slot, an output, a
-    // vertex or a node, see leafgraph.h at each number; else 0. place_in says which.
+    // vertex, a node or a byte of a text, see leafgraph.h at each number; else 0. place_in
+    // says which.
     constexpr std::uint32_t place() const noexcept { return place_; }
 
     // The value beside it, see lg_reply_value; 0 where there is none, as with a refusal.
@@ -325,6 +343,17 @@ private:
     Bytes list_;
 };
 
+// What write_listing returns.
+struct [[nodiscard]] Listed {
+    Reply reply;
+    std::string_view text; // the listing, in the lent bytes, where the reply is done; else empty
+
+    // In bytes: those of the lent buffer from here on are as they came.
+    constexpr std::size_t length() const noexcept { return text.size(); }
+    constexpr bool done() const noexcept { return reply.done(); }
+    explicit constexpr operator bool() const noexcept { return done(); }
+};
+
 // What squeeze returns.
 struct [[nodiscard]] Squeezed {
     Reply reply;
@@ -479,6 +508,75 @@ inline bool wants_import(Bytes graph) noexcept {
            && graph.size() == detail::record_at(detail::number16_at(graph, 6));
 }
 
+// How many bytes are room for the listing of any graph.
+constexpr std::size_t listing_room() noexcept {
+    return LG_LISTING_ROOM;
+}
+
+// As lg_write_listing: where done, the listing stands at the beginning of the text buffer,
+// and the rest of it is as it came. On a refusal no byte has changed.
+inline Listed write_listing(Bytes graph, WritableBytes text) noexcept {
+    const Code code = detail::judged(graph, text);
+    if (code != Code::done) {
+        return {Reply(code), {}};
+    }
+    graph = detail::lent(graph);
+    text = detail::lent(text);
+    const Reply reply(lg_write_listing(graph.data(), graph.size(), text.data(), text.size()));
+    const std::size_t length = reply.done() ? reply.value() : 0;
+    return {reply, {reinterpret_cast<const char *>(text.data()), length}};
+}
+
+// The same into a string of its own length: where done, the string is the listing; on a
+// refusal it is as it was. Throws what std::string throws where there is no memory; then,
+// too, it is as it was.
+inline Reply assign_listing(Bytes graph, std::string &text) {
+    std::string room(listing_room(), '\0');
+    const Listed listed = write_listing(graph, room);
+    if (listed) {
+        text.assign(listed.text);
+    }
+    return listed.reply;
+}
+
+// How many bytes read_listing wants for the graph of this text: 24 + 48 N, for the N of
+// which its first line speaks. It looks at that line alone and judges nothing: of a text
+// that is no listing it says nothing of use, but never more than 24600, and read_listing
+// refuses that text whatever is lent. 0 where there is no such line, or N is not from 1 to
+// 512.
+inline std::size_t graph_length(Bytes text) noexcept {
+    constexpr std::size_t first_digit = 6, most_digits = 3;
+    std::size_t slots = 0, at = 0;
+    if (detail::is_null(text)) {
+        return 0;
+    }
+    for (; at < first_digit; ++at) {
+        if (detail::byte_at(text, at) != static_cast<unsigned char>("graph "[at])) {
+            return 0;
+        }
+    }
+    for (; at < first_digit + most_digits; ++at) {
+        const unsigned digit = detail::byte_at(text, at) - unsigned{'0'};
+        if (digit > 9) {
+            break;
+        }
+        slots = 10 * slots + digit;
+    }
+    return slots >= 1 && slots <= 512 ? detail::record_at(slots) : 0;
+}
+
+// As lg_read_listing: where done, graph holds the block, whatever it held before. On a
+// refusal no byte has changed.
+inline Reply read_listing(Bytes text, WritableBytes graph) noexcept {
+    const Code code = detail::judged(text, graph);
+    if (code != Code::done) {
+        return Reply(code);
+    }
+    text = detail::lent(text);
+    graph = detail::lent(graph);
+    return Reply(lg_read_listing(text.data(), text.size(), graph.data(), graph.size()));
+}
+
 // How many input places and graph outputs name this slot, as the block itself says; 0
 // past its last slot. Of a graph that is not sound it says nothing of use.
 inline std::uint16_t stored_count(Bytes graph, std::size_t slot) noexcept {
@@ -494,7 +592,8 @@ enum class PlaceKind {
     output, // of the graph, 0 to 3
     source_vertex,
     target_vertex,
-    node // of an expression
+    node,     // of an expression
+    text_byte // of a text that is read, counted from 0; its length, if it ends too early
 };
 
 // The kind in a word or two, for a message. Never null.
@@ -512,6 +611,8 @@ constexpr const char *what(PlaceKind kind) noexcept {
         return "target vertex";
     case PlaceKind::node:
         return "node";
+    case PlaceKind::text_byte:
+        return "byte";
     }
     return "a kind of place that this header does not know";
 }
@@ -586,7 +687,8 @@ inline Place vertex_place(Bytes rule, std::uint32_t vertex) noexcept {
 } // namespace detail
 
 // What the place of a reply counts, in the block that the reply is about: the graph
-// where reply.bad_graph(), the rule where reply.bad_rule(), as it was at the call.
+// where reply.bad_graph(), the rule where reply.bad_rule(), as it was at the call; and the
+// text where it is not_a_listing.
 //
 // Number and place are the library's, and proved. This look at the bytes is tested, not
 // proved; it never reads outside the block, whatever is in it. Of another block than
@@ -612,6 +714,8 @@ inline Place place_in(Reply reply, Bytes block) noexcept {
         // A vertex is given only where no node at all is bad.
         return detail::is_bad_node(block, place) ? Place{PlaceKind::node, place}
                                                  : detail::vertex_place(block, place);
+    case Code::not_a_listing:
+        return {PlaceKind::text_byte, place};
     default:
         return {PlaceKind::none, 0};
     }
