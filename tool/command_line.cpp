@@ -31,6 +31,7 @@ const std::vector<CommandForm> command_forms = {
     {"sweep", Command::sweep, {"GRAPH"}, 1, {"-o", "--numbers", "--counts"}},
     {"squeeze", Command::squeeze, {"GRAPH"}, 1, {"-o", "--moves", "--numbers", "--counts"}},
     {"import", Command::import_graph, {"GRAPH"}, 1, {"-o", "--numbers", "--counts"}},
+    {"read", Command::read_text, {"TEXT"}, 1, {"-o", "--numbers", "--counts"}},
     {"show", Command::show, {"FILE"}, 1, {"--numbers", "--counts"}},
     {"dot", Command::dot, {"GRAPH", "RULE"}, 1, {"--start", "--svg", "-o"}},
 };
@@ -172,7 +173,7 @@ void check_options(const SortedWords &sorted) {
     }
     for (const std::string option : {"--numbers", "--counts"}) {
         if (sorted.has(option) && sorted.has("-o")) {
-            throw sorted.slip(option + " is for the listing, and with -o there is none");
+            throw sorted.slip(option + " is for the text, and with -o there is none");
         }
     }
     if (sorted.has("--start") && sorted.files.size() < 2) {
@@ -192,10 +193,12 @@ void check_kept(const SortedWords &sorted, const std::string &option, std::size_
 }
 
 // To put a new graph in the place of the old one is often wanted; to put it in the
-// place of the rule, or a drawing or a list in the place of either, never is. Nor are
-// a graph and a list in one place.
+// place of the rule or of the text that it is read from, or a drawing or a list in the
+// place of either, never is. Nor are a graph and a list in one place.
 void check_outputs(const SortedWords &sorted) {
-    check_kept(sorted, "-o", sorted.form.command == Command::dot ? 0 : 1);
+    const Command command = sorted.form.command;
+    const bool keeps_first = command == Command::dot || command == Command::read_text;
+    check_kept(sorted, "-o", keeps_first ? 0 : 1);
     check_kept(sorted, "--moves", 0);
     const std::optional<std::string> moves = sorted.value("--moves");
     // Without -o the graph is printed.

@@ -18,6 +18,7 @@ enum class Command {
     sweep,
     squeeze,
     import_graph,
+    read_text,
     show,
     dot
 };

@@ -7,6 +7,7 @@
 #include "blocks.hpp"
 #include "dot.hpp"
 #include "failure.hpp"
+#include "graph_text.hpp"
 #include "graphviz.hpp"
 #include "input.hpp"
 #include "leafgraph.hpp"
@@ -27,20 +28,29 @@ Operators operators(const CommandLine &line) {
     return line.numbers ? Operators::as_numbers : Operators::as_names;
 }
 
-// Prints a sound graph as the line says.
-void print_listing(const CommandLine &line, const Input &graph) {
-    print(graph_listing(read_graph(graph.bytes), operators(line),
-                        line.counts ? Counts::shown : Counts::left_out));
+// Prints a sound graph as the line says. With counts behind the slots it is no listing any
+// more.
+void print_graph(const CommandLine &line, const Input &graph) {
+    if (line.numbers && !line.counts) {
+        print(listing_of(graph));
+    } else {
+        print(graph_text(read_graph(graph.bytes), operators(line),
+                         line.counts ? Counts::shown : Counts::left_out));
+    }
+}
+
+// How much is in a sound graph block.
+std::string graph_words(const Input &input) {
+    const Graph graph = read_graph(input.bytes);
+    return "sound graph, " + counted(graph.slots.size(), "slot", "slots") + ", "
+           + counted(count_vertices(graph), "vertex", "vertices") + ", "
+           + counted(graph.outputs.size(), "output", "outputs");
 }
 
 void check(const CommandLine &line) {
     const Input input = read_graph_file(line.files[0]);
     want_sound_graph(input);
-    const Graph graph = read_graph(input.bytes);
-    print(printable(input.name) + ": sound graph, "
-          + counted(graph.slots.size(), "slot", "slots") + ", "
-          + counted(count_vertices(graph), "vertex", "vertices") + ", "
-          + counted(graph.outputs.size(), "output", "outputs") + "\n");
+    print(printable(input.name) + ": " + graph_words(input) + "\n");
 }
 
 void check_rule(const CommandLine &line) {
@@ -108,7 +118,7 @@ void finish(const CommandLine &line, Input &graph, std::vector<std::string> repo
     if (line.out) {
         write_output(*line.out, graph.bytes);
     } else {
-        print_listing(line, graph);
+        print_graph(line, graph);
     }
     // Last, so that nothing is called done whose result could not be written.
     for (const std::string &report : reports) {
@@ -138,11 +148,16 @@ void import_block(const CommandLine &line) {
                          + counted(slots, "slot", "slots")});
 }
 
+void read_text(const CommandLine &line) {
+    Input graph = graph_of(read_text_file(line.files[0]));
+    finish(line, graph, {"read: " + graph_words(graph)});
+}
+
 void show(const CommandLine &line) {
     const Input input = read_any_file(line.files[0]);
     if (starts_with(input, graph_mark)) {
         want_sound_graph(input);
-        print_listing(line, input);
+        print_graph(line, input);
     } else if (line.counts && starts_with(input, rule_mark)) {
         throw bad_usage("--counts is for a graph, and " + input.name + " is a rule", "show");
     } else if (starts_with(input, rule_mark)) {
@@ -150,7 +165,8 @@ void show(const CommandLine &line) {
         print(rule_text(read_rule(input.bytes), operators(line)));
     } else {
         throw Failure(Status::refused,
-                      {input.name + ": neither a graph block (LGT) nor a rule block (LGR)"});
+                      {input.name + ": neither a graph block (LGT) nor a rule block (LGR)"
+                       + listing_hint(input)});
     }
 }
 
@@ -194,6 +210,8 @@ void run_command(const CommandLine &line) {
         return tidy(line);
     case Command::import_graph:
         return import_block(line);
+    case Command::read_text:
+        return read_text(line);
     case Command::show:
         return show(line);
     case Command::dot:

@@ -4,7 +4,8 @@ namespace leafgraph::tool {
 namespace {
 
 const char *const general =
-    R"(Checks graphs and rules, finds matches, rewrites, tidies and imports graphs.
+    R"(Checks graphs and rules, finds matches, rewrites, tidies and imports graphs, and
+reads them back from text.
 
 usage: leafgraph COMMAND FILE... [VERTEX] [OPTION...]
 
@@ -17,6 +18,7 @@ usage: leafgraph COMMAND FILE... [VERTEX] [OPTION...]
   sweep GRAPH         empty the slots of what no output needs
   squeeze GRAPH       move what is in a graph to its lowest slots
   import GRAPH        make a version 2 block of a version 1 block
+  read TEXT           make a graph block of a graph's listing
   show FILE           print a graph or a rule as text
   dot GRAPH [RULE]    draw a graph, and where a rule matches it
   help [COMMAND]      print this, or more about a command
@@ -34,8 +36,8 @@ standard error: why something is refused, and what was done to a graph.
 The exit status is
   0  if all is done; for 'rewrite --all' that is: no match is left; and for
      'read-elsewhere': there is an answer, yes or no
-  1  if a block, a VERTEX or a rewriting is refused, or the bound of --max is
-     reached
+  1  if a block, a TEXT, a VERTEX or a rewriting is refused, or the bound of
+     --max is reached
   2  for bad usage, a file that can't be read or written, or a dot that fails
   3  if there is no match
 )";
@@ -94,7 +96,7 @@ OUT is the same file; the file RULE can't be OUT.
   --sweep    sweep the graph after the last rewriting: see 'help sweep'
   --squeeze  squeeze it after that: see 'help squeeze', for --moves too
   -o OUT     write the new block to OUT, '-' for standard output, and no text
-  --numbers  print operators by number and not by name
+  --numbers  print the listing, which 'read' takes: operators by number
   --counts   print behind each slot how many inputs and outputs name it
 
 FILE and then OUT are replaced, each whole or not at all. If anything is refused,
@@ -112,7 +114,7 @@ of slots. How many slots became Empty is said on standard error. The file GRAPH 
 not changed, unless OUT is the same file.
 
   -o OUT     write the new block to OUT, '-' for standard output, and no text
-  --numbers  print operators by number and not by name
+  --numbers  print the listing, which 'read' takes: operators by number
   --counts   print behind each slot how many inputs and outputs name it
 
 OUT is replaced whole or not at all, also where nothing had to go. If GRAPH is
@@ -131,7 +133,7 @@ error. The file GRAPH is not changed, unless OUT is the same file.
                 each old slot its new number, or 65535 if it was Empty, in two
                 bytes, the lower one first; not GRAPH or where the graph goes
   -o OUT        write the new block to OUT, '-' for standard output, and no text
-  --numbers     print operators by number and not by name
+  --numbers     print the listing, which 'read' takes: operators by number
   --counts      print behind each slot how many inputs and outputs name it
 
 Nothing is swept: what nobody reads moves, too. FILE and then OUT are replaced,
@@ -148,7 +150,7 @@ the inputs and outputs that name it. That it was done is said on standard error.
 The file GRAPH is not changed, unless OUT is the same file.
 
   -o OUT     write the new block to OUT, '-' for standard output, and no text
-  --numbers  print operators by number and not by name
+  --numbers  print the listing, which 'read' takes: operators by number
   --counts   print behind each slot how many inputs and outputs name it
 
 OUT is replaced whole or not at all. If GRAPH is refused, it is not written, and
@@ -156,13 +158,31 @@ the exit status is 1. A version 2 block is refused here, and a version 1 block b
 every other command.
 )";
 
+const char *const read_text = R"(usage: leafgraph read TEXT [-o OUT | [--numbers] [--counts]]
+
+Reads a graph's listing, and prints the graph as text. The listing is what 'show
+--numbers' prints of a graph, and exactly that is read: operators by number, no
+comment, no other space. How much was read is said on standard error.
+
+  -o OUT     write the graph's block, with counts, to OUT, '-' for standard output,
+             and no text; not TEXT
+  --numbers  print the listing, which 'read' takes: operators by number
+  --counts   print behind each slot how many inputs and outputs name it
+
+OUT is replaced whole or not at all. If TEXT is refused, it is not written, and the
+exit status is 1. Where TEXT is no listing, the first place is told at which none can
+go on, what stands there and what could; where its graph is not sound, what is wrong
+with that.
+)";
+
 const char *const show = R"(usage: leafgraph show FILE [--numbers] [--counts]
 
 Prints a sound graph or rule as text. Inputs stand in [], attributes in {}.
 
-  --numbers  print operators by number and not by name
-  --counts   print behind each slot how many inputs and outputs name it; not of a
-             rule, which has no such counts
+  --numbers  print operators by number and not by name; of a graph this is its
+             listing, which 'read' takes
+  --counts   print behind each slot how many inputs and outputs name it, so that
+             it is no listing; not of a rule, which has no such counts
 )";
 
 const char *const dot = R"(usage: leafgraph dot GRAPH [RULE [--start S]] [--svg] [-o OUT]
@@ -200,6 +220,8 @@ std::string command_help(Command command) {
         return squeeze;
     case Command::import_graph:
         return import_graph;
+    case Command::read_text:
+        return read_text;
     case Command::show:
         return show;
     case Command::dot:

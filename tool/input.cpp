@@ -15,8 +15,8 @@
 namespace leafgraph::tool {
 namespace {
 
-Input read_input(const std::string &path, std::size_t largest_block) {
-    const std::size_t bound = largest_block + 1;
+Input read_input(const std::string &path, std::size_t largest) {
+    const std::size_t bound = largest + 1;
     const std::string name = path == "-" ? "standard input" : file_name(path);
     try {
         if (path == "-") {
@@ -41,6 +41,10 @@ Input read_rule_file(const std::string &path) {
 
 Input read_any_file(const std::string &path) {
     return read_input(path, std::max(largest_graph_block, largest_rule_block));
+}
+
+Input read_text_file(const std::string &path) {
+    return read_input(path, listing_room());
 }
 
 bool starts_with(const Input &input, const std::string &mark) {

@@ -1,23 +1,21 @@
 #include "listing.hpp"
 
-#include <cstddef>
-
-#include "text.hpp"
+#include "leafgraph.hpp"
+#include "refusal.hpp"
 
 namespace leafgraph::tool {
 
-std::string graph_listing(const Graph &graph, Operators operators, Counts counts) {
-    std::string text = "graph " + std::to_string(graph.slots.size()) + "\n";
-    for (std::size_t number = 0; number < graph.slots.size(); ++number) {
-        const Slot &slot = graph.slots[number];
-        if (slot.kind == Kind::empty) {
-            continue;
-        }
-        text += std::to_string(number) + " " + vertex_words(slot.kind, slot.op, operators)
-                + " [" + spaced(slot.inputs) + "] {" + spaced(slot.attributes) + "}"
-                + (counts == Counts::shown ? " # count " + std::to_string(slot.count) : "") + "\n";
-    }
-    return text + "out " + spaced(graph.outputs) + "\n";
+std::string listing_of(const Input &graph) {
+    std::string text;
+    want_done(assign_listing(graph.bytes, text), graph);
+    return text;
+}
+
+Input graph_of(const Input &text) {
+    Input graph = {text.name, {}};
+    graph.bytes.resize(graph_length(text.bytes));
+    want_read(read_listing(text.bytes, graph.bytes), text);
+    return graph;
 }
 
 } // namespace leafgraph::tool

@@ -1,27 +1,19 @@
-// A graph as text: a line for each vertex.
+// A graph's listing, which the library writes and reads.
 #ifndef LEAFGRAPH_TOOL_LISTING_HPP
 #define LEAFGRAPH_TOOL_LISTING_HPP
 
 #include <string>
 
-#include "blocks.hpp"
-#include "names.hpp"
+#include "input.hpp"
 
 namespace leafgraph::tool {
 
-// Whether a listing tells how many places name each slot. They follow from the rest.
-enum class Counts { left_out, shown };
+// Both throw the refusal.
 
-// For instance, with operators as numbers:
-//
-//     graph 3
-//     0 variable [] {1 3 8 8 1}
-//     1 call 7 [0] {}
-//     out 1
-//
-// Inputs stand in [], attributes in {}; Empty slots have no line. Where counts are shown,
-// each slot's stands behind it as a comment: "1 call 7 [0] {} # count 1".
-std::string graph_listing(const Graph &graph, Operators operators, Counts counts);
+std::string listing_of(const Input &graph);
+
+// The block of a listing's graph, under the name of the text.
+Input graph_of(const Input &text);
 
 } // namespace leafgraph::tool
 

@@ -8,13 +8,15 @@
 //   blocks        what a sound block says       refusal    the library's refusals
 //   rewriting     once, or until none is left   tidying    sweeping and squeezing
 //   match         a rule, and where it matches  readers    what reads a matched slot
-//   listing       a graph as text               rule_text  a rule as text
+//   graph_text    a graph as text for people    rule_text  a rule as text
+//   listing       the library's text of a graph, and back
 //   dot           a graph as a drawing          graphviz   the program that draws
 //   names         of kinds and operators
 //
 // What is wrong with a refused block, in words: graph_fault; rule_fault, with
 // rule_outputs_fault and rule_expression_fault; fault has what those share, fields and
-// rule_view read any bytes.
+// rule_view read any bytes. With a refused text: text_fault, and listed_block where its
+// graph is not sound.
 //
 // descriptor has the system calls that input, output and graphviz share, text
 // what is printed in several places.

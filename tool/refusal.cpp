@@ -5,20 +5,28 @@
 #include "blocks.hpp"
 #include "failure.hpp"
 #include "graph_fault.hpp"
+#include "listed_block.hpp"
 #include "names.hpp"
 #include "rule_fault.hpp"
+#include "text_fault.hpp"
 
 namespace leafgraph::tool {
 
 namespace {
 
 // What a look at a refused file tells beyond the reply: mostly two files were
-// exchanged, or one was never written.
-std::string hint(const Input &input, const std::string &other_mark, const std::string &other) {
+// exchanged, or one was never written. The mark is that of what was wanted.
+std::string hint(const Input &input, const std::string &wanted) {
     if (input.bytes.empty()) {
         return " (it is empty)";
     }
-    return starts_with(input, other_mark) ? " (it begins as a " + other + " block does)" : "";
+    if (wanted != graph_mark && starts_with(input, graph_mark)) {
+        return " (it begins as a graph block does)";
+    }
+    if (wanted != rule_mark && starts_with(input, rule_mark)) {
+        return " (it begins as a rule block does)";
+    }
+    return wanted != listing_mark ? listing_hint(input) : "";
 }
 
 // Where the version is what is told: of version 1 where version 2 is wanted, or the other
@@ -52,7 +60,29 @@ std::string refused_with(Reply reply) {
 std::string graph_refusal(Reply reply, const Input &graph, unsigned version) {
     const Fault fault = graph_fault(reply, graph.bytes, version);
     return graph.name + ": " + refused_with(reply) + fault_words(reply, graph, fault)
-           + hint(graph, rule_mark, "rule") + version_hint(fault);
+           + hint(graph, graph_mark) + version_hint(fault);
+}
+
+// What is wrong with the graph of a listing, told of the block that it would have.
+std::string unsound_words(Reply reply, const Input &text) {
+    const std::string listing(text.bytes.begin(), text.bytes.end());
+    const Input graph = {text.name, listed_block(listing)};
+    const Reply told = check_graph(graph.bytes);
+    return std::string(reply.what()) + ": "
+           + fault_words(told, graph, graph_fault(told, graph.bytes, LG_GRAPH_VERSION));
+}
+
+// A refused text.
+std::string text_refusal(Reply reply, const Input &text) {
+    const std::string begins = text.name + ": " + refused_with(reply);
+    switch (reply.code()) {
+    case Code::not_a_listing:
+        return begins + text_fault(text.bytes, reply.place()) + hint(text, listing_mark);
+    case Code::unsound_graph:
+        return begins + unsound_words(reply, text);
+    default:
+        return begins + reply.what();
+    }
 }
 
 // Why this number is no source vertex of a sound rule to ask about.
@@ -70,6 +100,12 @@ std::string vertex_refusal(Reply reply, const Input &rule, std::size_t vertex) {
 
 } // namespace
 
+std::string listing_hint(const Input &input) {
+    return starts_with(input, listing_mark)
+               ? " (it begins as a listing does: leafgraph read TEXT)"
+               : "";
+}
+
 std::string refusal_line(Reply reply, const Input &graph, const Input &rule) {
     if (reply.code() == Code::no_match) {
         return std::string(reply.what()) + " (reply " + std::to_string(reply.number()) + ")";
@@ -80,7 +116,7 @@ std::string refusal_line(Reply reply, const Input &graph, const Input &rule) {
     if (reply.bad_rule()) {
         return rule.name + ": " + refused_with(reply)
                + fault_words(reply, rule, rule_fault(reply, rule.bytes))
-               + hint(rule, graph_mark, "graph");
+               + hint(rule, rule_mark);
     }
     return refused_with(reply) + reply.what();
 }
@@ -102,6 +138,12 @@ void want_done(Reply reply, const Input &block) {
 void want_imported(Reply reply, const Input &graph) {
     if (!reply.done()) {
         throw Failure(Status::refused, {graph_refusal(reply, graph, LG_VERSION_TO_IMPORT)});
+    }
+}
+
+void want_read(Reply reply, const Input &text) {
+    if (!reply.done()) {
+        throw Failure(Status::refused, {text_refusal(reply, text)});
     }
 }
 
