@@ -7,8 +7,10 @@ for each one that is a rule. A graph block has the true count of each slot. With
 --version-1 graphs are written as version 1, which has no counts and wants importing,
 to FOLDER/NAME_version_1.lgt.
 
-Only the text's form is judged here; whether a block is sound is for the library to
-say. The form is described in README.md.
+A graph is a listing, as docs/FORMATS.md describes it; the form of a rule is described in
+README.md. Only the text's form is judged here, and of a listing not how many inputs and
+attributes its vertices have: that, and whether a block is sound, is for the library to
+say.
 """
 
 import collections
@@ -25,6 +27,7 @@ OPERATION_FORMS = {"+": 3, "-": 4, "*": 5, "/": 6, "%": 7}
 ANY, CONSTANT, ACCESS = 0, 1, 2
 
 BYTE, WORD, SIGNED = (0, 255), (0, 65535), (-2**31, 2**31 - 1)
+SLOTS, OPERATOR_NUMBERS = (1, 512), (1, len(OPERATORS))
 RULE_INPUT, TARGET_VERTEX = (0, 15), (0, 239)  # places hold 0 to 15, or 16 and more
 NO_SLOT, NO_PLACE = 65535, 255
 INPUTS = ATTRIBUTES = 6
@@ -32,6 +35,8 @@ WITH_COUNTS, WITHOUT_COUNTS = 2, 1  # the versions of a graph block
 
 VERTEX = re.compile(r"(\S+) ([a-z]+)(?: (\w+))? \[([^][{}]*)\] \{([^][{}]*)\}")
 NUMBER = re.compile(r"0|-?[1-9][0-9]*")
+# A slot's line in a listing: with single spaces, and nothing else but what VERTEX tells.
+LISTED = re.compile(r"\S+ [a-z]+(?: [0-9]+)? \[(?:\S+(?: \S+)*)?\] \{(?:\S+(?: \S+)*)?\}")
 ACCESSED = re.compile(r"s[^.]+\.[^.]+")
 
 
@@ -143,6 +148,34 @@ def parse_vertex(line, words):
 
 # ---- graphs
 
+def listing_lines(text):
+    """The lines of a listing, each ended by byte 10, as pairs of their number and their text."""
+    *lines, rest = text.split("\n")
+    if rest or not lines:
+        raise Fault(len(lines) + 1, "a listing's line has no end")
+    return list(enumerate(lines, start=1))
+
+
+def numbers_after(word, line, text, limits):
+    """The numbers in a line that starts with this word, with a space before each."""
+    first, *words = text.split(" ")
+    if first != word or not words:
+        raise Fault(line, f"expected '{word}' and its numbers, found '{text}'")
+    return [number_in(limits, number, line) for number in words]
+
+
+def listed_vertex(line, text):
+    """The slot of a line of a listing, and its vertex."""
+    if not LISTED.fullmatch(text):
+        raise Fault(line, "expected a slot, such as '3 call 7 [2] {}', or 'out' in the last line")
+    slot, vertex = parse_vertex(line, text.split(" "))
+    if vertex.kind == KINDS["wildcard"]:
+        raise Fault(line, "a graph has no wildcard")
+    if vertex.kind == KINDS["call"]:
+        number_in(OPERATOR_NUMBERS, str(vertex.operator), line)
+    return slot, vertex
+
+
 def inputs_of(vertex):
     return [number_in(WORD, word, vertex.line) for word in vertex.inputs]
 
@@ -156,15 +189,12 @@ def slot_record(vertex, count):
                        *padded(attributes, ATTRIBUTES, 0, vertex.line), count)
 
 
-def take_slots(lines, slots):
+def listed_slots(lines, slots):
     """The vertices of all slots; those that no line names are Empty."""
     empty = Vertex(0, 0, 0, [], [])
     vertices = []
-    while lines.next()[1][:1] != ["out"]:
-        line, words = lines.take()
-        slot, vertex = parse_vertex(line, words)
-        if vertex.kind == KINDS["wildcard"]:
-            raise Fault(line, "a graph has no wildcard")
+    for line, text in lines:
+        slot, vertex = listed_vertex(line, text)
         if not len(vertices) <= slot < slots:
             raise Fault(line, f"slot {slot} does not ascend below {slots}")
         vertices += [empty] * (slot - len(vertices)) + [vertex]
@@ -179,15 +209,16 @@ def counts_of(vertices, outputs):
     return [min(named[slot], WORD[1]) for slot in range(len(vertices))]
 
 
-def graph_block(lines, version):
-    line, words = lines.expect("graph")
-    if len(words) != 1:
-        raise Fault(line, "'graph' has one number, that of its slots")
-    vertices = take_slots(lines, number_in(WORD, words[0], line))
-    line, words = lines.expect("out")
-    outputs = [number_in(WORD, word, line) for word in words]
+def graph_block(text, version, limits=SLOTS):
+    """The block of a listing. With other limits it may have more slots than a listing, or none."""
+    first, *lines = listing_lines(text)
+    slots, *more = numbers_after("graph", *first, limits)
+    if more or not lines:
+        raise Fault(first[0], "'graph' has one number, and a line after it")
+    outputs = numbers_after("out", *lines.pop(), WORD)
+    vertices = listed_slots(lines, slots)
     header = struct.pack("<3sxHHH4H6x", b"LGT", version, len(vertices), len(outputs),
-                         *padded(outputs, 4, NO_SLOT, line))
+                         *padded(outputs, 4, NO_SLOT, len(lines) + 2))
     counts = counts_of(vertices, outputs) if version == WITH_COUNTS else [0] * len(vertices)
     return header + b"".join(map(slot_record, vertices, counts))
 
@@ -281,16 +312,13 @@ def assemble(text, version=WITH_COUNTS):
     lines = Lines(text)
     if lines.next()[1][:1] == ["rule"]:
         return ".lgr", rule_block(lines)
-    block = graph_block(lines, version)
-    line, words = lines.next()
-    if words:
-        raise Fault(line, "nothing may follow the outputs")
-    return (".lgt" if version == WITH_COUNTS else "_version_1.lgt"), block
+    return (".lgt" if version == WITH_COUNTS else "_version_1.lgt"), graph_block(text, version)
 
 
 def write_block(folder, source, version):
     """Assembles one file; gives the file written."""
-    suffix, block = assemble(source.read_text(encoding="utf-8"), version)
+    # Not as text, in which Python takes other line ends for byte 10.
+    suffix, block = assemble(source.read_bytes().decode("utf-8"), version)
     path = folder / (source.stem + suffix)
     path.write_bytes(block)
     return path

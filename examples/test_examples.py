@@ -24,6 +24,9 @@ SCRATCH = BUILD / "examples"
 NAMES = ("conv2d_batch_norm.lgr", "e1.lgt", "gain_over_gain.lgr", "identity_removal.lgr",
          "leaf_pipeline.lgt", "mul_by_one.lgr", "relu_over_relu.lgr", "shared_stage_merge.lgr")
 
+GRAPHS = [name for name in NAMES if name.endswith(".lgt")]
+RULES = [name for name in NAMES if name.endswith(".lgr")]
+
 # The one that is there as a block of version 1, too, and the name of that block.
 OLD_NAME, IMPORTED_NAME = "leaf_pipeline_version_1.lgt", "leaf_pipeline.lgt"
 
@@ -67,7 +70,7 @@ BY_HAND = {
         "01000001" + NO_INPUTS + "feffffff" + "00" * 20 + "0100000000000000"
         "05000101 0201ffffffffffffffffffff ffffff7f" + "00" * 20 + "0200000000000000",
     # a slot that one reader names twice, and that is an output
-    "graph 2\n0 const [] {5}\n1 call add [0 0] {}\nout 0\n":
+    "graph 2\n0 const [] {5}\n1 call 1 [0 0] {}\nout 0\n":
         "4c475400 0200 0200 0100 0000ffffffffffff 000000000000"
         "01000001" + NO_INPUTS + "05000000" + "00" * 20 + "0300000000000000"
         "03010200 00000000ffffffffffffffff" + NO_ATTRIBUTES + "0000000000000000",
@@ -93,31 +96,49 @@ BY_HAND = {
 
 RULE = "rule\nsource\n0 wildcard [] {}\n1 call relu [0] {}\nout 1\ntarget\n"
 
+NO_SLOT_LINE = "expected a slot, such as '3 call 7 [2] {}', or 'out' in the last line"
+
 # Texts that are no source, and what is said of each.
 FAULTY = {
-    "": "line 1: expected 'graph', found the end",
-    "# nothing\ngraf 2": "line 2: expected 'graph', found 'graf 2'",
-    "graph": "line 1: 'graph' has one number, that of its slots",
-    "graph x\nout 0": "line 1: 'x' is no number",
-    "graph 65536\nout 0": "line 1: 65536 is not from 0 to 65535",
-    "graph 1\n": "line 2: expected 'out' or a vertex, such as '3 call relu [2] {}'",
-    "graph 1\n\n0 relu [1] {}\nout 0": "line 3: there is no kind 'relu'",
-    "graph 1\n0 call blur [1] {}\nout 0": "line 2: there is no operator 'blur'",
-    "graph 1\n0 call [1] {}\nout 0": "line 2: 'call' has an operator, and no other kind has one",
-    "graph 1\n0 const 3 [] {1}\nout 0":
+    "": "line 1: a listing's line has no end",
+    "graph 1\nout 0": "line 2: a listing's line has no end",
+    "graf 2\nout 0\n": "line 1: expected 'graph' and its numbers, found 'graf 2'",
+    "# nothing\ngraph 2\nout 0\n": "line 1: expected 'graph' and its numbers, found '# nothing'",
+    "graph\nout 0\n": "line 1: expected 'graph' and its numbers, found 'graph'",
+    "graph x\nout 0\n": "line 1: 'x' is no number",
+    "graph 1\r\nout 0\n": "line 1: '1\r' is no number",
+    "graph 0\nout 0\n": "line 1: 0 is not from 1 to 512",
+    "graph 513\nout 0\n": "line 1: 513 is not from 1 to 512",
+    "graph 1 1\nout 0\n": "line 1: 'graph' has one number, and a line after it",
+    "graph 1\n": "line 1: 'graph' has one number, and a line after it",
+    "graph 1\n0 const [] {1}\n":
+        "line 2: expected 'out' and its numbers, found '0 const [] {1}'",
+    "graph 1\n0 const [] {1}\nout\n": "line 3: expected 'out' and its numbers, found 'out'",
+    "graph 1\n\nout 0\n": f"line 2: {NO_SLOT_LINE}",
+    "graph 1\n0 relu [1] {}\nout 0\n": "line 2: there is no kind 'relu'",
+    "graph 1\n0 call relu [1] {}\nout 0\n": f"line 2: {NO_SLOT_LINE}",
+    "graph 1\n0 call 15 [1] {}\nout 0\n": "line 2: 15 is not from 1 to 14",
+    "graph 1\n0 call 07 [1] {}\nout 0\n": "line 2: there is no operator '07'",
+    "graph 1\n0 call [1] {}\nout 0\n":
         "line 2: 'call' has an operator, and no other kind has one",
-    "graph 1\n0 wildcard [] {}\nout 0": "line 2: a graph has no wildcard",
-    "graph 1\n0 const [] {01}\nout 0": "line 2: '01' is no number",
-    "graph 1\n0 const [] {-0}\nout 0": "line 2: '-0' is no number",
-    "graph 1\n0 const [] {2147483648}\nout 0":
+    "graph 1\n0 const 3 [] {1}\nout 0\n":
+        "line 2: 'call' has an operator, and no other kind has one",
+    "graph 1\n0 wildcard [] {}\nout 0\n": "line 2: a graph has no wildcard",
+    "graph 1\n0 const [] {01}\nout 0\n": "line 2: '01' is no number",
+    "graph 1\n0 const [] {-0}\nout 0\n": "line 2: '-0' is no number",
+    "graph 1\n0 const [] {2147483648}\nout 0\n":
         "line 2: 2147483648 is not from -2147483648 to 2147483647",
-    "graph 1\n0 const [] {1 2 3 4 5 6 7}\nout 0": "line 2: 7 numbers where at most 6 fit",
-    "graph 1\n0 const [] {1} 5\nout 0":
-        "line 2: expected 'out' or a vertex, such as '3 call relu [2] {}'",
-    "graph 2\n1 const [] {1}\n0 const [] {1}\nout 0": "line 3: slot 0 does not ascend below 2",
-    "graph 2\n2 const [] {1}\nout 0": "line 2: slot 2 does not ascend below 2",
-    "graph 1\nout 0 0 0 0 0": "line 2: 5 numbers where at most 4 fit",
-    "graph 1\nout 0\nout 0": "line 3: nothing may follow the outputs",
+    "graph 1\n0 const [] {1 2 3 4 5 6 7}\nout 0\n": "line 2: 7 numbers where at most 6 fit",
+    "graph 1\n0 const [] {1}  \nout 0\n": f"line 2: {NO_SLOT_LINE}",
+    "graph 1\n0  const [] {1}\nout 0\n": f"line 2: {NO_SLOT_LINE}",
+    "graph 1\n0 const [ ] {1}\nout 0\n": f"line 2: {NO_SLOT_LINE}",
+    "graph 1\n0 tuple [0  0] {}\nout 0\n": f"line 2: {NO_SLOT_LINE}",
+    "graph 1\n0 const [] {1} # one\nout 0\n": f"line 2: {NO_SLOT_LINE}",
+    "graph 2\n1 const [] {1}\n0 const [] {1}\nout 0\n": "line 3: slot 0 does not ascend below 2",
+    "graph 2\n2 const [] {1}\nout 0\n": "line 2: slot 2 does not ascend below 2",
+    "graph 1\nout 0  0\n": "line 2: '' is no number",
+    "graph 1\nout 0 0 0 0 0\n": "line 2: 5 numbers where at most 4 fit",
+    "graph 1\nout 0\nout 0\n": f"line 2: {NO_SLOT_LINE}",
     "rule 1": "line 1: nothing may follow 'rule'",
     "rule\ntarget": "line 2: expected 'source', found 'target'",
     "rule\nsource\n1 wildcard [] {}\nout 0": "line 3: expected vertex 0, found 1",
@@ -155,11 +176,22 @@ class Assembler(unittest.TestCase):
         with_counts[4], with_counts[64] = 1, 0
         self.assertEqual(block, with_counts)
 
-    def test_comments_and_spaces_change_nothing(self):
+    def test_comments_and_spaces_change_no_rule(self):
         for text in BY_HAND:
             spaced = "# first\n\n" + text.replace(" ", "   ").replace("\n", "  # x\n\n\t")
             with self.subTest(text):
-                self.assertEqual(assemble.assemble(spaced), assemble.assemble(text))
+                if text.startswith("rule"):
+                    self.assertEqual(assemble.assemble(spaced), assemble.assemble(text))
+                else:
+                    self.assertRaises(assemble.Fault, assemble.assemble, spaced)
+
+    def test_slots_beyond_a_listing(self):
+        for slots in (0, 513):
+            text = f"graph {slots}\nout 0\n"
+            block = assemble.graph_block(text, assemble.WITH_COUNTS, limits=(0, 513))
+            with self.subTest(slots):
+                self.assertEqual((len(block), block[6] + 256 * block[7]), (24 + 48 * slots, slots))
+                self.assertRaises(assemble.Fault, assemble.assemble, text)
 
     def test_faults(self):
         for text, expected in FAULTY.items():
@@ -254,30 +286,30 @@ CHANGES = (
     ("mul_by_one.lgr", {"nodes\n0 1": "nodes\n0 2"}, "mul_by_one does not apply 3 times"),
     ("leaf_pipeline.lgt", {"22 const [] {1}": "22 const [] {2}"},
      "mul_by_one does not apply 3 times"),
-    ("leaf_pipeline.lgt", {"22 const [] {1}": "22 const [] {1}\n23 call relu [22] {}"},
+    ("leaf_pipeline.lgt", {"22 const [] {1}": "22 const [] {1}\n23 call 7 [22] {}"},
      "a constant is not shared, or outlives its readers"),
-    ("leaf_pipeline.lgt", {"11 call mul [10 22]": "11 call mul [10 23]",
+    ("leaf_pipeline.lgt", {"11 call 2 [10 22]": "11 call 2 [10 23]",
                            "22 const [] {1}": "22 const [] {1}\n23 const [] {1}"},
      "a constant is not shared, or outlives its readers"),
-    ("leaf_pipeline.lgt", {"20 call mean [19]": "20 call mean [15]"},
+    ("leaf_pipeline.lgt", {"20 call 12 [19]": "20 call 12 [15]"},
      "the number is taken after a boost"),
-    ("leaf_pipeline.lgt", {"18 call gain [17] {3 2 4}": "18 call gain [17] {3 2 5}"},
+    ("leaf_pipeline.lgt", {"18 call 10 [17] {3 2 4}": "18 call 10 [17] {3 2 5}"},
      "shared_stage_merge does not apply 1 time"),
-    ("leaf_pipeline.lgt", {"15 call vivid [14] {4}": "15 call vivid [14] {0}"},
+    ("leaf_pipeline.lgt", {"15 call 11 [14] {4}": "15 call 11 [14] {0}"},
      "the fault makes no leaf greener"),
     ("leaf_pipeline.lgt", {"{64 1}": "{65 1}"}, "an operation had to round"),
     # A product with its inputs the other way round stays, and with it the constant.
     ("leaf_pipeline.lgt", {"24 variable": "23 const [] {5}\n24 variable",
-                           "7 call conv2d": "6 const [] {5}\n7 call conv2d",
-                           "11 call mul [10 22]": "11 call mul [22 10]"},
+                           "\n7 call 4": "\n6 const [] {5}\n7 call 4",
+                           "11 call 2 [10 22]": "11 call 2 [22 10]"},
      "conv2d_batch_norm ends with: more target vertices than"),
-    ("leaf_pipeline.lgt", {"7 call conv2d [0 1] {1 1": "7 call conv2d [0 1] {2 1"},
+    ("leaf_pipeline.lgt", {"7 call 4 [0 1] {1 1": "7 call 4 [0 1] {2 1"},
      "the demo gives no meaning to a conv2d whose stride"),
-    ("leaf_pipeline.lgt", {"25 call mean [10] {1}\n26 call mul [25 24] {}\n": ""},
+    ("leaf_pipeline.lgt", {"25 call 12 [10] {1}\n26 call 2 [25 24] {}\n": ""},
      "there is no stage to sweep"),
     ("leaf_pipeline.lgt", {"24 variable [] {1 1 1 1 1}": "24 const [] {3}"},
      "not one Variable is there that nobody reads"),
-    ("leaf_pipeline.lgt", {"9 call relu [8]": "9 call relu [10]"},
+    ("leaf_pipeline.lgt", {"\n9 call 7 [8]": "\n9 call 7 [10]"},
      "the pipeline can't be imported: reply 23, bad graph block: it has a cycle, slot 9"),
 )
 
@@ -336,21 +368,38 @@ class Demo(unittest.TestCase):
 # ---- the tool
 
 class Tool(unittest.TestCase):
-    def test_it_prints_each_source(self):
-        for name in NAMES:
+    def test_it_writes_each_graph_as_its_source(self):
+        for name in GRAPHS:
+            out = fresh_folder("listings") / "listing.txt"
+            with out.open("wb") as file:
+                subprocess.run([BUILD / "leafgraph", "show", "--numbers", BLOCKS / name],
+                               stdout=file, check=True)
+            with self.subTest(name):
+                source = (SOURCES / name).with_suffix(".txt")
+                self.assertEqual(out.read_bytes(), source.read_bytes())
+
+    def test_it_reads_each_graph_from_its_source(self):
+        for name in GRAPHS:
+            out = fresh_folder("read") / name
+            source = (SOURCES / name).with_suffix(".txt")
+            said, status = run("leafgraph", "read", source, "-o", out)
+            with self.subTest(name):
+                self.assertEqual(status, 0, said)
+                self.assertEqual(out.read_bytes(), (BLOCKS / name).read_bytes())
+
+    def test_it_prints_each_rule_as_its_source(self):
+        for name in RULES:
             expected = "".join(text + "\n" for _, text in assemble.stripped(source_of(name)))
             with self.subTest(name):
                 self.assertEqual(run("leafgraph", "show", BLOCKS / name), (expected, 0))
 
     def test_what_it_prints_assembles_to_the_block(self):
-        for name in NAMES:
-            counts = () if name.endswith(".lgr") else (("--counts",),)
-            for options in ((), ("--numbers",), *counts):
-                said, status = run("leafgraph", "show", BLOCKS / name, *options)
-                with self.subTest(name, options=options):
-                    self.assertEqual(status, 0, said)
-                    self.assertEqual(assemble.assemble(said)[1], (BLOCKS / name).read_bytes())
-
+        for name, *options in (*((name, "--numbers") for name in NAMES),
+                               *((name,) for name in RULES)):
+            said, status = run("leafgraph", "show", BLOCKS / name, *options)
+            with self.subTest(name, options=options):
+                self.assertEqual(status, 0, said)
+                self.assertEqual(assemble.assemble(said)[1], (BLOCKS / name).read_bytes())
 
     def test_it_says_what_else_reads_the_shared_constant(self):
         said = run("leafgraph", "read-elsewhere", BLOCKS / "leaf_pipeline.lgt",
