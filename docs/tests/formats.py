@@ -3,10 +3,12 @@
 
     formats.py TOOL
 
-Each block of the page that has a text must be sound and be shown as that text, its
-rewritings must have the page's maps and leave the page's bytes, its sweep, its squeeze and
-its import must leave the page's bytes and moves, and what the page says of refused blocks
-and of what reads a slot must be what the tool says. Exit status 1 if one does not.
+Each block of the page that has a text must be sound and be shown as that text, and each
+listing must be read as its block; its rewritings must have the page's maps and leave the
+page's bytes, its sweep, its squeeze and its import must leave the page's bytes and moves,
+texts that are no listing must be refused in the page's places, and what the page says of
+refused blocks and of what reads a slot must be what the tool says. Exit status 1 if one
+does not.
 """
 
 import re
@@ -108,6 +110,32 @@ def blocks_hold(tool, folder, files):
     return count
 
 
+def listings_hold(tool, folder, files):
+    """Every listing is read as the block that it is the listing of."""
+    names = [name for name in files if name.endswith(".numbers.txt")]
+    for name in names:
+        stem = name.split(".")[0]
+        same(f"what is read of {stem}'s listing", run(tool, "read", folder / name, "-o", "-"),
+             files[stem + ".bin"])
+    if not names:
+        raise Fault("the page shows no listing")
+    return len(names)
+
+
+def places_hold(tool, page):
+    """Each text that is no listing is refused in the place of the page's table."""
+    rows = re.findall(r"^\| `(.*)` \| (\d+) \| .* \|$", page, re.MULTILINE)
+    for text, place in rows:
+        done = subprocess.run([tool, "read", "-"], input=text.replace("\\n", "\n").encode(),
+                              capture_output=True, check=False)
+        said = done.stderr.decode()
+        if "refused with reply 44: " not in said or f"(byte {place})" not in said:
+            raise Fault(f"{text} is not refused with 44 in place {place}: {said.strip()}")
+    if not rows:
+        raise Fault("the page has no table of texts that are no listing")
+    return len(rows)
+
+
 def map_of(said):
     """The bytes of the map that the tool's command match tells in words."""
     slots = [int(slot) for slot in re.findall(r"-> slot (\d+)", said)]
@@ -161,7 +189,8 @@ def main(arguments):
             for file, content in files.items():
                 (folder / file).write_bytes(content)
             tool = str(Path(arguments[0]).resolve())
-            count = (blocks_hold(tool, folder, files) + rewritings_hold(tool, folder, files)
+            count = (blocks_hold(tool, folder, files) + listings_hold(tool, folder, files)
+                     + places_hold(tool, page) + rewritings_hold(tool, folder, files)
                      + answers_hold(tool, folder, page)
                      + changes_alone_hold(tool, folder, files)
                      + refusals_hold(tool, folder, page)
