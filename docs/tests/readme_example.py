@@ -5,9 +5,10 @@
 
 The program takes E1 and the rule RR as files; it fails if the example does not rewrite the one by
 the other until no match is left, does not do the same with that graph as a block of version 1,
-does not tidy a graph with a gap, is wrong about what only the match reads, or is content with a
-bad graph, with a cycle in one of either version, or with a rule that always matches again. What the example says of those is compared
-with readme_example.stdout (make/docs.mk).
+does not tidy a graph with a gap, does not make a text of it and the same block of the text, is
+wrong about what only the match reads, or is content with a bad graph, with a cycle in one of either
+version, with a bad text, or with a rule that always matches again. What the example says of those
+is compared with readme_example.stdout (make/docs.mk).
 """
 
 import re
@@ -58,6 +59,9 @@ int main(int count, char **names) {
     std::vector<unsigned char> bad = {1, 2, 3}, cyclic = before;
     cyclic[24 + 48 * 3 + 4] = old_cyclic[24 + 48 * 3 + 4] = 4; // slots 3 and 4 read each other
     if (shorten(bad, rule) || shorten(cyclic, rule) || shorten(old_cyclic, rule)) return 1;
+    if (graph_of(listing(before)) != before || graph_of(listing(gap)) != gap) return 1;
+    if (!listing(cyclic).empty() || !graph_of("graph 1\\n0 relu").empty()) return 1;
+    if (!graph_of("graph 1\\nout 0\\n").empty()) return 1; // a listing, with nothing in its slot
     if (shorten(graph, endless_rule()) || !leafgraph::check_graph(graph)) return 1;
     std::printf("the example of README.md: as expected\\n");
     return 0;
