@@ -12,5 +12,7 @@ int main(void) {
            && lg_is_bad_graph(lg_sweep(none, sizeof none))
            && lg_reply_number(lg_is_read_elsewhere(none, sizeof none, none, 0, none, 0, 0))
                   == LG_BAD_MAP_LENGTH
-           && lg_is_bad_graph(lg_import(none, sizeof none)) ? 0 : 1;
+           && lg_is_bad_graph(lg_import(none, sizeof none))
+           && lg_is_bad_graph(lg_write_listing(none, sizeof none, none, 0))
+           && lg_reply_number(lg_read_listing(none, 0, none, 0)) == LG_NOT_A_LISTING ? 0 : 1;
 }

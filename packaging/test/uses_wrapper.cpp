@@ -11,6 +11,8 @@ int main() {
     const bool imported = leafgraph::import_graph({nullptr, 0}).done();
     const leafgraph::Answer answer
         = leafgraph::is_read_elsewhere({nullptr, 0}, {nullptr, 0}, leafgraph::Map(), 0);
+    const bool listed = leafgraph::write_listing({nullptr, 0}, {nullptr, 0}).done();
+    const bool read = leafgraph::read_listing({nullptr, 0}, {nullptr, 0}).done();
     return reply.code() == leafgraph::Code::bad_graph_header && reply.bad_graph() && !squeezed
-                   && !imported && !answer.yes() && !answer.no() ? 0 : 1;
+                   && !imported && !answer.yes() && !answer.no() && !listed && !read ? 0 : 1;
 }
