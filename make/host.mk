@@ -1,7 +1,7 @@
 # The C header and the C++ wrapper, tried from C and C++.
 
-TEST_CALLS := host/counts.h host/faults.h host/imports.h host/read_elsewhere.h host/shared_constants.h \
-		host/sweep_squeeze.h
+TEST_CALLS := host/counts.h host/faults.h host/imports.h host/listing.h host/read_elsewhere.h \
+		host/shared_constants.h host/sweep_squeeze.h
 HEADER_TEST := host/test_blocks.h $(TEST_CALLS) include/leafgraph.h
 WRAPPER_TEST := host/test_wrapper.cpp host/blocks.hpp $(TEST_CALLS) $(HEADERS)
 BUILD_WRAPPER_TEST = $(CXX) $(CXX_WARNINGS) $(CXXFLAGS) -Iinclude -o $@ $< $(ARCHIVE) -lpthread
@@ -76,6 +76,8 @@ plugin-symbols: | build
 		grep -q 'leafgraph::squeeze' build/plugin.symbols; \
 		grep -q 'leafgraph::import_graph' build/plugin.symbols; \
 		grep -q 'leafgraph::is_read_elsewhere' build/plugin.symbols; \
+		grep -q 'leafgraph::write_listing' build/plugin.symbols; \
+		grep -q 'leafgraph::read_listing' build/plugin.symbols; \
 		if grep ' u ' build/plugin.symbols; then \
 			echo "plugin: these symbols of the wrapper keep a plugin from being unloaded"; \
 			exit 1; \
