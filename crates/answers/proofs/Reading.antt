@@ -230,6 +230,13 @@ module _ (text graph : List ℕ) (reply : ℕ) (graphAfter : List ℕ) (contract
         same = sheet-listing s (lists .fits) graphVersion counts ∙ lists .same;
       })
 
+  by-length : Answer → length graphAfter ≡ length graph
+  by-length (stopped q stops says left) = ap length left
+  by-length (wrongGraph s lists unsound says left) = ap length left
+  by-length (wrongSize s lists sound other says left) = ap length left
+  by-length (accepted s lists sound size says left) =
+      ap length left ∙ sheet-length s (lists .fits) graphVersion (trueCount (graphIn s)) ∙ sym size
+
   by-refusal : Answer → (numberIn reply ≡ 0 → ⊥) → graphAfter ≡ graph
   by-refusal (stopped q stops says left) h = left
   by-refusal (wrongGraph s lists unsound says left) h = left
@@ -248,6 +255,7 @@ module _ (text graph : List ℕ) (reply : ℕ) (graphAfter : List ℕ) (contract
     placeLimit = by-limit answer;
     value = by-value answer;
     reads = by-graph answer;
+    size = by-length answer;
     refusalKeeps = by-refusal answer;
   }
 

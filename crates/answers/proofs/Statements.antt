@@ -1,6 +1,6 @@
 -- The statements of specs/Statements, each from its contract alone.
 -- Assumes nothing.
-use mathlib.Core.Path.{_≡_, sym, ap, _∙_, subst}
+use mathlib.Core.Path.{_≡_, refl, sym, ap, _∙_, subst}
 use mathlib.Core.List.{List}
 use Prim.Native.Nat.{ℕ, _+_, _*_, _^_}
 use native.Mathlib.Omega.{arith}
@@ -12,10 +12,12 @@ use Rattle.definitions.specs.Operations.{imagesIn}
 use Rattle.theory.proofs.Fixing.{sound-fixing}
 use Rattle.theory.proofs.Least.{match-attempted}
 use Rattle.encoding.proofs.Graphs.{canonical}
-use Rattle.listing.proofs.Listings.{one-outcome}
+use Rattle.listing.specs.Forms.{answerFrom}
+use Rattle.listing.specs.Grammar.{sheetForm}
+use Rattle.listing.proofs.Listings.{one-outcome, readReply, readGraph, read-outcome}
 use Rattle.listing.proofs.Graphs as listings
 use Rattle.answers.specs.Rewritten.{Due}
-use Rattle.answers.specs.Statements.{Says, CheckedGraph, CheckedRule, Searched, Rewrote, Swept, Squeezed, Imported, Asked, GraphVerdict, RuleVerdict, OneBlock, MatchReplies, Yields, RewriteReplies, Demand3, SweepReplies, SweepKeeps, SweptTwice, SqueezeReplies, SqueezeKeeps, SqueezedTwice, ImportReplies, OneVersion, AskReplies, AnswersWritten, OneAttempt, Wrote, ReadText, WriteReplies, ReadReplies, OneAnswer, OneListing, ReadsBack, WritesBack}
+use Rattle.answers.specs.Statements.{Says, CheckedGraph, CheckedRule, Searched, Rewrote, Swept, Squeezed, Imported, Asked, GraphVerdict, RuleVerdict, OneBlock, MatchReplies, Yields, RewriteReplies, Demand3, SweepReplies, SweepKeeps, SweptTwice, SqueezeReplies, SqueezeKeeps, SqueezedTwice, ImportReplies, OneVersion, AskReplies, AnswersWritten, OneAttempt, Wrote, ReadText, WriteReplies, ReadReplies, SomeAnswer, OneAnswer, OneText, OneListing, ReadsBack, WritesBack}
 use Rattle.answers.proofs.Blocks.{graph-verdict, rule-verdict}
 use Rattle.answers.proofs.Matching.{match-replies}
 use Rattle.answers.proofs.Rewriting.{block-replies, due, replied, listed, no-value, refusal-keeps, written}
@@ -149,10 +151,24 @@ module _ (text graph : List ℕ) (reply : ℕ) (graphAfter : List ℕ) (contract
   pub read-written : numberIn reply ≡ 0 → WritesBack text graphAfter
   read-written = writes-back text graph reply graphAfter contract
 
+pub some-answer : SomeAnswer
+some-answer text graph =
+    let answer = answerFrom sheetForm 0 text in (
+      packed (readReply graph answer),
+      (
+        readGraph graph answer,
+        record { answer = readReply graph answer; replied = refl; read = read-outcome text graph },
+      ),
+    )
+
 pub one-answer : OneAnswer
 one-answer text graph reply other graphAfter otherAfter first second =
     let same = one-outcome (first .read) (second .read) in
     (first .replied ∙ ap packed (same .0) ∙ sym (second .replied), same .1)
+
+pub one-text : OneText
+one-text text other graph buffer reply second graphAfter first again h k =
+    sym (read text graph reply graphAfter first .reads h .same) ∙ read other buffer second graphAfter again .reads k .same
 
 pub one-listing : OneListing
 one-listing one other bytes also sound second same = listings.one-block one other sound second bytes also same

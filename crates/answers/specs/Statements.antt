@@ -449,11 +449,12 @@ pub record WriteReplies (graph text : List ℕ) (reply : ℕ) (textAfter : List 
 
 -- ==== what follows: reading a listing
 
--- the text is the listing of a sheet, and its graph is or is not sound
+-- the text is the listing of this sheet
 pub record Lists (text : List ℕ) (s : Sheet) : Type 0 where
   pub fits : SheetFits s
   pub same : printed s ≡ text
 
+-- and its graph is sound
 abbrev pub SoundSheet : Sheet → Type 0
 SoundSheet s = SoundGraph (graphBlock (graphIn s))
 
@@ -489,16 +490,25 @@ pub record ReadReplies (text graph : List ℕ) (reply : ℕ) (graphAfter : List 
   pub placeLimit : placeIn reply < 65536
   pub value : valueIn reply ≡ 0
   pub reads : numberIn reply ≡ 0 → ReadGraph text graphAfter
+  pub size : length graphAfter ≡ length graph
   pub refusalKeeps : (numberIn reply ≡ 0 → ⊥) → graphAfter ≡ graph
 
--- A text and a buffer have one answer. Follows from ReadText of both.
+-- A text and a buffer have an answer, and only one. The first follows from the definitions, the second from ReadText of both.
+abbrev pub SomeAnswer : Type 0
+SomeAnswer = (text graph : List ℕ) → (reply : ℕ) × ((graphAfter : List ℕ) × ReadText text graph reply graphAfter)
+
 abbrev pub OneAnswer : Type 0
 OneAnswer = (text graph : List ℕ) (reply other : ℕ) (graphAfter otherAfter : List ℕ) → ReadText text graph reply graphAfter
     → ReadText text graph other otherAfter → (reply ≡ other) × (graphAfter ≡ otherAfter)
 
 -- ==== what follows: there and back
 
--- "Every sound graph has one listing": two sound blocks of bytes with one listing are the same bytes. Follows from the definitions.
+-- "Every sound graph has one listing": two texts that are read into the same bytes are the same text. Follows from ReadText and reply 0 of both.
+abbrev pub OneText : Type 0
+OneText = (text other graph buffer : List ℕ) (reply second : ℕ) (graphAfter : List ℕ) → ReadText text graph reply graphAfter
+    → ReadText other buffer second graphAfter → numberIn reply ≡ 0 → numberIn second ≡ 0 → text ≡ other
+
+-- And no two have the same: two sound blocks of bytes with one listing are the same bytes. Follows from the definitions.
 abbrev pub OneListing : Type 0
 OneListing = (one other : List ℕ) → Bytes one → Bytes other → SoundGraph one → SoundGraph other
     → listing (graphOf one) ≡ listing (graphOf other) → one ≡ other
