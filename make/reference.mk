@@ -29,6 +29,7 @@ comparison: run-only-test $(ARCHIVE)
 	$(REFERENCE_BIN)/compare rewriting
 	$(REFERENCE_BIN)/compare cleanups
 	$(REFERENCE_BIN)/compare readers
+	$(REFERENCE_BIN)/compare listings
 	$(REFERENCE_BIN)/compare mixed
 
 # The proved library's speed beside the second program's, compiled alike. No
