@@ -56,7 +56,7 @@ unfolding all
 all-more p [] z h here = rw here
 all-more p (y ∷ zs) z h here = rw (and-left (p y) (all p zs) h) (all-more p zs z (and-right (p y) (all p zs) h) here)
 
-module _ (field : Field) (stop : ℕ) (text : List ℕ) (least most at i count : ℕ) (words : List ℕ) (least-most : least ≤ most)
+module _ {field : Field} {stop : ℕ} {text : List ℕ} {least most at i count : ℕ} {words : List ℕ} (least-most : least ≤ most)
     (h : Gathers field stop text least most at i count words) where
   pub gathers-over : length text ≤ i → spacedFrom least most field stop text at ≡ stopped i
   gathers-over l = gathered-over field stop text least most at i (h .numbers) least-most (h .so-far) l

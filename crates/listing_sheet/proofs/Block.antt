@@ -15,11 +15,11 @@ use Rattle.encoding.proofs.Tails.{zero-tail}
 use Rattle.listing.proofs.Back.{size-back, slot-back}
 use Rattle.new_header.specs.Headers.{headerWith}
 use Rattle.new_header.proofs.Laws.{header-bytes}
-use Rattle.listing_slots.specs.Rows.{row, rows, Holds}
+use Rattle.listing_slots.specs.Rows.{row, rows, HasRows}
 use Rattle.listing_slots.proofs.Laws.{rows-same}
 
 -- a table with another header
-pub headed : (slots : ℕ → Slot) (n : ℕ) (header table : List ℕ) → length header ≡ headerBytes → recordAt n ≤ length table → Holds slots n table
+pub headed : (slots : ℕ → Slot) (n : ℕ) (header table : List ℕ) → length header ≡ headerBytes → recordAt n ≤ length table → HasRows slots n table
     → take (recordAt n) (header ++ drop headerBytes table) ≡ header ++ rows slots n
 headed slots n header table long inside h =
     let at : recordAt n ≡ length header + slotBytes * n = omega (arith, long) in

@@ -14,7 +14,7 @@ use Rattle.definitions.specs.Sheet.{Line}
 use Rattle.definitions.specs.Listing.{slotLine, slotIn}
 use Rattle.laws.proofs.Pieces.{pieces-more}
 use Rattle.graph_slots.specs.Written.{emptyBytes, SlotWritten}
-use Rattle.listing_slots.specs.Rows.{row, rows, Holds}
+use Rattle.listing_slots.specs.Rows.{row, rows, HasRows}
 
 -- ---- rows
 
@@ -37,7 +37,7 @@ empty-row = refl
 
 -- a slot that is written behind the others
 pub holds-more : (slots : ℕ → Slot) (k : ℕ) (bytes before after : List ℕ) → SlotWritten k bytes before after → bytes ≡ row (slots k)
-    → recordAt k ≤ length before → Holds slots k before → Holds slots (k + 1) after
+    → recordAt k ≤ length before → HasRows slots k before → HasRows slots (k + 1) after
 holds-more slots k bytes before after w same inside h =
     ap (drop headerBytes) (w .front)
     ∙ drop-append-le headerBytes (take (recordAt k) before) bytes (omega (arith, length-take-le (recordAt k) before inside))

@@ -22,7 +22,7 @@ use Rattle.listing.proofs.Parts.{drop-all}
 use Rattle.listing_parse.specs.declared.Part.{Part}
 use Rattle.listing_parse.specs.Parts.{hasByte}
 use Rattle.listing_parse.proofs.Chains.{go-behind, choice-has, choice-lacks, byte-has}
-use Rattle.listing_slots.specs.Rows.{rows, Holds, Cleared}
+use Rattle.listing_slots.specs.Rows.{rows, HasRows, Cleared}
 use Rattle.listing_slots.specs.Read.{slotForm, SlotRead}
 use Rattle.listing_slots.proofs.Laws.{rows-same, slot-apart, slot-last, slot-unnamed, Unnamed, unnamed-more}
 
@@ -58,7 +58,7 @@ pub record Going (size : ℕ) (text : List ℕ) (at from place : ℕ) (table : L
   pub goes : (f : List Line → Form Sheet) → answerFrom (linesForm size 0 size f) at (drop at text)
       ≡ answerFrom (linesForm left from size (λ rest. f (done ++ rest))) place (drop place text)
   pub ahead : (k : ℕ) → from ≤ k → Unnamed k done
-  pub holds : Holds (slotIn done) from table
+  pub holds : HasRows (slotIn done) from table
 
 pub going-none : (size : ℕ) (text : List ℕ) (at : ℕ) (table : List ℕ) → headerBytes ≤ length table → Going size text at 0 at table
 unfolding Unnamed rows concatMap tabulate
@@ -101,7 +101,7 @@ module _ {size : ℕ} {text : List ℕ} {at from place : ℕ} {table : List ℕ}
       }
 
   -- the slots behind the last line are emptied
-  pub going-end : (after : List ℕ) → Cleared from size table after → Holds (slotIn (h .done)) size after
+  pub going-end : (after : List ℕ) → Cleared from size table after → HasRows (slotIn (h .done)) size after
   going-end after cleared = cleared .holds (slotIn (h .done)) (λ k low high. slot-unnamed (h .done) k (h .ahead k low)) (h .holds)
 
   -- and the `o` is read

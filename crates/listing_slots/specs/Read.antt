@@ -14,7 +14,7 @@ use Rattle.listing.specs.Forms.{Form, number}
 use Rattle.listing.specs.Grammar.{magnitude, lineForm, linesForm}
 use Rattle.listing.specs.Parts.{PartRead, gotIf}
 use Rattle.listing_parse.specs.declared.Part.{Part}
-use Rattle.listing_slots.specs.Rows.{Holds}
+use Rattle.listing_slots.specs.Rows.{HasRows}
 
 -- a slot's line with its number, which is one of those that may follow
 abbrev pub slotForm : ℕ → ℕ → (Line → Form sheets.Sheet) → Form sheets.Sheet
@@ -27,12 +27,12 @@ pub record SlotRead (from size : ℕ) (text : List ℕ) (at : ℕ) (before after
   pub next : r .next ≤ length text
   pub kept : length after ≡ length before
   pub slot : r .stopped ≡ false → (line .slot ≡ r .value) × (from ≤ r .value) × (r .value < size)
-  pub holds : r .stopped ≡ false → (slots : ℕ → Slot) → Holds slots from before
-      → ((k : ℕ) → from ≤ k → k < r .value → slots k ≡ emptySlot) → slots (r .value) ≡ slotLine line → Holds slots (r .value + 1) after
+  pub holds : r .stopped ≡ false → (slots : ℕ → Slot) → HasRows slots from before
+      → ((k : ℕ) → from ≤ k → k < r .value → slots k ≡ emptySlot) → slots (r .value) ≡ slotLine line → HasRows slots (r .value + 1) after
 
 -- The lines of all slots are read, and the table has every slot's record.
 pub record LinesRead (size : ℕ) (text : List ℕ) (at : ℕ) (after : List ℕ) (r : Part) : Type 0 where
   pub lines : List Line
   pub goes : PartRead (linesForm size 0 size) text at (gotIf (r .stopped) lines (r .next))
   pub next : r .next ≤ length text
-  pub holds : r .stopped ≡ false → Holds (slotIn lines) size after
+  pub holds : r .stopped ≡ false → HasRows (slotIn lines) size after

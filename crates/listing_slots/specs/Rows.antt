@@ -20,10 +20,10 @@ unfoldable pub rows : (ℕ → Slot) → ℕ → List ℕ
 rows slots n = concatMap (λ k. row (slots k)) (tabulate n (λ k. k))
 
 -- the table has these records first, behind its header
-abbrev pub Holds : (ℕ → Slot) → ℕ → List ℕ → Type 0
-Holds slots n table = drop headerBytes (take (recordAt n) table) ≡ rows slots n
+abbrev pub HasRows : (ℕ → Slot) → ℕ → List ℕ → Type 0
+HasRows slots n table = drop headerBytes (take (recordAt n) table) ≡ rows slots n
 
 -- where the slots from `from` up to `to` are Empty, the table has them too
 pub record Cleared (from to : ℕ) (before after : List ℕ) : Type 0 where
   pub size : length after ≡ length before
-  pub holds : (slots : ℕ → Slot) → ((k : ℕ) → from ≤ k → k < to → slots k ≡ emptySlot) → Holds slots from before → Holds slots to after
+  pub holds : (slots : ℕ → Slot) → ((k : ℕ) → from ≤ k → k < to → slots k ≡ emptySlot) → HasRows slots from before → HasRows slots to after
