@@ -59,7 +59,7 @@ module _ {A : Type 0} where
       (choice 116 (literal (117 ∷ 112 ∷ 108 ∷ 101 ∷ []) (f kindTuple))
       (literal (112 ∷ 114 ∷ 111 ∷ 106 ∷ []) (f kindProj))))
 
-  -- `]`, a space and `{`, and the attributes up to the line's end
+  -- a space and `{`, and the attributes up to the line's end
   unfoldable pub attributesForm : ℕ → (List ℤ → Form A) → Form A
   attributesForm count f =
       byte 32 (byte 123 (joinedForm count count attributeField 125 (λ attributes. byte 10 (f attributes))))

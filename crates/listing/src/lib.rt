@@ -1,1 +1,1 @@
-// Reading a listing: theorems about texts that are read byte by byte. There is no code here yet.
+// Theorems about listings: which texts can go on, where a text stops being a listing, and that a listing says one graph. This crate has no code.

@@ -161,7 +161,7 @@ fn read_others(
 }
 
 // Reads from least to most numbers of the field from a place on, single spaces between them, and the byte that ends them. Where there may
-// be a number there must be one: no list of a listing may be empty or not.
+// be a number there must be one: no kind or operator has a list that may be empty and may also have numbers.
 pub fn read_joined(
     text: &[u8],
     at: usize,
