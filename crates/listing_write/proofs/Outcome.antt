@@ -5,6 +5,7 @@ use mathlib.Core.Bool.{true, false, cond}
 use mathlib.Core.List.{List, _++_, append-nil}
 use mathlib.Core.Logic.{⊎-elim}
 use Prim.Native.Nat.{ℕ, _+_, _≤_, _<_}
+use native.Mathlib.Nat.{zero-add}
 use native.Mathlib.Omega.{arith}
 use borrow.Author.Tests.{le-leb, lt-leb, leb-true, leb-false}
 use lib.Dec.{leb}
@@ -33,13 +34,18 @@ text-of graph = listing (graphOf graph)
 pub part-none : (part text : List ℕ) → length part ≡ 0 → part ++ text ≡ text
 part-none part text none = ap (λ (p : List ℕ). p ++ text) (length-none part none)
 
+-- a piece that fits stands first, and behind it is what was there
+pub laid-first : {piece part before : List ℕ} {end : ℕ} → length piece ≤ length before → Laid 0 piece before part end
+    → part ≡ piece ++ drop (length piece) before
+unfolding laid
+laid-first {piece} {part} {before} fits h =
+    h .held (omega arith) ∙ ap (λ (n : ℕ). piece ++ drop n before) (zero-add (length piece))
+
 -- a piece that fills the part it is laid into is the part
 pub laid-full : {piece part before : List ℕ} {end : ℕ} → length before ≡ length piece → Laid 0 piece before part end → part ≡ piece
-unfolding laid
 laid-full {piece} {part} {before} full h =
-    let fits : 0 + length piece ≤ length before = omega arith in
-    let past : length before ≤ 0 + length piece = omega arith in
-    h .held fits ∙ ap (λ (rest : List ℕ). piece ++ rest) (drop-of-length-le before past) ∙ append-nil piece
+    let past : length before ≤ length piece = omega arith in
+    laid-first (omega arith) h ∙ ap (λ (rest : List ℕ). piece ++ rest) (drop-of-length-le before past) ∙ append-nil piece
 
 module _ (graph : List ℕ) where
   -- a graph of which nothing is wrong is sound, and its listing is short

@@ -1,5 +1,5 @@
-// The listing of a graph, written into a lent text. It is printed twice by the same code: into an empty part, which tells the length and
-// writes nothing, and then, where it fits, into the text.
+// The listing of a graph, written into a lent text. Where the text has room for any listing, it is printed into it at once. Else it is
+// printed twice by the same code: into an empty part, which tells the length and writes nothing, and then, where it fits, into the text.
 use definitions::Reply;
 use graph_check::check;
 use graph_fields::is_vertex;
@@ -19,6 +19,9 @@ ghost use Rattle.definitions.specs.Listing.{listing, writeReply, writeText};
 ghost use Rattle.graph_fields.specs.Layout.{ReadableGraph};
 ghost use Rattle.listing_print.specs.Laid.{textLimit, Laid};
 ghost use Rattle.listing_write.specs.Parts.{headText, slotText, slotsText, outputsText};
+
+// No listing has more bytes.
+const LISTING_ROOM: usize = 65535;
 
 // Prints the line of slot k, or nothing where it is Empty.
 fn put_slot(text: &mut [u8], at: usize, graph: &[u8], k: usize) -> usize
@@ -93,6 +96,10 @@ pub fn write_listing(graph: &[u8], text: &mut [u8]) -> Reply
     match check(graph) {
         Reply::Refused(refusal) => return Reply::Refused(refusal),
         Reply::Done(_) => {}
+    }
+    if LISTING_ROOM <= text.len() {
+        let end = put_listing(text, graph);
+        return Reply::Done(end as u32);
     }
     let size = put_listing(&mut text[0..0], graph);
     if text.len() < size {
