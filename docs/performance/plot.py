@@ -199,6 +199,8 @@ COLOURS = {
     "read elsewhere: most places, no such vertex": "#999999",
     "write listing: a chain": "#0072B2",
     "write listing: all Variables": "#D55E00",
+    "write listing: a chain, just room": "#56B4E9",
+    "write listing: all Variables, just room": "#E69F00",
     "read listing: a chain": "#0072B2",
     "read listing: all Variables": "#D55E00",
 }

@@ -189,10 +189,25 @@ const READ_LISTING: [ReadAndWrite; 3] =
     [leafgraph_proved::read_listing, leafgraph_reference::read_listing, plain::read_listing];
 
 /// Lines with one short number beside the slot's, and lines as long as they come.
-const LISTINGS: [(&str, &str, Graph); 2] = [
-    ("write listing: a chain", "read listing: a chain", chain),
-    ("write listing: all Variables", "read listing: all Variables", variables),
+/// Each is written into a text that has room for any listing, and into one with no more
+/// room than this listing takes, and read.
+const LISTINGS: [([&str; 3], Graph); 2] = [
+    (
+        ["write listing: a chain", "write listing: a chain, just room", "read listing: a chain"],
+        chain,
+    ),
+    (
+        [
+            "write listing: all Variables",
+            "write listing: all Variables, just room",
+            "read listing: all Variables",
+        ],
+        variables,
+    ),
 ];
+
+/// No listing has more bytes.
+const LISTING_ROOM: usize = 65535;
 
 /// RR's last match in a chain.
 fn last_of_chain(slots: u16) -> Vec<u16> {
@@ -266,17 +281,21 @@ pub fn questions() -> Vec<Case> {
 
 /// Each timed call is lent the bytes that the last one left.
 pub fn listings() -> Vec<Case> {
-    let of_all_sizes = |(write, read, graph): (_, _, Graph)| {
-        let written = SIZES.map(|slots| {
-            let (block, text) = block_and_listing(graph(slots));
-            let reply = DONE | (text.len() as u64) << 40;
-            read_and_write(write, reply, slots, (block, text.len()), WRITE_LISTING)
-        });
+    let of_all_sizes = |([write, write_just, read], graph): ([&'static str; 3], Graph)| {
+        let written = |name, room: fn(usize) -> usize| {
+            SIZES.map(|slots| {
+                let (block, text) = block_and_listing(graph(slots));
+                let reply = DONE | (text.len() as u64) << 40;
+                read_and_write(name, reply, slots, (block, room(text.len())), WRITE_LISTING)
+            })
+        };
         let read = SIZES.map(|slots| {
             let (block, text) = block_and_listing(graph(slots));
             read_and_write(read, DONE, slots, (text, block.len()), READ_LISTING)
         });
-        written.into_iter().chain(read).collect::<Vec<Case>>()
+        let any_room = written(write, |_| LISTING_ROOM);
+        let just_room = written(write_just, |length| length);
+        any_room.into_iter().chain(just_room).chain(read).collect::<Vec<Case>>()
     };
     LISTINGS.into_iter().flat_map(of_all_sizes).collect()
 }
