@@ -181,6 +181,10 @@ pub digit-low : (c : ℕ) → isDigit c ≡ true → 48 ≤ c
 unfolding isDigit
 digit-low c h = within-low 48 c 57 h
 
+pub digit-high : (c : ℕ) → isDigit c ≡ true → c ≤ 57
+unfolding isDigit
+digit-high c h = within-high 48 c 57 h
+
 -- ---- the loop that reads a number: what is left of the text is read on from the stage
 
 pub record Reading (field : Field) (text : List ℕ) (at i stage value : ℕ) : Type 0 where

@@ -1,9 +1,10 @@
-// Numbers of a listing: printed in decimal, and read byte by byte up to the first byte that no number of the field goes on with.
+// Numbers of a listing: printed in decimal, and read byte by byte up to the first byte that no number of the field goes on with. A number
+// of a few plain digits, as most are, is read without asking at each digit what can come of it: it only has to fit in the end.
 ghost use mathlib.Core.Path.{_≡_};
 ghost use mathlib.Core.Bool.{true};
 ghost use mathlib.Core.Option.{some};
-ghost use Prim.Native.Nat.{_+_, _<_, _≤_, _^_};
-ghost use lib.ListN.{length, drop};
+ghost use Prim.Native.Nat.{_+_, _-_, _<_, _≤_, _^_};
+ghost use lib.ListN.{length, getD, drop};
 ghost use Rattle.definitions.specs.Lists.{within};
 ghost use Rattle.definitions.specs.Numerals.{decimal, Field};
 ghost use Rattle.listing.specs.Typing as typing;
@@ -66,6 +67,9 @@ pub fn put_decimal(part: &mut [u8], n: u64)
 }
 
 // ---- reading
+
+// The greatest number of eight digits, behind which one more is taken without asking what can come of it.
+const EIGHT_DIGITS: u64 = 99999999;
 
 // low <= n <= high
 fn is_within(low: u64, n: u64, high: u64) -> bool
@@ -225,8 +229,8 @@ fn ended(t: Typing, at: usize, field: Field) -> Number
     Number::Stopped(at)
 }
 
-// Reads a number of the field from a place on.
-pub fn read_number(text: &[u8], at: usize, field: Field) -> Number
+// Reads a number of the field from a place on, and asks at each byte what can come of it.
+fn read_bytewise(text: &[u8], at: usize, field: Field) -> Number
     requires { ⌜ FieldFits (fieldOf «field») ⌝ }
     requires { ⌜ at ≤ length (now text) ⌝ }
     ensures { λ r. ⌜ gotOf r ≡ numberFrom (fieldOf «field») nothing at (drop at (now (text .entry))) ⌝ }
@@ -249,4 +253,60 @@ pub fn read_number(text: &[u8], at: usize, field: Field) -> Number
         i += 1;
     }
     Number::Stopped(i)
+}
+
+// The digits behind the first one, which says `first`. Where they are no number of the field, or more than nine digits, all is read bytewise.
+// The bounds are taken out of the field one by one, here and below: copying the field whole at each number takes longer than the digits.
+fn read_digits(text: &[u8], at: usize, first: u64, field: Field) -> Number
+    requires { ⌜ FieldFits (fieldOf «field») ⌝ }
+    requires { ⌜ at < length (now text) ⌝ }
+    requires { ⌜ isDigit (getD (now text) at 0) ≡ true ⌝ }
+    requires { ⌜ first ≡ getD (now text) at 0 - 48 ⌝ }
+    ensures { λ r. ⌜ gotOf r ≡ numberFrom (fieldOf «field») nothing at (drop at (now (text .entry))) ⌝ }
+{
+    let low = field.low;
+    let high = field.high;
+    let below = field.below;
+    let mut i = at + 1;
+    let mut value = first;
+    while i < text.len() {
+        let c = text[i];
+        if !is_numeric(c) {
+            if is_within(low, value, high) {
+                return Number::Read {
+                    negative: false,
+                    value,
+                    next: i,
+                };
+            }
+            return read_bytewise(text, at, Field { low, high, below });
+        }
+        if !is_digit(c) {
+            return read_bytewise(text, at, Field { low, high, below });
+        }
+        if !is_within(1, value, EIGHT_DIGITS) {
+            return read_bytewise(text, at, Field { low, high, below });
+        }
+        value = 10 * value + (wide(c) - 48);
+        i += 1;
+    }
+    read_bytewise(text, at, Field { low, high, below })
+}
+
+// Reads a number of the field from a place on.
+pub fn read_number(text: &[u8], at: usize, field: Field) -> Number
+    requires { ⌜ FieldFits (fieldOf «field») ⌝ }
+    requires { ⌜ at ≤ length (now text) ⌝ }
+    ensures { λ r. ⌜ gotOf r ≡ numberFrom (fieldOf «field») nothing at (drop at (now (text .entry))) ⌝ }
+{
+    let low = field.low;
+    let high = field.high;
+    let below = field.below;
+    if at < text.len() {
+        let c = text[at];
+        if is_digit(c) {
+            return read_digits(text, at, wide(c) - 48, Field { low, high, below });
+        }
+    }
+    read_bytewise(text, at, Field { low, high, below })
 }

@@ -1,103 +1,49 @@
--- The loop's invariant: what is left of the text is read on from the stage. The measure is what is left of the text.
+-- A number that begins with a digit, or with another byte: both are read as the contract says.
 -- Assumes nothing.
-use mathlib.Core.Path.{sym, _∙_}
-use Prim.Native.Nat.{_-_, _^_, _<_, _≤_}
+use mathlib.Core.Path.{sym, ap, _∙_}
+use Prim.Native.Nat.{_-_}
 use native.Mathlib.Omega.{arith}
+use Rattle.listing_numbers.proofs.Stages.{digit-low}
 use borrow.Author.Needs.{needs}
-use borrow.Author.Tests.{not-true, not-false}
-use lib.ListN.{length}
-use Rattle.listing_numbers.specs.State.{fieldOf, gotOf}
-use Rattle.listing_numbers.proofs.Stages.{Reading, reading-first, reading-over, reading-ends, reading-stops, reading-goes}
 use Rattle.listing_numbers.proofs.read_number.Statement.{statement}
 use Rattle.listing_numbers.proofs.read_number.Tie as tie
 
-abbrev Inv-loop : tie.InvT-loop
-Inv-loop text at field i₀ stage₀ value₀ i stage value =
-    (i ≤ length text) × (value < 10 ^ 10) × Reading (fieldOf field) text at i stage value
+shared-slice-read-c : tie.Need-shared-slice-read-c
+shared-slice-read-c c = search needs
 
-abbrev μ-loop : tie.MeasureT-loop
-μ-loop text at field i₀ stage₀ value₀ i stage value = length text - i
+is-digit-requires : tie.Need-is-digit-requires
+is-digit-requires c κs = search needs
 
-loop-holds : tie.Need-loop-holds Inv-loop μ-loop
-loop-holds c =
-    let s = c .before in
-    (s .pre .1, omega arith, reading-first (fieldOf (s .args .field)) (s .args .text .now) (s .args .at))
+wide-requires : tie.Need-wide-requires
+wide-requires c κs = search needs
 
-shared-slice-read-c : tie.Need-shared-slice-read-c Inv-loop μ-loop
-shared-slice-read-c c = omega arith
+sub-read-digits : tie.Need-sub-read-digits
+sub-read-digits c = omega (arith, c .wide .ensures, digit-low _ (sym (c .before .before .is-digit .ensures) ∙ c .before .if2 .taken))
 
-is-numeric-requires : tie.Need-is-numeric-requires Inv-loop μ-loop
-is-numeric-requires c κs = search needs
+read-digits-requires : tie.Need-read-digits-requires
+read-digits-requires c κs =
+    let s = c .before .before .before .before .before .before in
+    let is = sym (c .before .before .is-digit .ensures) ∙ c .before .if2 .taken in
+    (s .pre .0, (omega arith, (is, ap (λ n. n - 48) (c .wide .ensures))))
 
-ended-requires : tie.Need-ended-requires Inv-loop μ-loop
-ended-requires c κs = search needs
+returns : tie.Need-returns
+returns c = search needs
 
-returns : tie.Need-returns Inv-loop μ-loop
-returns c =
-    let l = c .before .before .before .before .before .loop in
-    let s = c .before .before .before .before .before .before .before in
-    let F = fieldOf (s .args .field) in
-    let text = s .args .text .now in
-    c .ended .ensures
-    ∙ reading-ends F text (s .args .at) (l .i) (l .stage) (l .value) (l .inv .2) (omega arith)
-    (sym (c .before .before .is-numeric .ensures) ∙ not-true _ (c .before .if1 .taken))
+read-bytewise-requires : tie.Need-read-bytewise-requires
+read-bytewise-requires c κs = search needs
 
-press-requires : tie.Need-press-requires Inv-loop μ-loop
-press-requires c κs = (c .before .before .before .before .before .before .pre .0, c .before .before .before .before .loop .inv .1)
-
-returns-2 : tie.Need-returns-2 Inv-loop μ-loop
-unfolding gotOf
-returns-2 c =
-    let l = c .before .before .before .before .before .before .loop in
-    let s = c .before .before .before .before .before .before .before .before in
-    let F = fieldOf (s .args .field) in
-    let text = s .args .text .now in
-    reading-stops F text (s .args .at) (l .i) (l .stage) (l .value) (l .inv .2) (omega arith)
-    (sym (c .before .before .before .is-numeric .ensures) ∙ not-false _ (c .before .before .if1 .left))
-    (c .before .press .result .stage) (c .before .press .result .value) (c .before .press .ensures .0) (c .if2 .taken)
-
-add-i : tie.Need-add-i Inv-loop μ-loop
-add-i c = omega arith
-
-loop-less : tie.Need-loop-less Inv-loop μ-loop
-loop-less c = omega arith
-
-loop-again : tie.Need-loop-again Inv-loop μ-loop
-loop-again c =
-    let l = c .before .before .before .before .before .before .loop in
-    let s = c .before .before .before .before .before .before .before .before in
-    let F = fieldOf (s .args .field) in
-    let text = s .args .text .now in (
-      omega arith,
-      c .before .press .ensures .1,
-      reading-goes F text (s .args .at) (l .i) (l .stage) (l .value) (l .inv .2) (omega arith)
-          (sym (c .before .before .before .is-numeric .ensures) ∙ not-false _ (c .before .before .if1 .left))
-          (c .before .press .result .stage) (c .before .press .result .value) (c .before .press .ensures .0) (c .if2 .left),
-    )
-
-returns-3 : tie.Need-returns-3 Inv-loop μ-loop
-unfolding gotOf
-returns-3 c =
-    let l = c .before .loop in
-    let s = c .before .before .before in
-    let F = fieldOf (s .args .field) in
-    let text = s .args .text .now in
-    reading-over F text (s .args .at) (l .i) (l .stage) (l .value) (l .inv .2) (omega arith)
+returns-2 : tie.Need-returns-2
+returns-2 c = search needs
 
 pub read-number-spec : {M : Type 1} → statement M
 read-number-spec =
     tie.close
     (tie.spec
-    Inv-loop
-    μ-loop
-    loop-holds
     shared-slice-read-c
-    is-numeric-requires
-    ended-requires
+    is-digit-requires
+    wide-requires
+    sub-read-digits
+    read-digits-requires
     returns
-    press-requires
-    returns-2
-    add-i
-    loop-less
-    loop-again
-    returns-3)
+    read-bytewise-requires
+    returns-2)
