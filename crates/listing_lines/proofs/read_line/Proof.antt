@@ -1,4 +1,4 @@
---
+-- A space, the word of the kind, the operator of a Call, and the lists.
 -- Assumes nothing.
 use mathlib.Core.Path.{_≡_, refl, _∙_}
 use Prim.Native.Nat.{ℕ}

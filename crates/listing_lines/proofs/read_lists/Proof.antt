@@ -1,4 +1,4 @@
---
+-- The inputs in brackets, and the attributes in braces; the record has the words of both.
 -- Assumes nothing.
 use mathlib.Core.Path.{_≡_, refl, sym, ap, subst, _∙_}
 use Prim.Native.Nat.{ℕ}
