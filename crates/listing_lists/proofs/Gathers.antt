@@ -10,7 +10,7 @@ use native.Mathlib.Omega.{arith}
 use borrow.Author.Tests.{ltb-true, ltb-false, eq-eqb, ne-eqb}
 use lib.Dec.{ltb, leb, eqb}
 use lib.IntN.{ℤ}
-use lib.ListN.{length, getD, drop, set, replicate, length-drop, length-append}
+use lib.ListN.{length, getD, drop, set, replicate, length-append}
 use Rattle.definitions.specs.Lists.{all, padded}
 use Rattle.definitions.specs.Fields.{wordOf}
 use Rattle.laws.proofs.Lists.{decided, and-left, and-right}
