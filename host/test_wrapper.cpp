@@ -543,6 +543,7 @@ void test_graph_length() {
     expect(length("graph 37\nno listing") == 24 + 48 * 37, "nothing is judged");
     expect(length("graph 37") == 24 + 48 * 37, "the text may end there");
     expect(length("graph 0\n") == 0 && length("graph 513\n") == 0, "no number of slots");
+    expect(length("graph 1000\n") == 0 && length("graph 5123\n") == 0, "nor a longer one");
     expect(length("graph 999999999999999999999\n") == 0, "nor this");
     expect(length("graph \n") == 0 && length("graph -3\n") == 0, "no number");
     expect(length("") == 0 && length("gra") == 0 && length("Graph 3\n") == 0, "no first line");

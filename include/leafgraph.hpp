@@ -542,10 +542,10 @@ inline Reply assign_listing(Bytes graph, std::string &text) {
 // How many bytes read_listing wants for the graph of this text: 24 + 48 N, for the N of
 // which its first line speaks. It looks at that line alone and judges nothing: of a text
 // that is no listing it says nothing of use, but never more than 24600, and read_listing
-// refuses that text whatever is lent. 0 where there is no such line, or N is not from 1 to
-// 512.
+// refuses that text whatever is lent. 0 where the text does not begin with `graph ` and a
+// number from 1 to 512.
 inline std::size_t graph_length(Bytes text) noexcept {
-    constexpr std::size_t first_digit = 6, most_digits = 3;
+    constexpr std::size_t first_digit = 6, most_slots = 512;
     std::size_t slots = 0, at = 0;
     if (detail::is_null(text)) {
         return 0;
@@ -555,14 +555,14 @@ inline std::size_t graph_length(Bytes text) noexcept {
             return 0;
         }
     }
-    for (; at < first_digit + most_digits; ++at) {
+    for (; slots <= most_slots; ++at) {
         const unsigned digit = detail::byte_at(text, at) - unsigned{'0'};
         if (digit > 9) {
             break;
         }
         slots = 10 * slots + digit;
     }
-    return slots >= 1 && slots <= 512 ? detail::record_at(slots) : 0;
+    return slots >= 1 && slots <= most_slots ? detail::record_at(slots) : 0;
 }
 
 // As lg_read_listing: where done, graph holds the block, whatever it held before. On a

@@ -37,8 +37,8 @@ use Rattle.answers.specs.Tidied.{wentTo, Renumbers, KeepsResults}
 -- ==== the contracts
 
 -- Names with After are the lent bytes at the return, the others as they came. What is lent to read only cannot be written: the rule
--- always, the graph by the checks, by lg_find_match, lg_is_read_elsewhere and lg_write_listing, the map by the third of these, and the text
--- by lg_read_listing. For lg_find_match lib.rt gives the graph's bytes as they came for graphAfter.
+-- always, the graph by the checks, by lg_find_match, lg_is_read_elsewhere and lg_write_listing, the map by lg_is_read_elsewhere, and the text by
+-- lg_read_listing. For lg_find_match lib.rt gives the graph's bytes as they came for graphAfter.
 
 -- lg_check_graph and lg_check_rule: the reply is the definition's
 abbrev pub CheckedGraph : List ℕ → ℕ → Type 0

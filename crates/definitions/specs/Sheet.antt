@@ -29,7 +29,7 @@ pub record Sheet : Type 0 where
   pub lines : List Line
   pub outputs : List ℤ
 
--- ---- the fields: "each number within its field"
+-- ---- the fields: "each number within its field"; of N, slots and operators SheetFits says the same bounds below, and these are for reading
 
 abbrev field : ℕ → ℕ → ℕ → Field
 field low high below = record { low = low; high = high; below = below }

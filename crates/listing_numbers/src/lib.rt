@@ -255,7 +255,8 @@ fn read_bytewise(text: &[u8], at: usize, field: Field) -> Number
     Number::Stopped(i)
 }
 
-// The digits behind the first one, which says `first`. Where they are no number of the field, or more than nine digits, all is read bytewise.
+// The digits behind the first one, which says `first`. Where they are no number of the field, more than nine, behind a leading zero or followed by a minus, or
+// where the text ends in them, the number is read again bytewise, which finds the place.
 // The bounds are taken out of the field one by one, here and below: copying the field whole at each number takes longer than the digits.
 fn read_digits(text: &[u8], at: usize, first: u64, field: Field) -> Number
     requires { ⌜ FieldFits (fieldOf «field») ⌝ }
