@@ -14,7 +14,7 @@ use lib.IntN.{ℤ}
 use lib.ListN.{length, getD}
 use Rattle.definitions.specs.Lists.{allBelow, allPairs}
 use Rattle.definitions.specs.Fields.{signed}
-use Rattle.definitions.specs.Rule.{nodeCount, Expression, anything, constant, access, apply, formAny, formConstant, formAccess, nodeForm, expressionOf, nodeFits, accessesBelow}
+use Rattle.definitions.specs.Rule.{nodeCount, Expression, anything, constant, access, apply, index, sum, formAny, formConstant, formAccess, nodeForm, expressionOf, nodeFits, accessesBelow}
 use Rattle.definitions.specs.Attributes.{combine, result, gives, agrees}
 use Rattle.laws.proofs.Lists.{decided, and-left, and-right, allBelow-step, allBelow-fails}
 use Rattle.match_leaves.specs.Evaluable.{NodeEvaluation}
@@ -79,14 +79,18 @@ module _ (read other : ℕ → ℕ → Option ℤ) (j : ℕ) (same : (v b : ℕ)
   result-below (apply o x y) h =
       ap₂ (combine o) (result-below x (and-left (accessesBelow j x) (accessesBelow j y) h))
       (result-below y (and-right (accessesBelow j x) (accessesBelow j y) h))
+  result-below index h = refl
+  result-below (sum x) h = refl
 
 pub agrees-below : (read other : ℕ → ℕ → Option ℤ) (j : ℕ) (e : Expression) (z : ℤ) → accessesBelow j e ≡ true
     → ((v b : ℕ) → v < j → read v b ≡ other v b) → agrees read e z ≡ agrees other e z
-unfolding agrees
+unfolding agrees result
 agrees-below read other j anything z h same = refl
 agrees-below read other j (constant x) z h same = ap (λ (r : Option ℤ). gives r z) (result-below read other j same (constant x) h)
 agrees-below read other j (access v b) z h same = ap (λ (r : Option ℤ). gives r z) (result-below read other j same (access v b) h)
 agrees-below read other j (apply o x y) z h same = ap (λ (r : Option ℤ). gives r z) (result-below read other j same (apply o x y) h)
+agrees-below read other j index z h same = refl
+agrees-below read other j (sum x) z h same = refl
 
 pub agree-first-below : (read other : ℕ → ℕ → Option ℤ) (j : ℕ) (ps : List Expression) (ws : List ℕ)
     → ((i : ℕ) → i < length ps → accessesBelow j (getD ps i anything) ≡ true)

@@ -5,7 +5,7 @@ use mathlib.Core.Option.{Option, none, some}
 use Prim.Native.Nat.{ℕ, suc, _+_, _/_, _^_}
 use lib.Dec.{eqb, ltb}
 use lib.IntN.{ℤ, pos, negsuc, negℤ, _+ℤ_, _-ℤ_, _*ℤ_}
-use Rattle.definitions.specs.Rule.{Operation, add, subtract, multiply, divide, remainder, Expression, anything, constant, access, apply}
+use Rattle.definitions.specs.Rule.{Operation, add, subtract, multiply, divide, remainder, Expression, anything, constant, access, apply, index, sum}
 
 -- a result is from -2147483648 to 2147483647
 unfoldable pub inRange : ℤ → Bool
@@ -41,12 +41,15 @@ combine o none y = none
 combine o (some x) none = none
 combine o (some x) (some y) = operate o x y
 
--- `read v b` is attribute place b of the image of source vertex v, or none where the image has no such place
+-- `read v b` is attribute place b of the image of source vertex v, or none where the image has no such place. Index and sum have no result of
+-- their own: in a fixed rule there are none.
 unfoldable pub result : (ℕ → ℕ → Option ℤ) → Expression → Option ℤ
 result read anything = none
 result read (constant z) = some z
 result read (access v b) = read v b
 result read (apply o x y) = combine o (result read x) (result read y)
+result read index = none
+result read (sum x) = none
 
 unfoldable pub sameNumber : ℤ → ℤ → Bool
 sameNumber (pos a) (pos b) = eqb a b
@@ -64,3 +67,5 @@ agrees read anything z = true
 agrees read (constant x) z = gives (result read (constant x)) z
 agrees read (access v b) z = gives (result read (access v b)) z
 agrees read (apply o x y) z = gives (result read (apply o x y)) z
+agrees read index z = gives (result read index) z
+agrees read (sum x) z = gives (result read (sum x)) z

@@ -20,3 +20,7 @@ pub mod Numerals
 pub mod Sheet
 pub mod Listing
 pub mod Results
+pub mod FixedRule
+pub mod Variadic
+pub mod VariadicBlock
+pub mod Widths

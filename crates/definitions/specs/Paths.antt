@@ -1,10 +1,10 @@
 -- Paths run from an input to its reader. A table is given by the inputs of each of its vertices, in order.
 -- Assumes nothing.
-use mathlib.Core.Bool.{Bool, false, _&&_, _||_}
-use mathlib.Core.List.{List, List·Memᴰ}
+use mathlib.Core.Bool.{Bool, false, cond, _&&_, _||_}
+use mathlib.Core.List.{List, [], _∷_, _++_, List·Memᴰ}
 use Prim.Native.Nat.{ℕ, zero, suc}
 use lib.ListN.{getD}
-use Rattle.definitions.specs.Lists.{anyBelow, tabulate, member}
+use Rattle.definitions.specs.Lists.{anyBelow, tabulate, foldl, member}
 
 -- w names v in one of its input places
 abbrev pub Reads : (ℕ → List ℕ) → ℕ → ℕ → Type 0
@@ -28,6 +28,14 @@ OnCycle inputs v = (w : ℕ) × Reaches inputs v w × Reads inputs v w
 -- no vertex has a path of one or more edges to itself
 abbrev pub Acyclic : (ℕ → List ℕ) → Type 0
 Acyclic inputs = (v : ℕ) → OnCycle inputs v → ⊥
+
+-- Document 002's traversal: inputs first, left to right, each vertex once. `done` are the vertices visited so far, in order. The second
+-- argument bounds the depth; where inputs are lower, the number of vertices is enough.
+unfoldable pub visit : (ℕ → List ℕ) → ℕ → List ℕ → ℕ → List ℕ
+visit inputs zero done v = done
+visit inputs (suc d) done v =
+    let after = foldl (visit inputs d) done (inputs v) ++ v ∷ [] in
+    cond (member v done) done after
 
 -- ---- what computes, in a table of n slots whose inputs all name slots; the crate reachability proves that this is the meaning
 

@@ -46,6 +46,10 @@ badRuleOutputs = 33
 abbrev pub badRuleExpression : ℕ
 badRuleExpression = 34
 
+-- a fixed rule of a variadic rule is not sound
+abbrev pub badExpansion : ℕ
+badExpansion = 35
+
 abbrev pub noMatch : ℕ
 noMatch = 4
 

@@ -12,7 +12,7 @@ use Rattle.definitions.specs.Lists.{within, allBelow, anyBelow, lowest, 
 use Rattle.definitions.specs.Fields.{byteAt, u16At, u32At, filled, markFits, signed}
 use Rattle.definitions.specs.Operators.{kindEmpty, kindVariable, kindCall, kindProj, shapeFits}
 use Rattle.definitions.specs.Graph.{attributeLimit}
-use Rattle.definitions.specs.Paths.{Reaches}
+use Rattle.definitions.specs.Paths.{Reaches, visit}
 use Rattle.definitions.specs.Reply.{badRuleHeader, badRuleRecord, badRuleOrder, badRuleOutputs, badRuleExpression, Fault, fault, flag, place, judged}
 
 -- ---- sizes
@@ -82,12 +82,15 @@ nodeAt block k = vertexAt (sourceCount block + targetCount block) + nodeBytes * 
 pub data Operation : Type 0 where
   add subtract multiply divide remainder : Operation
 
--- an attribute of a pattern: `access v b` is attribute place b, counted from 1, of the image of source vertex v
+-- an attribute of a pattern: `access v b` is attribute place b, counted from 1, of the image of source vertex v. The index, counted from 1,
+-- and the sum over 1 to n stand in variadic rules alone (Variadic): the fixed rule for n has neither.
 pub data Expression : Type 0 where
   anything : Expression
   constant : ℤ → Expression
   access : ℕ → ℕ → Expression
   apply : Operation → Expression → Expression → Expression
+  index : Expression
+  sum : Expression → Expression
 
 -- what a target place names: the rule input with that source vertex's number, or a target vertex
 pub data Origin : Type 0 where
@@ -110,7 +113,7 @@ pub record Rule : Type 0 where
 unfoldable pub originOf : ℕ → Origin
 originOf p = cond (ltb p targetBase) (given p) (made (p - targetBase))
 
--- a node's forms; the operations are the last five
+-- a node's forms; the operations are the last five of version 1
 abbrev pub formAny : ℕ
 formAny = 0
 
@@ -125,6 +128,13 @@ formAdd = 3
 
 abbrev pub formRemainder : ℕ
 formRemainder = 7
+
+-- of version 2 alone
+abbrev pub formIndex : ℕ
+formIndex = 8
+
+abbrev pub formSum : ℕ
+formSum = 9
 
 -- the operations of forms 3 to 7, in order
 unfoldable pub operations : List Operation
@@ -145,8 +155,10 @@ nodeFrom block earlier k =
     cond (eqb (nodeForm block k) formAny) anything
     (cond (eqb (nodeForm block k) formConstant) (constant (signed (u32At block (nodeAt block k + 4))))
     (cond (eqb (nodeForm block k) formAccess) (access (nodeLeft block k) (nodeRight block k))
+    (cond (eqb (nodeForm block k) formIndex) index
+    (cond (eqb (nodeForm block k) formSum) (sum (getD earlier (nodeLeft block k) anything))
     (apply (getD operations (nodeForm block k - formAdd) remainder) (getD earlier (nodeLeft block k) anything)
-    (getD earlier (nodeRight block k) anything))))
+    (getD earlier (nodeRight block k) anything))))))
 
 unfoldable pub expressions : List ℕ → List Expression
 expressions block = build (nodeFrom block) (nodeCount block)
@@ -245,16 +257,9 @@ badVertex block v =
     && cond (ltb v (sourceCount block)) (sourceInputsFit (ruleOf block) v)
     (targetInputsFit (ruleOf block) (v - sourceCount block)))
 
--- Document 002's traversal: inputs first, left to right, each vertex once. `done` are the vertices visited so far, in order.
--- The first argument bounds the depth; inputs are lower, so S is enough.
-unfoldable pub visit : Rule → ℕ → List ℕ → ℕ → List ℕ
-visit r zero done v = done
-visit r (suc d) done v =
-    let after = foldl (visit r d) done (sourceInputs r v) ++ v ∷ [] in
-    cond (member v done) done after
-
+-- 002's traversal from the listed outputs
 unfoldable pub traversal : Rule → List ℕ
-traversal r = foldl (visit r (length (r .source))) [] (r .sourceOutputs)
+traversal r = foldl (visit (sourceInputs r) (length (r .source))) [] (r .sourceOutputs)
 
 -- the j-th visited vertex is not j, or the traversal ends before it; no source vertex has the number S
 unfoldable pub outOfOrder : Rule → ℕ → Bool
@@ -316,12 +321,14 @@ nodeFits block k =
 unfoldable pub badNode : List ℕ → ℕ → Bool
 badNode block k = not (nodeFits block k)
 
--- the expression only accesses vertices below j
+-- the expression only accesses vertices below j, through sums too
 unfoldable pub accessesBelow : ℕ → Expression → Bool
 accessesBelow j anything = true
 accessesBelow j (constant z) = true
 accessesBelow j (access v b) = ltb v j
 accessesBelow j (apply o x y) = accessesBelow j x && accessesBelow j y
+accessesBelow j index = true
+accessesBelow j (sum x) = accessesBelow j x
 
 -- Vertex v may use node k as an attribute: a source vertex where it accesses lower vertices only, a target vertex where it is not
 -- the node any.

@@ -10,8 +10,8 @@ use borrow.Author.Tests.{not-true, ltb-true, ltb-false}
 use lib.Dec.{ltb}
 use Rattle.definitions.specs.Lists.{within, all, any, member, distinct, range}
 use Rattle.definitions.specs.Operators.{kindCall, kindProj}
-use Rattle.definitions.specs.Paths.{Reads}
-use Rattle.definitions.specs.Rule.{Pattern, Rule, wildcard, sourceOf, sourceInputs, visit, sourceOutputsFit}
+use Rattle.definitions.specs.Paths.{Reads, visit}
+use Rattle.definitions.specs.Rule.{Pattern, Rule, wildcard, sourceOf, sourceInputs, sourceOutputsFit}
 use Rattle.laws.proofs.Lists.{decided, true-not-false, and-left, and-right, all-member, any-member}
 use Rattle.laws.proofs.Members.{mem-at, mem-member, distinct-places, mem-range, range-mem}
 use Rattle.laws.proofs.Rule.{source-reader}
@@ -44,7 +44,7 @@ module _ (r : Rule) (o q : ℕ) (outputs : r .sourceOutputs ≡ o ∷ q ∷ []) 
   Added : ℕ → Type 0
   Added v = (v ≡ o) ⊎ ((w : ℕ) × Reads (sourceInputs r) w v)
 
-  visited : (d : ℕ) → Every Added (visit r d (range 0 0) o)
+  visited : (d : ℕ) → Every Added (visit (sourceInputs r) d (range 0 0) o)
   unfolding Added
   visited d =
       visit-every r Added (λ w u m. inr (w, m)) d (range 0 0) o (inl refl) (λ v m. let low = range-mem 0 0 m .1 in absurd (omega arith))
@@ -55,7 +55,7 @@ module _ (r : Rule) (o q : ℕ) (outputs : r .sourceOutputs ≡ o ∷ q ∷ []) 
       (λ (t : ltb o q ≡ true). ltb-true o q t)
       (λ (t : ltb o q ≡ false).
       let early = ltb-false o q t in
-      let among : List·Memᴰ q (visit r (order .depth) (range 0 0) o) =
+      let among : List·Memᴰ q (visit (sourceInputs r) (order .depth) (range 0 0) o) =
       rw (in-order-visits r 0 o (q ∷ []) order) (mem-range 0 (max 0 (suc o)) q (omega arith) (omega arith)) in
       ⊎-elim (λ (e : q ≡ o). absurd (apart e)) (λ (found : (w : ℕ) × Reads (sourceInputs r) w q). absurd (unread (found .0) (found .1)))
       (visited (order .depth) q among))

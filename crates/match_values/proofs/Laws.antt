@@ -15,12 +15,12 @@ use lib.ListN.{getD, set, replicate, length-set}
 use lib.Seq.{getD-set-same, getD-set-other}
 use Rattle.definitions.specs.Lists.{build}
 use Rattle.definitions.specs.Graph.{graphOf}
-use Rattle.definitions.specs.Rule.{nodeCount, anything, apply, formAny, formConstant, formAccess, nodeForm, nodeLeft, nodeRight, nodeFrom, expressionOf, nodeFits}
+use Rattle.definitions.specs.Rule.{nodeCount, anything, apply, formAny, formConstant, formAccess, formIndex, formSum, nodeForm, nodeLeft, nodeRight, nodeFrom, expressionOf, nodeFits}
 use Rattle.definitions.specs.Attributes.{combine, result}
 use Rattle.definitions.specs.Match.{readAttribute}
 use Rattle.laws.proofs.Lists.{decided}
 use Rattle.laws.proofs.Builds.{build-at, getD-none}
-use Rattle.rule_nodes.proofs.Operands.{left-earlier, right-earlier}
+use Rattle.rule_nodes.proofs.Operands.{few-forms, left-earlier, right-earlier}
 use Rattle.numbers.specs.declared.Value.{Value}
 use Rattle.numbers.specs.declared.Value.the-variants.{Nothing, Plus, Minus}
 use Rattle.numbers.specs.Value.{valueOf, bounded, operationOf}
@@ -45,6 +45,8 @@ module _ (block : List ℕ) (k : ℕ) (inside : k < nodeCount block) where
           ne-eqb (nodeForm block k) formAny (λ e. omega arith),
           ne-eqb (nodeForm block k) formConstant (λ e. omega arith),
           ne-eqb (nodeForm block k) formAccess (λ e. omega arith),
+          ne-eqb (nodeForm block k) formIndex (λ e. omega (arith, few-forms block k fits operation)),
+          ne-eqb (nodeForm block k) formSum (λ e. omega (arith, few-forms block k fits operation)),
           operand (nodeLeft block k) (left-earlier block k fits operation),
           operand (nodeRight block k) (right-earlier block k fits operation),
         )

@@ -3,7 +3,7 @@
 use mathlib.Core.Path.{_≡_, refl, sym, ap, ap₂, _∙_}
 use mathlib.Core.Bool.{true, false, _&&_}
 use mathlib.Core.List.{List, _++_, map}
-use mathlib.Core.Logic.{_⊎_, inl, inr}
+use mathlib.Core.Logic.{_⊎_, inl, inr, ⊎-elim}
 use Prim.Native.Nat.{ℕ, _+_, _-_, _<_, _≤_, max}
 use native.Mathlib.Numerals.{add-one}
 use native.Mathlib.Omega.{arith}
@@ -11,7 +11,7 @@ use borrow.Author.Tests.{lt-ltb, le-ltb, le-leb, lt-leb, leb-true, leb-false, eq
 use lib.Dec.{eqb, leb, leb·zero}
 use lib.ListN.{getD, set, replicate, List·getD-map}
 use Rattle.definitions.specs.Lists.{build}
-use Rattle.definitions.specs.Rule.{nodeLimit, nodeCount, Expression, anything, constant, access, apply, formAny, formConstant, formAccess, nodeForm, nodeLeft, nodeRight, nodeFrom, expressions, expressionOf, nodeFits, badNode, accessesBelow}
+use Rattle.definitions.specs.Rule.{nodeLimit, nodeCount, Expression, anything, constant, access, apply, index, sum, formAny, formConstant, formAccess, formIndex, formSum, nodeForm, nodeLeft, nodeRight, nodeFrom, expressions, expressionOf, nodeFits, badNode, accessesBelow}
 use Rattle.laws.proofs.Lists.{decided, lowest-passed}
 use Rattle.laws.proofs.Builds.{build-more, getD-padded, map-build}
 use Rattle.rule_accesses.specs.Access.{topAccess, topFrom, TopsKnown, NodesFaultless}
@@ -32,6 +32,8 @@ below-top j anything = sym (leb·zero j)
 below-top j (constant z) = sym (leb·zero j)
 below-top j (access v b) = refl
 below-top j (apply o x y) = simp (below-top j x, below-top j y) (both-below (topAccess x) (topAccess y) j)
+below-top j index = sym (leb·zero j)
+below-top j (sum x) = below-top j x
 
 -- ---- the nodes of a block
 
@@ -53,9 +55,17 @@ module _ (block : List ℕ) where
       go (inr s) (inr t) (inl u) =
           simp (s, t, u, le-ltb (nodeForm block k) formAccess (omega (arith, eqb-true (nodeForm block k) formAccess u))) (sym (add-one (nodeLeft block k)))
       go (inr s) (inr t) (inr u) =
-          simp (s, t, u, le-ltb (nodeForm block k) formAccess (many s t))
+          let more = le-ltb (nodeForm block k) formAccess (many s t) in
+          ⊎-elim (λ (p : eqb (nodeForm block k) formIndex ≡ true). simp (s, t, u, more, p))
+          (λ (p : eqb (nodeForm block k) formIndex ≡ false).
+          ⊎-elim (λ (q : eqb (nodeForm block k) formSum ≡ true).
+          simp (s, t, u, more, p, q) (sym (List·getD-map topAccess earlier (nodeLeft block k) anything)))
+          (λ (q : eqb (nodeForm block k) formSum ≡ false).
+          simp (s, t, u, more, p, q)
           (ap₂ max (sym (List·getD-map topAccess earlier (nodeLeft block k) anything))
-          (sym (List·getD-map topAccess earlier (nodeRight block k) anything)))
+          (sym (List·getD-map topAccess earlier (nodeRight block k) anything))))
+          (decided (eqb (nodeForm block k) formSum)))
+          (decided (eqb (nodeForm block k) formIndex))
 
   -- tops that are not found yet are as no tops
   top-unpadded : (tops : List ℕ) (n k : ℕ) → topFrom block (tops ++ replicate n 0) k ≡ topFrom block tops k

@@ -1,11 +1,11 @@
--- The operands of a node without a fault stand before it.
+-- The operands of a node without a fault stand before it, and an operation has one of five forms.
 -- Assumes nothing.
 use mathlib.Core.Path.{_≡_}
 use mathlib.Core.Bool.{Bool, true, false, not, _&&_}
 use mathlib.Core.List.{List}
-use Prim.Native.Nat.{ℕ, _+_, _<_}
+use Prim.Native.Nat.{ℕ, _+_, _<_, _≤_}
 use native.Mathlib.Omega.{arith}
-use borrow.Author.Tests.{ltb-true, ne-eqb}
+use borrow.Author.Tests.{leb-true, ltb-true, ne-eqb}
 use lib.Dec.{eqb, ltb, leb}
 use Rattle.definitions.specs.Fields.{byteAt, filled}
 use Rattle.definitions.specs.Rule.{nodeAt, formAny, formConstant, formAccess, formRemainder, nodeForm, nodeLeft, nodeRight, operandFits, nodeFits}
@@ -34,6 +34,12 @@ module _ (block : List ℕ) where
         last (eqb (byteAt block (nodeAt block k + 3)) 0) (filled block (nodeAt block k + 4) (nodeAt block k + 8) 0)
         (leb (nodeForm block k) formRemainder && operandFits block k (nodeLeft block k) && operandFits block k (nodeRight block k))
         (simp (no-any, no-constant, no-access) at fits)
+
+    pub few-forms : nodeForm block k ≤ formRemainder
+    few-forms =
+        leb-true (nodeForm block k) formRemainder
+        (and-left (leb (nodeForm block k) formRemainder) (operandFits block k (nodeLeft block k))
+        (and-left (leb (nodeForm block k) formRemainder && operandFits block k (nodeLeft block k)) (operandFits block k (nodeRight block k)) operands))
 
     pub left-earlier : nodeLeft block k < k
     left-earlier =

@@ -12,7 +12,8 @@ use lib.Dec.{ltb}
 use lib.ListN.{length, getD, length-append, List·getD-append}
 use lib.Seq.{ext-getD, getD-append-seam}
 use Rattle.definitions.specs.Lists.{tabulate, foldl, member, range}
-use Rattle.definitions.specs.Rule.{sideLimit, Rule, SoundRule, ruleOf, sourceInputs, visit, traversal}
+use Rattle.definitions.specs.Paths.{visit}
+use Rattle.definitions.specs.Rule.{sideLimit, Rule, SoundRule, ruleOf, sourceInputs, traversal}
 use Rattle.laws.proofs.Lists.{decided}
 use Rattle.laws.proofs.Ranges.{length-range, range-at, range-more}
 use Rattle.laws.proofs.Rule.{length-source, outputs-below}
@@ -52,27 +53,27 @@ foldl-appends f one (v ∷ vs) done =
     (first .0 ++ others .0, others .1 ∙ ap (λ (l : List ℕ). l ++ others .0) (first .1) ∙ append-assoc done (first .0) (others .0))
 
 module _ (r : Rule) where
-  visit-appends : (d : ℕ) (done : List ℕ) (v : ℕ) → Appends done (visit r d done v)
+  visit-appends : (d : ℕ) (done : List ℕ) (v : ℕ) → Appends done (visit (sourceInputs r) d done v)
   unfolding visit
   visit-appends zero done v = ([], sym (append-nil done))
   visit-appends (suc d) done v = ⊎-elim
       (λ (t : member v done ≡ true). rw t ([], sym (append-nil done)))
       (λ (t : member v done ≡ false). rw t
-      (let before = foldl-appends (visit r d) (visit-appends d) (sourceInputs r v) done in
+      (let before = foldl-appends (visit (sourceInputs r) d) (visit-appends d) (sourceInputs r v) done in
       (before .0 ++ v ∷ [], ap (λ (l : List ℕ). l ++ v ∷ []) (before .1) ∙ append-assoc done (before .0) (v ∷ []))))
       (decided (member v done))
 
   -- ---- a visit that stays in order
 
   -- the inputs of a vertex that is entered are visited up to it
-  inputs-before : (d n v : ℕ) (later : List ℕ) (m : ℕ) → n ≤ v → visit r (suc d) (range 0 n) v ++ later ≡ range 0 m
-      → foldl (visit r d) (range 0 n) (sourceInputs r v) ++ v ∷ later ≡ range 0 m
+  inputs-before : (d n v : ℕ) (later : List ℕ) (m : ℕ) → n ≤ v → visit (sourceInputs r) (suc d) (range 0 n) v ++ later ≡ range 0 m
+      → foldl (visit (sourceInputs r) d) (range 0 n) (sourceInputs r v) ++ v ∷ later ≡ range 0 m
   inputs-before d n v later m h e =
-      sym (append-assoc (foldl (visit r d) (range 0 n) (sourceInputs r v)) (v ∷ []) later)
+      sym (append-assoc (foldl (visit (sourceInputs r) d) (range 0 n) (sourceInputs r v)) (v ∷ []) later)
       ∙ ap (λ (l : List ℕ). l ++ later) (sym (entered r d n v h)) ∙ e
 
-  one-visited : (d n v : ℕ) (later : List ℕ) (m : ℕ) → v < d → visit r d (range 0 n) v ++ later ≡ range 0 m
-      → visit r d (range 0 n) v ≡ range 0 (max n (suc v))
+  one-visited : (d n v : ℕ) (later : List ℕ) (m : ℕ) → v < d → visit (sourceInputs r) d (range 0 n) v ++ later ≡ range 0 m
+      → visit (sourceInputs r) d (range 0 n) v ≡ range 0 (max n (suc v))
   one-visited zero n v later m b e = absurd (not-suc-le-zero b)
   one-visited (suc d) n v later m b e = ⊎-elim
       (λ (t : ltb v n ≡ true).
@@ -82,33 +83,33 @@ module _ (r : Rule) where
       (λ (t : ltb v n ≡ false).
       let h : n ≤ v = ltb-false v n t in
       let same : max n (suc v) ≡ suc v = omega arith in
-      let before = prefix-next (foldl (visit r d) (range 0 n) (sourceInputs r v)) later v m (inputs-before d n v later m h e) in
+      let before = prefix-next (foldl (visit (sourceInputs r) d) (range 0 n) (sourceInputs r v)) later v m (inputs-before d n v later m h e) in
       rw same (entered r d n v h ∙ ap (λ (l : List ℕ). l ++ v ∷ []) before ∙ sym (range-more v)))
       (decided (ltb v n))
 
   -- the first of several visits is a visit that stays in order itself
-  first-visited : (d n u : ℕ) (us later : List ℕ) (m : ℕ) → foldl (visit r d) (range 0 n) (u ∷ us) ++ later ≡ range 0 m
-      → (rest : List ℕ) × (visit r d (range 0 n) u ++ rest ≡ range 0 m)
+  first-visited : (d n u : ℕ) (us later : List ℕ) (m : ℕ) → foldl (visit (sourceInputs r) d) (range 0 n) (u ∷ us) ++ later ≡ range 0 m
+      → (rest : List ℕ) × (visit (sourceInputs r) d (range 0 n) u ++ rest ≡ range 0 m)
   unfolding foldl
   first-visited d n u us later m e =
-      let others = foldl-appends (visit r d) (visit-appends d) us (visit r d (range 0 n) u) in (
+      let others = foldl-appends (visit (sourceInputs r) d) (visit-appends d) us (visit (sourceInputs r) d (range 0 n) u) in (
         others .0 ++ later,
-        sym (append-assoc (visit r d (range 0 n) u) (others .0) later) ∙ ap (λ (l : List ℕ). l ++ later) (sym (others .1)) ∙ e,
+        sym (append-assoc (visit (sourceInputs r) d (range 0 n) u) (others .0) later) ∙ ap (λ (l : List ℕ). l ++ later) (sym (others .1)) ∙ e,
       )
 
-  rest-visited : (d n u : ℕ) (us later : List ℕ) (m : ℕ) → u < d → foldl (visit r d) (range 0 n) (u ∷ us) ++ later ≡ range 0 m
-      → visit r d (range 0 n) u ≡ range 0 (max n (suc u))
+  rest-visited : (d n u : ℕ) (us later : List ℕ) (m : ℕ) → u < d → foldl (visit (sourceInputs r) d) (range 0 n) (u ∷ us) ++ later ≡ range 0 m
+      → visit (sourceInputs r) d (range 0 n) u ≡ range 0 (max n (suc u))
   rest-visited d n u us later m b e =
       let first = first-visited d n u us later m e in
       one-visited d n u (first .0) m b (first .1)
 
   all-visited : (d : ℕ) (us : List ℕ) (n : ℕ) (later : List ℕ) (m : ℕ) → ((u : ℕ) → List·Memᴰ u us → u < d)
-      → foldl (visit r d) (range 0 n) us ++ later ≡ range 0 m → foldl (visit r d) (range 0 n) us ≡ range 0 (visitedAfter n us)
+      → foldl (visit (sourceInputs r) d) (range 0 n) us ++ later ≡ range 0 m → foldl (visit (sourceInputs r) d) (range 0 n) us ≡ range 0 (visitedAfter n us)
   unfolding foldl visitedAfter
   all-visited d [] n later m deep e = refl
   all-visited d (u ∷ us) n later m deep e =
       let first = rest-visited d n u us later m (deep u (List·Memᴰ·head refl)) e in
-      let whole : foldl (visit r d) (range 0 (max n (suc u))) us ++ later ≡ range 0 m = rw first at e in
+      let whole : foldl (visit (sourceInputs r) d) (range 0 (max n (suc u))) us ++ later ≡ range 0 m = rw first at e in
       rw first (all-visited d us (max n (suc u)) later m (λ w k. deep w (List·Memᴰ·tail k)) whole)
 
 -- ---- the laws of a search that follows the traversal
@@ -125,7 +126,7 @@ module _ (r : Rule) (next : ℕ) where
         record { depth = o .depth; deep = first-deep; later = first .0; order = first .1 }
 
     -- a visit of the first one leaves all up to it visited
-    pub in-order-visits : visit r (o .depth) (range 0 next) u ≡ range 0 (max next (suc u))
+    pub in-order-visits : visit (sourceInputs r) (o .depth) (range 0 next) u ≡ range 0 (max next (suc u))
     in-order-visits = rest-visited r (o .depth) next u us (o .later) (length (r .source)) (o .deep u (List·Memᴰ·head refl)) (o .order)
 
     pub in-order-rest : InOrder r (max next (suc u)) us
@@ -140,7 +141,7 @@ module _ (r : Rule) (next : ℕ) where
   module _ (j : ℕ) (lower : (u : ℕ) → List·Memᴰ u (sourceInputs r j) → u < j) where
     -- a depth above j is one more than another, at which the inputs are visited
     inputs-visited : (d : ℕ) (later : List ℕ) → j < d
-        → foldl (visit r d) (range 0 next) (j ∷ []) ++ later ≡ range 0 (length (r .source)) → next ≤ j
+        → foldl (visit (sourceInputs r) d) (range 0 next) (j ∷ []) ++ later ≡ range 0 (length (r .source)) → next ≤ j
         → InOrder r next (sourceInputs r j) × (visitedAfter next (sourceInputs r j) ≡ j)
     unfolding foldl
     inputs-visited zero later b e h = absurd (not-suc-le-zero b)
@@ -148,7 +149,7 @@ module _ (r : Rule) (next : ℕ) where
         let deep : (u : ℕ) → List·Memᴰ u (sourceInputs r j) → u < d = λ u m. omega (arith, lower u m) in
         let before = inputs-before r d next j later (length (r .source)) h e in
         let counted = all-visited r d (sourceInputs r j) next (j ∷ later) (length (r .source)) deep before in
-        let here = prefix-next (foldl (visit r d) (range 0 next) (sourceInputs r j)) later j (length (r .source)) before in (
+        let here = prefix-next (foldl (visit (sourceInputs r) d) (range 0 next) (sourceInputs r j)) later j (length (r .source)) before in (
           record { depth = d; deep = deep; later = j ∷ later; order = before },
           sym (length-range (visitedAfter next (sourceInputs r j))) ∙ ap length (sym counted ∙ here) ∙ length-range j,
         )
@@ -163,7 +164,7 @@ module _ (r : Rule) (next : ℕ) where
 
 module _ (block : List ℕ) (sound : SoundRule block) where
   -- every source vertex is visited, in order, and nothing more
-  whole-order : foldl (visit (ruleOf block) (length (ruleOf block .source))) (range 0 0) (ruleOf block .sourceOutputs) ++ []
+  whole-order : foldl (visit (sourceInputs (ruleOf block)) (length (ruleOf block .source))) (range 0 0) (ruleOf block .sourceOutputs) ++ []
       ≡ range 0 (length (ruleOf block .source))
   unfolding traversal range tabulate
   whole-order = append-nil (traversal (ruleOf block)) ∙ sound .order ∙ ap (range 0) (sym (length-source block))
@@ -178,6 +179,6 @@ module _ (block : List ℕ) (sound : SoundRule block) where
   in-order-whole =
       let n : ℕ = length (ruleOf block .source) in
       let counted = all-visited (ruleOf block) n (ruleOf block .sourceOutputs) 0 [] n outputs-deep whole-order in
-      let made : List ℕ = foldl (visit (ruleOf block) n) (range 0 0) (ruleOf block .sourceOutputs) in
+      let made : List ℕ = foldl (visit (sourceInputs (ruleOf block)) n) (range 0 0) (ruleOf block .sourceOutputs) in
       sym (length-range (visitedAfter 0 (ruleOf block .sourceOutputs)))
       ∙ ap length (sym counted ∙ sym (append-nil made) ∙ whole-order) ∙ length-range n

@@ -14,7 +14,8 @@ use lib.Dec.{ltb}
 use lib.ListN.{length, getD, drop, drop-of-length-le, List·getD-append, List·getD-eq-default}
 use lib.Seq.{getD-at, drop-cons}
 use Rattle.definitions.specs.Lists.{lowest, tabulate, foldl, member, range}
-use Rattle.definitions.specs.Rule.{Rule, sourceCount, ruleOutputCount, ruleOf, sourceInputs, visit, traversal, outOfOrder}
+use Rattle.definitions.specs.Paths.{visit}
+use Rattle.definitions.specs.Rule.{Rule, sourceCount, ruleOutputCount, ruleOf, sourceInputs, traversal, outOfOrder}
 use Rattle.laws.proofs.Lists.{decided, true-not-false, lowest-none, lowest-found}
 use Rattle.laws.proofs.Members.{mem-member, no-member, mem-range, range-mem}
 use Rattle.laws.proofs.Ranges.{length-range, range-at, range-more}
@@ -46,41 +47,41 @@ foldl-keeps P f keeps [] done h = h
 foldl-keeps P f keeps (v ∷ vs) done h = foldl-keeps P f keeps vs (f done v) (keeps done v h)
 
 module _ (r : Rule) where
-  visit-keeps : {j : ℕ} (d : ℕ) (done : List ℕ) (v : ℕ) → DiffersAt done j → DiffersAt (visit r d done v) j
+  visit-keeps : {j : ℕ} (d : ℕ) (done : List ℕ) (v : ℕ) → DiffersAt done j → DiffersAt (visit (sourceInputs r) d done v) j
   unfolding visit
   visit-keeps zero done v h = h
   visit-keeps {j} (suc d) done v h = ⊎-elim
       (λ (t : member v done ≡ true). rw t h)
       (λ (t : member v done ≡ false). rw t
-      (differs-more (v ∷ []) (foldl-keeps (λ (l : List ℕ). DiffersAt l j) (visit r d) (visit-keeps d) (sourceInputs r v) done h)))
+      (differs-more (v ∷ []) (foldl-keeps (λ (l : List ℕ). DiffersAt l j) (visit (sourceInputs r) d) (visit-keeps d) (sourceInputs r v) done h)))
       (decided (member v done))
 
   -- ---- one vertex
 
-  pub passed : (d n v : ℕ) → v < n → visit r (suc d) (range 0 n) v ≡ range 0 n
+  pub passed : (d n v : ℕ) → v < n → visit (sourceInputs r) (suc d) (range 0 n) v ≡ range 0 n
   unfolding visit
   passed d n v h = rw (visited v n h)
 
-  pub entered : (d n v : ℕ) → n ≤ v → visit r (suc d) (range 0 n) v ≡ foldl (visit r d) (range 0 n) (sourceInputs r v) ++ v ∷ []
+  pub entered : (d n v : ℕ) → n ≤ v → visit (sourceInputs r) (suc d) (range 0 n) v ≡ foldl (visit (sourceInputs r) d) (range 0 n) (sourceInputs r v) ++ v ∷ []
   unfolding visit
   entered d n v h = rw (unvisited v n h)
 
   -- ---- a list of vertices, from place i on
 
   module _ (d : ℕ) (vs : List ℕ) (i : ℕ) where
-    none-left : (done : List ℕ) → length vs ≤ i → foldl (visit r d) done (drop i vs) ≡ done
+    none-left : (done : List ℕ) → length vs ≤ i → foldl (visit (sourceInputs r) d) done (drop i vs) ≡ done
     unfolding foldl
     none-left done h = rw (drop-of-length-le vs h)
 
     one-first : (done : List ℕ) (u : ℕ) → i < length vs → u ≡ getD vs i 255
-        → foldl (visit r d) done (drop i vs) ≡ foldl (visit r d) (visit r d done u) (drop (i + 1) vs)
+        → foldl (visit (sourceInputs r) d) done (drop i vs) ≡ foldl (visit (sourceInputs r) d) (visit (sourceInputs r) d done u) (drop (i + 1) vs)
     unfolding foldl
     one-first done u h e = rw (drop-cons vs i 255 h, ← e, add-one)
 
-    one-wrong : {j : ℕ} (n u : ℕ) → i < length vs → u ≡ getD vs i 255 → DiffersAt (visit r d (range 0 n) u) j
-        → DiffersAt (foldl (visit r d) (range 0 n) (drop i vs)) j
+    one-wrong : {j : ℕ} (n u : ℕ) → i < length vs → u ≡ getD vs i 255 → DiffersAt (visit (sourceInputs r) d (range 0 n) u) j
+        → DiffersAt (foldl (visit (sourceInputs r) d) (range 0 n) (drop i vs)) j
     one-wrong {j} n u h e l = rw (one-first (range 0 n) u h e)
-        (foldl-keeps (λ (xs : List ℕ). DiffersAt xs j) (visit r d) (visit-keeps d) (drop (i + 1) vs) (visit r d (range 0 n) u) l)
+        (foldl-keeps (λ (xs : List ℕ). DiffersAt xs j) (visit (sourceInputs r) d) (visit-keeps d) (drop (i + 1) vs) (visit (sourceInputs r) d (range 0 n) u) l)
 
 -- ---- what the code's functions give
 
@@ -92,8 +93,8 @@ wrong-count f h = record { right = λ t. absurd (true-not-false t f); wrong = λ
 
 module _ (block : List ℕ) (v next : ℕ) (fits : next ≤ sourceCount block) where
   -- a depth above v is one more than another
-  above : {ok : Bool} {after : ℕ} → ((d : ℕ) → v ≤ d → Counts (visit (ruleOf block) (suc d) (range 0 next) v) ok after)
-      → (d : ℕ) → v < d → Counts (visit (ruleOf block) d (range 0 next) v) ok after
+  above : {ok : Bool} {after : ℕ} → ((d : ℕ) → v ≤ d → Counts (visit (sourceInputs (ruleOf block)) (suc d) (range 0 next) v) ok after)
+      → (d : ℕ) → v < d → Counts (visit (sourceInputs (ruleOf block)) d (range 0 next) v) ok after
   above h zero l = absurd (not-suc-le-zero l)
   above h (suc d) l = h d (le-of-suc-le-suc l)
 
@@ -196,7 +197,7 @@ module _ (r : Rule) (j : ℕ) (small : j ≤ length (r .source)) where
 -- where i outputs are visited and no vertex is out of order, the other outputs complete the traversal
 abbrev pub Continues : List ℕ → ℕ → ℕ → Type 0
 Continues block i next =
-    foldl (visit (ruleOf block) (sourceCount block)) (range 0 next) (drop i (ruleOf block .sourceOutputs)) ≡ traversal (ruleOf block)
+    foldl (visit (sourceInputs (ruleOf block)) (sourceCount block)) (range 0 next) (drop i (ruleOf block .sourceOutputs)) ≡ traversal (ruleOf block)
 
 pub outputs-begin : (block : List ℕ) → Continues block 0 0
 unfolding traversal range tabulate

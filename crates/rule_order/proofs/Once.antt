@@ -8,8 +8,8 @@ use Prim.Native.Nat.{ℕ, zero, suc, _<_, _≤_}
 use native.Mathlib.Omega.{arith}
 use lib.ListN.{length}
 use Rattle.definitions.specs.Lists.{foldl, member, distinct}
-use Rattle.definitions.specs.Paths.{Reads}
-use Rattle.definitions.specs.Rule.{Rule, sourceInputs, visit, traversal}
+use Rattle.definitions.specs.Paths.{Reads, visit}
+use Rattle.definitions.specs.Rule.{Rule, sourceInputs, traversal}
 use Rattle.laws.proofs.Lists.{decided, true-not-false}
 use Rattle.laws.proofs.Members.{mem-member, distinct-last}
 use Rattle.laws.proofs.Sums.{distinct-few}
@@ -45,12 +45,12 @@ module _ (n : ℕ) (f : List ℕ → ℕ → List ℕ) (one : (done : List ℕ) 
       }
 
 module _ (r : Rule) (lower : (j u : ℕ) → Reads (sourceInputs r) j u → u < j) (n : ℕ) where
-  visit-adds : (d : ℕ) (done : List ℕ) (v : ℕ) → v < n → Once n done → Adds n (suc v) done (visit r d done v)
+  visit-adds : (d : ℕ) (done : List ℕ) (v : ℕ) → v < n → Once n done → Adds n (suc v) done (visit (sourceInputs r) d done v)
   unfolding visit
   visit-adds zero done v l once = record { once = once; lower = λ w m. inl m }
   visit-adds (suc d) done v l once = ⊎-elim
       (λ (t : member v done ≡ true). rw t (record { once = once; lower = λ w m. inl m }))
-      (λ (t : member v done ≡ false). rw t (entered (each-adds n (visit r d) (visit-adds d) v (omega arith) (sourceInputs r v) done (lower v) once) t))
+      (λ (t : member v done ≡ false). rw t (entered (each-adds n (visit (sourceInputs r) d) (visit-adds d) v (omega arith) (sourceInputs r v) done (lower v) once) t))
       (decided (member v done))
     where
       entered : {after : List ℕ} → Adds n v done after → member v done ≡ false → Adds n (suc v) done (after ++ v ∷ [])
@@ -80,6 +80,6 @@ pub traversal-few : (r : Rule) → ((j u : ℕ) → Reads (sourceInputs r) j u �
 unfolding traversal distinct
 traversal-few r lower outputs =
     let n = length (r .source) in
-    let all = each-adds n (visit r n) (visit-adds r lower n n) n (omega arith) (r .sourceOutputs) [] outputs
+    let all = each-adds n (visit (sourceInputs r) n) (visit-adds r lower n n) n (omega arith) (r .sourceOutputs) [] outputs
     (record { apart = refl; inside = λ w m. absurd (List·Memᴰ·not-nil m) }) in
     distinct-few n (traversal r) (all .once .apart) (all .once .inside)

@@ -6,7 +6,8 @@ use mathlib.Core.List.{List, _∷_, _++_}
 use Prim.Native.Nat.{ℕ, _<_, _≤_}
 use lib.ListN.{drop}
 use Rattle.definitions.specs.Lists.{foldl, range}
-use Rattle.definitions.specs.Rule.{sourceCount, ruleOf, sourceInputs, visit}
+use Rattle.definitions.specs.Paths.{visit}
+use Rattle.definitions.specs.Rule.{sourceCount, ruleOf, sourceInputs}
 use Rattle.rule_fields.specs.Layout.{LayeredRule}
 
 -- v is a source vertex, its inputs and theirs are lower, and no more vertices are visited than there are.
@@ -29,10 +30,10 @@ pub record Counts (done : List ℕ) (ok : Bool) (next : ℕ) : Type 0 where
 
 -- The depth d is the definition's; above v, it is enough, whatever it is.
 pub record Visits (block : List ℕ) (v next : ℕ) (ok : Bool) (after : ℕ) : Type 0 where
-  pub counts : (d : ℕ) → v < d → Counts (visit (ruleOf block) d (range 0 next) v) ok after
+  pub counts : (d : ℕ) → v < d → Counts (visit (sourceInputs (ruleOf block)) d (range 0 next) v) ok after
   pub small : after ≤ sourceCount block
 
 -- the same of the inputs of v from place i on
 pub record VisitsInputs (block : List ℕ) (v i next : ℕ) (ok : Bool) (after : ℕ) : Type 0 where
-  pub counts : (d : ℕ) → v ≤ d → Counts (foldl (visit (ruleOf block) d) (range 0 next) (drop i (sourceInputs (ruleOf block) v))) ok after
+  pub counts : (d : ℕ) → v ≤ d → Counts (foldl (visit (sourceInputs (ruleOf block)) d) (range 0 next) (drop i (sourceInputs (ruleOf block) v))) ok after
   pub small : after ≤ sourceCount block

@@ -5,9 +5,9 @@ use Rattle.definitions.specs.Lists.{allBelow, anyBelow, lowest, total, count, t
 use Rattle.definitions.specs.Fields.{u16At, u32At, filled, markFits, signed, wordOf, u16Bytes, u32Bytes}
 use Rattle.definitions.specs.Operators.{operators, countsOf, kinds, rowOf, shapeFits}
 use Rattle.definitions.specs.Reply.{answered, refusalAt, flag, place, judged, firstRefusal, whereDone}
-use Rattle.definitions.specs.Paths.{grown, grownBy, reaching, onCycle}
+use Rattle.definitions.specs.Paths.{grown, grownBy, reaching, onCycle, visit}
 use Rattle.definitions.specs.Graph.{emptySlot, renamed, slotFrom, graphOf, slotOf, isVertex, readsOf, trueCount, countTail, slotBlock, headerBlock, blockAs, outputPlacesFit, headerFits, atLeastOne, zerosOffset, recordFits, badRecord, badInputs, badOutput, lowestOnCycle, hasCycle, badCount, nameFaults, cycleFaults, faultsAs, countFaults, replyAs, graphReply}
-use Rattle.definitions.specs.Rule.{originOf, operations, nodeFrom, expressions, expressionOf, patternFrom, ruleOf, wildcard, sourceOf, targetOf, inputKind, isRuleInput, ruleSizesFit, ruleOutputPlacesFit, ruleHeaderFits, patternFits, originFits, sourceInputsFit, targetInputsFit, badVertex, visit, traversal, outOfOrder, reached, reaches, sourceOutputsFit, connected, sameOrigin, named, allNamed, outputsFit, operandFits, nodeFits, badNode, accessesBelow, useFits, badUse, ruleFaults, ruleReply}
+use Rattle.definitions.specs.Rule.{originOf, operations, nodeFrom, expressions, expressionOf, patternFrom, ruleOf, wildcard, sourceOf, targetOf, inputKind, isRuleInput, ruleSizesFit, ruleOutputPlacesFit, ruleHeaderFits, patternFits, originFits, sourceInputsFit, targetInputsFit, badVertex, traversal, outOfOrder, reached, reaches, sourceOutputsFit, connected, sameOrigin, named, allNamed, outputsFit, operandFits, nodeFits, badNode, accessesBelow, useFits, badUse, ruleFaults, ruleReply, sourceInputs}
 use Rattle.definitions.specs.Attributes.{inRange, fit, quotient, isZero, operate, combine, result, sameNumber, gives, agrees}
 use Rattle.definitions.specs.Match.{imageOf, attributeOf, readAttribute, isInterior, isConst, mustBePrivate, imagesWhere, innerImages, takes, isPrivate, isMatch, fromReader, imagesFrom, imagesFor, choicesOf, choices, attempt, leastMatch}
 use Rattle.definitions.specs.Rewriting.{results, indexFits, vertexResults, targetResults, goes, isRemoved, stays, freeSlots, placeOf, resolve, hasRoom, redirect, targetSlot, stayingSlot, newSlot, newGraph}

@@ -16,8 +16,8 @@ use Rattle.definitions.specs.Lists.{foldl, member, position}
 use Rattle.definitions.specs.Fields.{byteAt}
 use Rattle.definitions.specs.Operators.{kindEmpty, kinds, rowOf}
 use Rattle.definitions.specs.Graph.{unusedPlace, Graph, inputsOf}
-use Rattle.definitions.specs.Paths.{Reads}
-use Rattle.definitions.specs.Rule.{sideLimit, sourceCount, vertexAt, Pattern, Rule, ruleOf, wildcard, sourceOf, sourceInputs, visit, traversal, SoundRule}
+use Rattle.definitions.specs.Paths.{Reads, visit}
+use Rattle.definitions.specs.Rule.{sideLimit, sourceCount, vertexAt, Pattern, Rule, ruleOf, wildcard, sourceOf, sourceInputs, traversal, SoundRule}
 use Rattle.definitions.specs.Match.{imageOf, Match, outputImages, fromReader, imagesFrom, imagesFor}
 use Rattle.laws.proofs.Lists.{decided, true-not-false, length-none}
 use Rattle.laws.proofs.Rule.{source-reader, length-source, length-source-outputs, source-kind-at, source-count-at, some-rule-outputs, pattern-shape, outputs-below, inputs-lower}
@@ -143,12 +143,12 @@ fold-every P f step (u ∷ us) done next before =
 
 -- and of all that one visit adds
 pub visit-every : (r : Rule) (P : ℕ → Type 0) → ((w u : ℕ) → Reads (sourceInputs r) w u → P u) → (d : ℕ) (done : List ℕ) (v : ℕ)
-    → P v → Every P done → Every P (visit r d done v)
+    → P v → Every P done → Every P (visit (sourceInputs r) d done v)
 unfolding visit
 visit-every r P inputs zero done v here before = before
 visit-every r P inputs (suc d) done v here before =
-    let after : List ℕ = foldl (visit r d) done (sourceInputs r v) in
-    let among : Every P after = fold-every P (visit r d) (visit-every r P inputs d) (sourceInputs r v) done (inputs v) before in
+    let after : List ℕ = foldl (visit (sourceInputs r) d) done (sourceInputs r v) in
+    let among : Every P after = fold-every P (visit (sourceInputs r) d) (visit-every r P inputs d) (sourceInputs r v) done (inputs v) before in
     let then : Every P (after ++ v ∷ []) = λ x m. ⊎-elim (λ (k : List·Memᴰ x after). among x k)
     (λ (k : List·Memᴰ x (v ∷ [])). subst P (sym (List·Memᴰ·eq-of-singleton k)) here) (List·Memᴰ·append-cases after m) in
     ⊎-elim (λ (t : member v done ≡ true). rw t before) (λ (t : member v done ≡ false). rw t then) (decided (member v done))
@@ -156,7 +156,7 @@ visit-every r P inputs (suc d) done v here before =
 -- every vertex that is visited is an output or is read by a vertex
 traversal-every : (r : Rule) → Every (λ v. (member v (r .sourceOutputs) ≡ true) ⊎ ((w : ℕ) × Reads (sourceInputs r) w v)) (traversal r)
 unfolding traversal
-traversal-every r = fold-every Used (visit r n) (visit-every r Used (λ w u m. inr (w, m)) n) (r .sourceOutputs) []
+traversal-every r = fold-every Used (visit (sourceInputs r) n) (visit-every r Used (λ w u m. inr (w, m)) n) (r .sourceOutputs) []
     (λ o m. inl (mem-member m)) (λ x m. absurd (List·Memᴰ·not-nil m))
   where
     Used : ℕ → Type 0

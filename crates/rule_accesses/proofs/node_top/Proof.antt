@@ -3,9 +3,9 @@
 use Prim.Native.Nat.{_<_}
 use native.Mathlib.Omega.{arith}
 use borrow.Author.Tests.{lt-ltb, le-ltb, eq-eqb, ne-eqb}
-use Rattle.definitions.specs.Rule.{formAccess, nodeForm}
+use Rattle.definitions.specs.Rule.{formAccess, formIndex, formSum, nodeForm}
 use Rattle.rule_accesses.specs.Access.{topFrom}
-use Rattle.rule_nodes.proofs.Operands.{left-earlier, right-earlier}
+use Rattle.rule_nodes.proofs.Operands.{few-forms, left-earlier, right-earlier}
 use borrow.Author.Needs.{needs}
 use Rattle.rule_accesses.proofs.node_top.Statement.{statement}
 use Rattle.rule_accesses.proofs.node_top.Tie as tie
@@ -72,12 +72,18 @@ returns-3 c =
     let e1 = e2 .before in
     let right = e1 .before in
     let left = right .before in
+    let s = start e2 in
+    let few = few-forms (s .args .rule .now) (s .args .k) (s .pre .1 .1) (operation e2) in
+    let form = nodeForm (s .args .rule .now) (s .args .k) in
+    let read = left .before .node-form .ensures .0 in
     simp (
       ← left .before .node-form .ensures .0,
       ← left .node-byte .ensures .0,
       ← right .node-byte2 .ensures .0,
       le-ltb _ 2 (e1 .if1 .left),
       ne-eqb _ 2 (e2 .if2 .left),
+      rw (← read) at (ne-eqb form formIndex (λ h. omega arith)),
+      rw (← read) at (ne-eqb form formSum (λ h. omega arith)),
     ) (c .greater .ensures)
 
 pub node-top-spec : {M : Type 1} → statement M
