@@ -35,7 +35,7 @@ pub record Site (g : Graph) (r : Rule) (images : List ℕ) : Type 0 where
   pub room : hasRoom g r images ≡ true
 
 -- an output's kind is 3, 4 or 5, so it is no Const
-output-other : (r : Rule) → sourceOutputsFit r ≡ true → (o : ℕ) → List·Memᴰ o (r .sourceOutputs) → isConst r o ≡ false
+pub output-other : (r : Rule) → sourceOutputsFit r ≡ true → (o : ℕ) → List·Memᴰ o (r .sourceOutputs) → isConst r o ≡ false
 unfolding sourceOutputsFit isConst
 output-other r fits o m =
     let kind : ℕ = sourceOf r o .kind in

@@ -7,24 +7,23 @@ use mathlib.Core.List.{List, List·Memᴰ}
 use mathlib.Core.Logic.{⊎-elim}
 use Prim.Native.Nat.{ℕ, _+_, _-_, _<_, _≤_}
 use native.Mathlib.Omega.{arith}
-use borrow.Author.Tests.{eqb-true, lt-ltb, le-ltb, ltb-true, ltb-false, not-true, not-false}
-use lib.Dec.{eqb, ltb}
-use lib.ListN.{length, getD, List·getD-eq-default}
-use lib.Seq.{ext-getD}
+use borrow.Author.Tests.{lt-ltb, le-ltb, ltb-true, ltb-false, not-true}
+use lib.Dec.{ltb}
+use lib.ListN.{length, getD}
 use Rattle.definitions.specs.declared.Reply.{Reply}
 use Rattle.definitions.specs.Lists.{lowest, all, allBelow, range}
 use Rattle.definitions.specs.Fields.{byteAt}
 use Rattle.definitions.specs.Paths.{Reads}
 use Rattle.definitions.specs.Reply.{badRuleRecord, badRuleOrder, badRuleExpression, done, refusedAt}
 use Rattle.definitions.specs.Rule.{sideLimit, sourceCount, targetCount, nodeCount, vertexAt, Rule, ruleOf, sourceInputs, ruleHeaderFits, originFits, sourceInputsFit, targetInputsFit, badVertex, traversal, outOfOrder, reaches, sourceOutputsFit, connected, allNamed, outputsFit, nodeFits, badNode, useFits, badUse, ruleReply, GoodOutputs, SoundRule}
-use Rattle.definitions.specs.Faults.{None, BadVertex, VisitedInOrder, Misplaced, BadNode, BadUse, RuleFault, header, vertex, order, outputs, node, attribute}
+use Rattle.definitions.specs.Faults.{None, BadVertex, Misplaced, BadNode, BadUse, RuleFault, header, vertex, order, outputs, node, attribute}
 use Rattle.laws.proofs.Lists.{decided, passes, fails, true-not-false, needed, all-member, all-members, allBelow-at, allBelow-some, anyBelow-found, anyBelow-some, getD-any}
 use Rattle.laws.proofs.Faults.{by-place, Decides, found-lowest, found-none, lowest-is, lowest-inside, none-found, Ruling, good, bad, Judges, done-only, done-every}
 use Rattle.laws.proofs.Ranges.{length-range, range-at}
 use Rattle.laws.proofs.Rule.{length-source, length-target, outputs-below, inputs-lower}
 use Rattle.rule_connection.proofs.Reached.{reached-path, path-reached}
-use Rattle.rule_order.proofs.Laws.{in-place, out-of-place}
-use Rattle.rule_order.proofs.Once.{traversal-few}
+use Rattle.rule_order.proofs.Laws.{in-place}
+use Rattle.rule_order.proofs.Once.{visited-in-order, traversal-whole}
 use Rattle.rule_check.proofs.Laws as laws
 
 module _ (block : List ℕ) where
@@ -59,17 +58,10 @@ module _ (block : List ℕ) where
       count : ℕ → ℕ
       count v = byteAt block (vertexAt v + 3)
 
-  -- where the traversal visits each vertex in its place, and where it does not
-  in-order : (j : ℕ) → j < sourceCount block → getD (traversal r) j (length (r .source)) ≡ j → VisitedInOrder r j
-  in-order j l e =
-      let inside : j < length (traversal r) = by-place (length (traversal r)) j (λ l. l)
-      (λ past. absurd (omega (arith, length-source block, sym e ∙ List·getD-eq-default (traversal r) (length (r .source)) past))) in
-      (inside, getD-any (traversal r) j 0 (length (r .source)) inside ∙ e)
-
   order-decided : Decides (outOfOrder r) (sourceCount block) (Misplaced block)
   order-decided = record {
     only = λ j l t. (l, λ seen. true-not-false t (in-place r j (getD-any (traversal r) j (length (r .source)) 0 (seen .0) ∙ seen .1)));
-    every = λ j b. (b .0, out-of-place r j (λ e. b .1 (in-order j (b .0) e)));
+    every = λ j b. (b .0, passes (λ f. b .1 (visited-in-order r j (rw (length-source block) (b .0)) f)));
   }
 
   -- ---- where no vertex is bad
@@ -98,19 +90,10 @@ module _ (block : List ℕ) where
 
     -- the traversal is 0, 1, .. S - 1 where no vertex is misplaced
     ordered : None (Misplaced block) → traversal r ≡ range 0 (sourceCount block)
-    unfolding outOfOrder
     ordered none =
-        let s = length (r .source) in
-        let each : (j : ℕ) → j < sourceCount block → getD (traversal r) j s ≡ j =
-        λ j l. eqb-true _ _ (not-false (eqb (getD (traversal r) j s) j)
-        (fails {b = outOfOrder r j} (λ t. none j (order-decided .only j l t)))) in
-        let whole : length (traversal r) ≡ sourceCount block = by-place (sourceCount block) (length (traversal r))
-        (λ short. absurd (omega (arith, in-order (length (traversal r)) short (each (length (traversal r)) short) .0)))
-        (λ long. omega (arith, traversal-few r lower output-inside, length-source block)) in
-        ext-getD 0 (traversal r) (range 0 (sourceCount block)) (whole ∙ sym (length-range (sourceCount block)))
-        (λ j l.
-        let below : j < sourceCount block = omega (arith, whole) in
-        in-order j below (each j below) .1 ∙ sym (range-at (sourceCount block) j 0 below))
+        traversal-whole r lower output-inside
+        (λ j l. fails {b = outOfOrder r j} (λ t. none j (order-decided .only j (rw (length-source block) at l) t)))
+        ∙ ap (range 0) (length-source block)
 
     good-outputs : outputsFit r ≡ true → GoodOutputs block
     unfolding outputsFit connected

@@ -160,25 +160,37 @@ module _ (r : Rule) (next : ℕ) where
     pub in-order-here : InOrder r next (j ∷ []) → next ≤ j → visitedAfter next (sourceInputs r j) ≡ j
     in-order-here o h = inputs-visited (o .depth) (o .later) (o .deep j (List·Memᴰ·head refl)) (o .order) h .1
 
--- ---- the outputs of a sound rule, from the beginning
+-- ---- the outputs of a rule in visiting order, from the beginning
+
+module _ (r : Rule) (order : traversal r ≡ range 0 (length (r .source)))
+    (inside : (u : ℕ) → List·Memᴰ u (r .sourceOutputs) → u < length (r .source)) where
+  -- every source vertex is visited, in order, and nothing more
+  whole-order : foldl (visit (sourceInputs r) (length (r .source))) (range 0 0) (r .sourceOutputs) ++ [] ≡ range 0 (length (r .source))
+  unfolding traversal range tabulate
+  whole-order = append-nil (traversal r) ∙ order
+
+  pub start-in-order : InOrder r 0 (r .sourceOutputs)
+  start-in-order = record { depth = length (r .source); deep = inside; later = []; order = whole-order }
+
+  pub whole-in-order : visitedAfter 0 (r .sourceOutputs) ≡ length (r .source)
+  whole-in-order =
+      let n : ℕ = length (r .source) in
+      let counted = all-visited r n (r .sourceOutputs) 0 [] n inside whole-order in
+      let made : List ℕ = foldl (visit (sourceInputs r) n) (range 0 0) (r .sourceOutputs) in
+      sym (length-range (visitedAfter 0 (r .sourceOutputs)))
+      ∙ ap length (sym counted ∙ sym (append-nil made) ∙ whole-order) ∙ length-range n
+
+-- ---- the rule of a sound block
 
 module _ (block : List ℕ) (sound : SoundRule block) where
-  -- every source vertex is visited, in order, and nothing more
-  whole-order : foldl (visit (sourceInputs (ruleOf block)) (length (ruleOf block .source))) (range 0 0) (ruleOf block .sourceOutputs) ++ []
-      ≡ range 0 (length (ruleOf block .source))
-  unfolding traversal range tabulate
-  whole-order = append-nil (traversal (ruleOf block)) ∙ sound .order ∙ ap (range 0) (sym (length-source block))
+  in-order : traversal (ruleOf block) ≡ range 0 (length (ruleOf block .source))
+  in-order = sound .order ∙ ap (range 0) (sym (length-source block))
 
-  outputs-deep : (u : ℕ) → List·Memᴰ u (ruleOf block .sourceOutputs) → u < length (ruleOf block .source)
-  outputs-deep u m = rw (length-source block) (outputs-below block sideLimit (sound .header) u m)
+  outputs-inside : (u : ℕ) → List·Memᴰ u (ruleOf block .sourceOutputs) → u < length (ruleOf block .source)
+  outputs-inside u m = rw (length-source block) (outputs-below block sideLimit (sound .header) u m)
 
   pub in-order-start : InOrder (ruleOf block) 0 (ruleOf block .sourceOutputs)
-  in-order-start = record { depth = length (ruleOf block .source); deep = outputs-deep; later = []; order = whole-order }
+  in-order-start = start-in-order (ruleOf block) in-order outputs-inside
 
   pub in-order-whole : visitedAfter 0 (ruleOf block .sourceOutputs) ≡ length (ruleOf block .source)
-  in-order-whole =
-      let n : ℕ = length (ruleOf block .source) in
-      let counted = all-visited (ruleOf block) n (ruleOf block .sourceOutputs) 0 [] n outputs-deep whole-order in
-      let made : List ℕ = foldl (visit (sourceInputs (ruleOf block)) n) (range 0 0) (ruleOf block .sourceOutputs) in
-      sym (length-range (visitedAfter 0 (ruleOf block .sourceOutputs)))
-      ∙ ap length (sym counted ∙ sym (append-nil made) ∙ whole-order) ∙ length-range n
+  in-order-whole = whole-in-order (ruleOf block) in-order outputs-inside

@@ -157,7 +157,7 @@ module _ (r : Rule) where
   unfolding outOfOrder
   in-place k e = simp (eq-eqb (getD (traversal r) k (length (r .source))) k e)
 
-  pub out-of-place : (k : ℕ) → (getD (traversal r) k (length (r .source)) ≡ k → ⊥) → outOfOrder r k ≡ true
+  out-of-place : (k : ℕ) → (getD (traversal r) k (length (r .source)) ≡ k → ⊥) → outOfOrder r k ≡ true
   unfolding outOfOrder
   out-of-place k h = simp (ne-eqb (getD (traversal r) k (length (r .source))) k h)
 

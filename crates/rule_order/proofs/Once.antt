@@ -1,17 +1,24 @@
--- Each vertex is visited once, so that the traversal visits no more vertices than there are.
+-- Each vertex is visited once, so that the traversal visits no more vertices than there are; so where none is out of order, it visits
+-- them all, in order.
 -- Assumes nothing.
-use mathlib.Core.Path.{_≡_, refl}
+use mathlib.Core.Path.{_≡_, refl, sym, _∙_}
 use mathlib.Core.Bool.{true, false}
 use mathlib.Core.List.{List, [], _∷_, _++_, List·Memᴰ, List·Memᴰ·head, List·Memᴰ·tail, List·Memᴰ·not-nil, List·Memᴰ·eq-of-singleton, List·Memᴰ·append-cases}
 use mathlib.Core.Logic.{_⊎_, inl, inr, ⊎-elim}
 use Prim.Native.Nat.{ℕ, zero, suc, _<_, _≤_}
 use native.Mathlib.Omega.{arith}
-use lib.ListN.{length}
-use Rattle.definitions.specs.Lists.{foldl, member, distinct}
+use borrow.Author.Tests.{eqb-true, not-false}
+use lib.Dec.{eqb}
+use lib.ListN.{length, getD, List·getD-eq-default}
+use lib.Seq.{ext-getD}
+use Rattle.definitions.specs.Lists.{foldl, member, distinct, range}
 use Rattle.definitions.specs.Paths.{Reads, visit}
-use Rattle.definitions.specs.Rule.{Rule, sourceInputs, traversal}
-use Rattle.laws.proofs.Lists.{decided, true-not-false}
+use Rattle.definitions.specs.Rule.{Rule, sourceInputs, traversal, outOfOrder}
+use Rattle.definitions.specs.Faults.{VisitedInOrder}
+use Rattle.laws.proofs.Faults.{by-place}
+use Rattle.laws.proofs.Lists.{decided, true-not-false, getD-any}
 use Rattle.laws.proofs.Members.{mem-member, distinct-last}
+use Rattle.laws.proofs.Ranges.{length-range, range-at}
 use Rattle.laws.proofs.Sums.{distinct-few}
 
 -- no vertex comes twice, and all are below n
@@ -83,3 +90,27 @@ traversal-few r lower outputs =
     let all = each-adds n (visit (sourceInputs r) n) (visit-adds r lower n n) n (omega arith) (r .sourceOutputs) [] outputs
     (record { apart = refl; inside = λ w m. absurd (List·Memᴰ·not-nil m) }) in
     distinct-few n (traversal r) (all .once .apart) (all .once .inside)
+
+module _ (r : Rule) where
+  -- a source vertex that is in its place is visited there: past the traversal's end no vertex stands
+  pub visited-in-order : (j : ℕ) → j < length (r .source) → outOfOrder r j ≡ false → VisitedInOrder r j
+  unfolding outOfOrder
+  visited-in-order j l f =
+      let s = length (r .source) in
+      let here : getD (traversal r) j s ≡ j = eqb-true _ _ (not-false (eqb (getD (traversal r) j s) j) f) in
+      let inside : j < length (traversal r) = by-place (length (traversal r)) j (λ l. l)
+      (λ past. absurd (omega (arith, sym here ∙ List·getD-eq-default (traversal r) s past))) in
+      (inside, getD-any (traversal r) j 0 s inside ∙ here)
+
+  -- Where none is out of order, the traversal is 0, 1, .. S - 1.
+  pub traversal-whole : ((j u : ℕ) → Reads (sourceInputs r) j u → u < j)
+      → ((o : ℕ) → List·Memᴰ o (r .sourceOutputs) → o < length (r .source))
+      → ((j : ℕ) → j < length (r .source) → outOfOrder r j ≡ false) → traversal r ≡ range 0 (length (r .source))
+  traversal-whole lower outputs each =
+      let s = length (r .source) in
+      let seen : (j : ℕ) → j < s → VisitedInOrder r j = λ j l. visited-in-order j l (each j l) in
+      let whole : length (traversal r) ≡ s = by-place s (length (traversal r))
+      (λ short. absurd (omega (arith, seen (length (traversal r)) short .0)))
+      (λ long. omega (arith, traversal-few r lower outputs)) in
+      ext-getD 0 (traversal r) (range 0 s) (whole ∙ sym (length-range s))
+      (λ j l. let below : j < s = omega (arith, whole) in seen j below .1 ∙ sym (range-at s j 0 below))

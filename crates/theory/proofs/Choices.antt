@@ -75,11 +75,11 @@ sorted-range from to = sorted-tabulate (to - from) (λ i. from + i) (λ i j l. o
 -- ---- the first success
 
 module _ {A B : Type 0} (f : A → Option B) where
-  first-none : (x : A) (xs : List A) → f x ≡ none → firstSome f (x ∷ xs) ≡ firstSome f xs
+  pub first-none : (x : A) (xs : List A) → f x ≡ none → firstSome f (x ∷ xs) ≡ firstSome f xs
   unfolding firstSome
   first-none x xs e = rw (e, firstSome)
 
-  first-some : (x : A) (xs : List A) {b : B} → f x ≡ some b → firstSome f (x ∷ xs) ≡ some b
+  pub first-some : (x : A) (xs : List A) {b : B} → f x ≡ some b → firstSome f (x ∷ xs) ≡ some b
   unfolding firstSome
   first-some x xs e = rw (e, firstSome)
 

@@ -36,7 +36,7 @@ pub record Fixing (r : Rule) : Type 0 where
 -- ---- the image of a vertex that is no output, from its first reader
 
 module _ (g : Graph) (f : ℕ → ℕ) (v : ℕ) where
-  from-reader : (ps : List (Pattern ℕ)) (ws : List ℕ) → length ps ≡ length ws
+  pub from-reader : (ps : List (Pattern ℕ)) (ws : List ℕ) → length ps ≡ length ws
       → ((i : ℕ) → i < length ps → member v (getD ps i wildcard .inputs) ≡ true
       → inputsOf g (getD ws i unusedPlace) ≡ map f (getD ps i wildcard .inputs))
       → (i : ℕ) → i < length ps → member v (getD ps i wildcard .inputs) ≡ true → fromReader g ps ws v ≡ f v
@@ -154,7 +154,7 @@ visit-every r P inputs (suc d) done v here before =
     ⊎-elim (λ (t : member v done ≡ true). rw t before) (λ (t : member v done ≡ false). rw t then) (decided (member v done))
 
 -- every vertex that is visited is an output or is read by a vertex
-traversal-every : (r : Rule) → Every (λ v. (member v (r .sourceOutputs) ≡ true) ⊎ ((w : ℕ) × Reads (sourceInputs r) w v)) (traversal r)
+pub traversal-every : (r : Rule) → Every (λ v. (member v (r .sourceOutputs) ≡ true) ⊎ ((w : ℕ) × Reads (sourceInputs r) w v)) (traversal r)
 unfolding traversal
 traversal-every r = fold-every Used (visit (sourceInputs r) n) (visit-every r Used (λ w u m. inr (w, m)) n) (r .sourceOutputs) []
     (λ o m. inl (mem-member m)) (λ x m. absurd (List·Memᴰ·not-nil m))

@@ -36,7 +36,7 @@ from-choice g outputs chosen (p ∷ ps) v (suc i) l m =
 
 -- what trying a choice gives: what is made from it, where that is a match
 module _ (g : Graph) (r : Rule) where
-  attempt-some : (chosen images : List ℕ) → attempt g r chosen ≡ some images → Match g r images × (images ≡ imagesFor g r chosen)
+  pub attempt-some : (chosen images : List ℕ) → attempt g r chosen ≡ some images → Match g r images × (images ≡ imagesFor g r chosen)
   unfolding attempt
   attempt-some chosen images h =
       let made : List ℕ = imagesFor g r chosen in
@@ -60,11 +60,11 @@ match-attempted g r fixing images = (
 
 module _ (g : Graph) (r : Rule) (fixing : Fixing r) (s : ℕ) where
   -- the choices that are tried
-  abbrev tried : List (List ℕ)
+  abbrev pub tried : List (List ℕ)
   tried = choices (length (g .slots)) (length (r .sourceOutputs)) s
 
   -- what is made from a choice agrees with it
-  made-chosen : (chosen : List ℕ) → Chosen r (imagesFor g r chosen) chosen
+  pub made-chosen : (chosen : List ℕ) → Chosen r (imagesFor g r chosen) chosen
   unfolding imagesFor imageOf
   made-chosen chosen o m =
       let same : 0 + o ≡ o = omega arith in
@@ -86,12 +86,12 @@ module _ (g : Graph) (r : Rule) (fixing : Fixing r) (s : ℕ) where
   match-first images from = rw (map-at (imageOf images) (r .sourceOutputs) 0 unusedPlace 0 (fixing .some)) (from .first)
 
   -- so they are a choice that is tried, and it succeeds with that match
-  match-tried : (images : List ℕ) → MatchFrom g r s images → List·Memᴰ (outputImages r images) tried
+  pub match-tried : (images : List ℕ) → MatchFrom g r s images → List·Memᴰ (outputImages r images) tried
   match-tried images from =
       mem-choices (length (g .slots)) (length (r .sourceOutputs)) s (fixing .some) (outputImages r images)
       (match-numbers images from) (match-first images from)
 
-  match-succeeds : (images : List ℕ) → MatchFrom g r s images → attempt g r (outputImages r images) ≡ some images
+  pub match-succeeds : (images : List ℕ) → MatchFrom g r s images → attempt g r (outputImages r images) ≡ some images
   match-succeeds images from = match-attempted g r fixing images .0 (from .isMatch)
 
   -- where a result comes from: a choice that is tried, and is not after another that succeeds
@@ -102,12 +102,10 @@ module _ (g : Graph) (r : Rule) (fixing : Fixing r) (s : ℕ) where
   source best h = first-least (attempt g r) NotAfter not-after-self tried best
       (sorted-choices (length (g .slots)) (length (r .sourceOutputs)) s) h
 
-  -- What the search finds is a match, and its first output's image is at least s.
-  pub least-match : (images : List ℕ) → leastMatch g r s ≡ some images → MatchFrom g r s images
-  least-match images h =
-      let from = source images h in
-      let chosen : List ℕ = from .0 in
-      let made = attempt-some g r chosen images (from .2) in
+  -- a choice that is tried and succeeds gives a match, and its first output's image is at least s
+  pub attempt-from : (chosen images : List ℕ) → List·Memᴰ chosen tried → attempt g r chosen ≡ some images → MatchFrom g r s images
+  attempt-from chosen images m h =
+      let made = attempt-some g r chosen images h in
       let o : ℕ = getD (r .sourceOutputs) 0 0 in
       let first : position o (r .sourceOutputs) ≡ 0 = omega (arith, position-least (r .sourceOutputs) 0 0 (fixing .some)) in
       let image : getD chosen 0 unusedPlace ≡ imageOf images o =
@@ -116,8 +114,12 @@ module _ (g : Graph) (r : Rule) (fixing : Fixing r) (s : ℕ) where
       ∙ ap (λ (l : List ℕ). imageOf l o) (sym (made .1)) in
       record {
         isMatch = made .0;
-        first = rw image at (choices-mem (length (g .slots)) (length (r .sourceOutputs)) s (fixing .some) chosen (from .1) .1);
+        first = rw image at (choices-mem (length (g .slots)) (length (r .sourceOutputs)) s (fixing .some) chosen m .1);
       }
+
+  -- What the search finds is a match, and its first output's image is at least s.
+  pub least-match : (images : List ℕ) → leastMatch g r s ≡ some images → MatchFrom g r s images
+  least-match images h = let from = source images h in attempt-from (from .0) images (from .1) (from .2)
 
   -- Where there is a match from s on, the search finds one: trying the choices of output images misses none.
   pub least-found : (images : List ℕ) → MatchFrom g r s images → (best : List ℕ) × (leastMatch g r s ≡ some best)

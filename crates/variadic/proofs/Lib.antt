@@ -1,0 +1,10 @@
+pub mod Sound
+pub mod Fixed
+pub mod Least
+pub mod OneSize
+pub mod Values
+pub mod Fields
+pub mod Blocks
+pub mod Variadic
+pub mod Examples
+pub mod Search

@@ -1,0 +1,4 @@
+pub mod Templated
+pub mod Values
+pub mod Examples
+pub mod Search
