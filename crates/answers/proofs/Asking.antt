@@ -15,7 +15,7 @@ use Rattle.definitions.specs.Lists.{allBelow, member}
 use Rattle.definitions.specs.Fields.{u16At}
 use Rattle.definitions.specs.Reply.{notAMatch, noSuchVertex, answered, refusalAt, refused, numberOf, indexOf, valueBeside, numberIn, valueIn}
 use Rattle.definitions.specs.Graph.{unusedPlace, storedCount, Graph, graphOf, trueCount}
-use Rattle.definitions.specs.Rule.{sourceCount, Rule, ruleOf, isRuleInput}
+use Rattle.definitions.specs.Rule.{sideLimit, sourceCount, Rule, ruleOf, isRuleInput}
 use Rattle.definitions.specs.Match.{isConst, mustBePrivate, placesOf, isMatch}
 use Rattle.definitions.specs.Rewriting.{isRemoved}
 use Rattle.definitions.specs.Operations.{Outcome, outcome, atReturn, returned, mapPlaces, imagesIn}
@@ -29,6 +29,7 @@ use Rattle.laws.proofs.Operations.{elsewhere-refused, elsewhere-asked, asked-no
 use Rattle.theory.proofs.Match.{test-sound, test-complete}
 use Rattle.theory.proofs.Removed.{removed-sound, removed-complete}
 use Rattle.theory.proofs.Elsewhere.{elsewhere-sound, elsewhere-complete, private-nowhere, nowhere-private}
+use Rattle.rule_sound.proofs.Sound.{sound-block}
 use Rattle.match_readers.proofs.Laws.{by-count}
 use Rattle.answers.specs.Statements.{Asked, Good, blockNumbers, HoldsMatch, Inner, imageIn, NeededElsewhere, askNumbers, Answers, AskReplies}
 use Rattle.answers.proofs.Blocks as Blocks
@@ -293,7 +294,7 @@ module _ (graph rule map : List ℕ) (vertex : ℕ) where
       stored = given .good .1 .counts v (omega (arith, image-inside g r (images graph rule map) vertex (given .match .isMatch) inside, length-slots graph))
 
       by-stored : ltb (placesOf r vertex) (storedCount graph v) ≡ isReadElsewhere g r (images graph rule map) v
-      by-stored = rw stored (by-count rule (given .good .2) g (images graph rule map) (given .match .isMatch) vertex (given .inner .0))
+      by-stored = rw stored (by-count sideLimit r (sound-block rule (given .good .2)) g (images graph rule map) (given .match .isMatch) vertex inside)
 
       counted : (valueIn reply ≡ 1) ↔ (placesOf r vertex < storedCount graph v)
       counted =

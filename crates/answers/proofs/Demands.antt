@@ -13,7 +13,7 @@ use Rattle.definitions.specs.Fields.{Bytes}
 use Rattle.definitions.specs.Paths.{Reads, Acyclic}
 use Rattle.definitions.specs.Reply.{numberIn}
 use Rattle.definitions.specs.Graph.{graphVersion, Graph, graphOf, inputsOf, isVertex, trueCount, graphBlock, SoundGraph}
-use Rattle.definitions.specs.Rule.{sourceCount, Rule, ruleOf, SoundRule}
+use Rattle.definitions.specs.Rule.{sideLimit, sourceCount, Rule, ruleOf, SoundRule}
 use Rattle.definitions.specs.Match.{imageOf, readAttribute, Match}
 use Rattle.definitions.specs.Rewriting.{targetResults, stays, hasRoom, redirect, newGraph}
 use Rattle.definitions.specs.Results.{Meaning, Untouched}
@@ -22,6 +22,7 @@ use Rattle.laws.proofs.Members.{holds, true-holds}
 use Rattle.theory.proofs.Results.{Layout, results-unique, results-exist}
 use Rattle.encoding.specs.Tables.{Table, Words}
 use Rattle.encoding.proofs.Blocks.{block-back, block-sound, holdable}
+use Rattle.rule_sound.proofs.Sound.{sound-block}
 use Rattle.replacement.proofs.Site.{Site, site}
 use Rattle.replacement.proofs.Table.{stays-vertex, staying-vertex, new-outputs, new-layout}
 use Rattle.replacement.proofs.Consts.{reads-none, const-unmoved, const-untouched, const-stays}
@@ -55,10 +56,10 @@ module _ (graph rule images : List ℕ) (values : List (List ℤ)) where
 
   module _ {graphAfter : List ℕ} (a : Accepted graphAfter) where
     pub table : Table new
-    table = new-table graph rule images values (a .sound) (a .soundRule) (a .isMatch) (a .fit) (a .room)
+    table = new-table graph r images values sideLimit (a .sound) (sound-block rule (a .soundRule)) (a .isMatch) (a .fit) (a .room)
 
     words : Bytes graph → Words new
-    words = new-table-words graph rule images values (a .sound) (a .soundRule) (a .isMatch) (a .fit) (a .room)
+    words = new-table-words graph r images values sideLimit (a .sound) (sound-block rule (a .soundRule)) (a .isMatch) (a .fit) (a .room)
 
     accepted-sound : Bytes graph → SoundGraph graphAfter
     accepted-sound bytes = rw (a .block) (block-sound new table (words bytes) (a .acyclic))
@@ -68,7 +69,7 @@ module _ (graph rule images : List ℕ) (values : List (List ℤ)) where
 
     -- demand 3 for the two tables
     pub at : Site g r images
-    at = site graph rule images (a .sound) (a .soundRule) (a .isMatch) (a .room)
+    at = site sideLimit r (sound-block rule (a .soundRule)) graph images (a .sound) (a .isMatch) (a .room)
 
     newLayout : Layout new
     newLayout = new-layout g r images values at (a .acyclic)
@@ -134,7 +135,7 @@ module _ (graph rule : List ℕ) (start : ℕ) (before : List ℕ) (reply : ℕ)
           fit = left .3;
           room = left .6;
           acyclic = free-acyclic (graphOf graph) (ruleOf rule) (left .0) (left .1)
-              (site graph rule (left .0) (blocks .1) (blocks .2) isMatch (left .6)) (left .7);
+              (site sideLimit (ruleOf rule) (sound-block rule (blocks .2)) graph (left .0) (blocks .1) isMatch (left .6)) (left .7);
           block = left .5;
         },
       )

@@ -77,7 +77,7 @@ module _ {block : List ℕ} where
   rule-small (vertex h low) = record { number = omega arith; place = omega (arith, low .bad .0, few-vertices block h) }
   rule-small (order h none low) = record { number = omega arith; place = omega (arith, low .bad .0, few-vertices block h) }
   rule-small (outputs h none visited unfit) = record { number = omega arith; place = omega arith }
-  rule-small (node h none visited fit low) = record { number = omega arith; place = omega (arith, low .bad .0, whole block h .nodes) }
+  rule-small (node h none visited fit low) = record { number = omega arith; place = omega (arith, low .bad .0, whole block h .fewNodes) }
   rule-small (attribute h none visited fit nodes low) = record { number = omega arith; place = omega (arith, low .bad .0, few-vertices block h) }
 
 pub form-numbered : (version : ℕ) (block : List ℕ) → Numbered (FaultAs version block) formNumbers

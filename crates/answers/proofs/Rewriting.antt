@@ -15,7 +15,7 @@ use Rattle.definitions.specs.Paths.{Acyclic}
 use Rattle.definitions.specs.Reply as Reply
 use Rattle.definitions.specs.Reply.{noMatch, noResult, noRoom, newCycle, refusalAt, refusal, refused, numberOf, numberIn, valueIn}
 use Rattle.definitions.specs.Graph.{Graph, graphOf, inputsOf, graphBlock, hasCycle, SoundGraph}
-use Rattle.definitions.specs.Rule.{sourceCount, Rule, ruleOf, SoundRule}
+use Rattle.definitions.specs.Rule.{sideLimit, sourceCount, Rule, ruleOf, SoundRule}
 use Rattle.definitions.specs.Match.{readAttribute, Match, MatchFrom, outputImages, NotAfter, LeastFrom, leastMatch}
 use Rattle.definitions.specs.Rewriting.{targetResults, hasRoom, newGraph}
 use Rattle.definitions.specs.Operations.{Outcome, outcome, atReturn, returned, mapBytes, mapBlock, accepted, turnedDown, rewritten, replaced, rewrite, imagesIn}
@@ -28,6 +28,7 @@ use Rattle.theory.proofs.Results.{named-table}
 use Rattle.theory.proofs.Fixing.{sound-fixing}
 use Rattle.theory.proofs.Least.{none-left, search-least}
 use Rattle.reachability.proofs.Cycles as cycles
+use Rattle.rule_sound.proofs.Sound.{sound-block}
 use Rattle.replacement.proofs.Site.{Site, site}
 use Rattle.replacement.proofs.Table.{new-inputs}
 use Rattle.answers.specs.Rewritten.{Due}
@@ -196,7 +197,7 @@ module _ (graph rule : List ℕ) (start : ℕ) (before : List ℕ) where
     is-match images least = is-least images least .from .isMatch
 
     at-match : (images : List ℕ) → Least images → hasRoom g r images ≡ true → Site g r images
-    at-match images least h = site graph rule images sound soundRule (is-match images least) h
+    at-match images least h = site sideLimit r (sound-block rule soundRule) graph images sound (is-match images least) h
 
     reason-due : {n : ℕ} → Reason n → Due g r start n
     reason-due (unmatched e) = Due.unmatched (none-left g r (sound-fixing rule soundRule) start e)

@@ -14,9 +14,11 @@ use lib.IntN.{ℤ}
 use lib.ListN.{length, getD}
 use Rattle.definitions.specs.Lists.{allBelow, allPairs}
 use Rattle.definitions.specs.Fields.{signed}
-use Rattle.definitions.specs.Rule.{nodeCount, Expression, anything, constant, access, apply, index, sum, formAny, formConstant, formAccess, nodeForm, expressionOf, nodeFits, accessesBelow}
+use Rattle.definitions.specs.Rule.{Expression, anything, constant, access, apply, index, sum, formAny, formConstant, formAccess, nodeForm, accessesBelow}
 use Rattle.definitions.specs.Attributes.{combine, result, gives, agrees}
+use Rattle.rule_fields.specs.Fixed.{expressionIn, nodesIn}
 use Rattle.laws.proofs.Lists.{decided, and-left, and-right, allBelow-step, allBelow-fails}
+use Rattle.rule_nodes.specs.Nodes.{GoodNode}
 use Rattle.match_leaves.specs.Evaluable.{NodeEvaluation}
 use Rattle.match_leaves.proofs.Laws.{any-node, constant-node, access-node}
 use Rattle.match_values.proofs.Laws.{operation-node}
@@ -104,21 +106,21 @@ agree-first-below read other j ps ws h same =
 -- ---- the expression of a node
 
 -- e is the expression of node k
-module _ (block : List ℕ) (k : ℕ) (inside : k < nodeCount block) (read : ℕ → ℕ → Option ℤ) (e : Expression) (z : ℤ)
-    (named : expressionOf block k ≡ e) where
+module _ (block : List ℕ) (k : ℕ) (inside : k < nodesIn block) (read : ℕ → ℕ → Option ℤ) (e : Expression) (z : ℤ)
+    (named : expressionIn block k ≡ e) where
   pub any-agrees : nodeForm block k ≡ formAny → true ≡ agrees read e z
   unfolding agrees
   any-agrees h = rw (← named, any-node block k inside h)
 
-  pub result-agrees : (x : Option ℤ) (found : ℤ) → x ≡ result read (expressionOf block k) → found ≡ z
-      → nodeFits block k ≡ true → (nodeForm block k ≡ formAny → ⊥) → gives x found ≡ agrees read e z
+  pub result-agrees : (x : Option ℤ) (found : ℤ) → x ≡ result read (expressionIn block k) → found ≡ z
+      → GoodNode block k → (nodeForm block k ≡ formAny → ⊥) → gives x found ≡ agrees read e z
   unfolding agrees
-  result-agrees x found r f fits h =
+  result-agrees x found r f good h =
       rw (r, f, ← named) (⊎-elim
       (λ (t : eqb (nodeForm block k) formConstant ≡ true). rw (constant-node block k inside (eqb-true (nodeForm block k) formConstant t)))
       (λ (t : eqb (nodeForm block k) formConstant ≡ false). ⊎-elim
       (λ (u : eqb (nodeForm block k) formAccess ≡ true). rw (access-node block k inside (eqb-true (nodeForm block k) formAccess u)))
-      (λ (u : eqb (nodeForm block k) formAccess ≡ false). rw (operation-node block k inside fits
+      (λ (u : eqb (nodeForm block k) formAccess ≡ false). rw (operation-node block k inside good
       (omega (arith, eqb-false (nodeForm block k) formConstant t, eqb-false (nodeForm block k) formAccess u))))
       (decided (eqb (nodeForm block k) formAccess)))
       (decided (eqb (nodeForm block k) formConstant)))

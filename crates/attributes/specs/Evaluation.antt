@@ -5,10 +5,11 @@ use mathlib.Core.List.{List}
 use Prim.Native.Nat.{ℕ, _<_, _≤_}
 use lib.ListN.{length}
 use Rattle.definitions.specs.Graph.{slotCount, graphOf, slotOf}
-use Rattle.definitions.specs.Rule.{sideCapacity, sourceCount, targetCount, ruleOf, sourceOf, targetOf}
+use Rattle.definitions.specs.Rule.{sideCapacity, sourceCount, targetCount, sourceOf, targetOf}
+use Rattle.rule_fields.specs.Fixed.{fixedOf}
 use Rattle.graph_fields.specs.Layout.{ReadableGraph}
 use Rattle.rule_fields.specs.Layout.{ReadableRule}
-use Rattle.match_leaves.specs.Evaluable.{Evaluable}
+use Rattle.rule_nodes.specs.Working.{Evaluable}
 
 -- a table and vertices that can be read, nodes that can be evaluated, and a place for every image
 pub record Evaluation (graph rule images : List ℕ) : Type 0 where
@@ -20,7 +21,7 @@ pub record Evaluation (graph rule images : List ℕ) : Type 0 where
 -- source vertex j has an attribute i, and so has slot v
 pub record SourceAttribute (graph rule : List ℕ) (j i v : ℕ) : Type 0 where
   pub vertex : j < sourceCount rule
-  pub place : i < length (sourceOf (ruleOf rule) j .attributes)
+  pub place : i < length (sourceOf (fixedOf rule) j .attributes)
   pub slot : v < slotCount graph
   pub slotPlace : i < length (slotOf (graphOf graph) v .attributes)
 
@@ -28,9 +29,9 @@ pub record SourceAttribute (graph rule : List ℕ) (j i v : ℕ) : Type 0 where
 pub record SourceAttributes (graph rule : List ℕ) (j v : ℕ) : Type 0 where
   pub vertex : j < sourceCount rule
   pub slot : v < slotCount graph
-  pub enough : length (sourceOf (ruleOf rule) j .attributes) ≤ length (slotOf (graphOf graph) v .attributes)
+  pub enough : length (sourceOf (fixedOf rule) j .attributes) ≤ length (slotOf (graphOf graph) v .attributes)
 
 -- target vertex t has an attribute i
 pub record TargetAttribute (rule : List ℕ) (t i : ℕ) : Type 0 where
   pub vertex : t < targetCount rule
-  pub place : i < length (targetOf (ruleOf rule) t .attributes)
+  pub place : i < length (targetOf (fixedOf rule) t .attributes)

@@ -17,9 +17,10 @@ ghost use mathlib.Core.Bool.{true};
 ghost use lib.ListN.{getD};
 ghost use Rattle.definitions.specs.Fields.{signed};
 ghost use Rattle.definitions.specs.Graph.{graphOf, slotOf};
-ghost use Rattle.definitions.specs.Rule.{anything, ruleOf, sourceOf, targetOf};
+ghost use Rattle.definitions.specs.Rule.{anything, sourceOf, targetOf};
 ghost use Rattle.definitions.specs.Attributes.{result, agrees};
 ghost use Rattle.definitions.specs.Match.{readAttribute};
+ghost use Rattle.rule_fields.specs.Fixed.{fixedOf};
 ghost use Rattle.numbers.specs.Value.{valueOf, bounded};
 ghost use Rattle.attributes.specs.Agreement.{agreeFirst};
 ghost use Rattle.attributes.specs.Evaluation.{Evaluation, SourceAttribute, SourceAttributes, TargetAttribute};
@@ -36,7 +37,7 @@ fn attribute_agrees(
     requires { ⌜ Evaluation (now graph) (now rule) (now images) ⌝ }
     requires { ⌜ SourceAttribute (now graph) (now rule) j i v ⌝ }
     ensures { λ r. ⌜ r ≡ agrees (readAttribute (graphOf (now (graph .entry))) (now (images .entry)))
-        (getD (sourceOf (ruleOf (now (rule .entry))) j .attributes) i anything)
+        (getD (sourceOf (fixedOf (now (rule .entry))) j .attributes) i anything)
         (signed (getD (slotOf (graphOf (now (graph .entry))) v .attributes) i 0)) ⌝ }
 {
     let k = source_attribute(rule, j, i);
@@ -62,7 +63,7 @@ pub fn attributes_agree(
     requires { ⌜ Evaluation (now graph) (now rule) (now images) ⌝ }
     requires { ⌜ SourceAttributes (now graph) (now rule) j v ⌝ }
     ensures { λ r. ⌜ r ≡ agreeFirst (readAttribute (graphOf (now (graph .entry))) (now (images .entry)))
-        (sourceOf (ruleOf (now (rule .entry))) j .attributes) (slotOf (graphOf (now (graph .entry))) v .attributes) ⌝ }
+        (sourceOf (fixedOf (now (rule .entry))) j .attributes) (slotOf (graphOf (now (graph .entry))) v .attributes) ⌝ }
 {
     let count = source_attribute_count(rule, j);
     let mut i = 0;
@@ -86,7 +87,7 @@ pub fn target_value(
     requires { ⌜ Evaluation (now graph) (now rule) (now images) ⌝ }
     requires { ⌜ TargetAttribute (now rule) t i ⌝ }
     ensures { λ r. ⌜ valueOf r ≡ result (readAttribute (graphOf (now (graph .entry))) (now (images .entry)))
-        (getD (targetOf (ruleOf (now (rule .entry))) t .attributes) i anything) ⌝ }
+        (getD (targetOf (fixedOf (now (rule .entry))) t .attributes) i anything) ⌝ }
     ensures { λ r. ⌜ bounded (valueOf r) ≡ true ⌝ }
 {
     let k = target_attribute(rule, t, i);

@@ -1,16 +1,15 @@
 // The blocks that a caller of matching or rewriting lends: the replies about them, and the bytes of the map.
 use definitions::MAP_BYTES;
 use definitions::Reply;
-use definitions::SIDE_CAPACITY;
 use reply::BAD_MAP_LENGTH;
 use reply::refuse;
 use writing::put_u16s;
 ghost use mathlib.Core.Path.{_≡_};
+ghost use Prim.Native.Nat.{_*_};
 ghost use lib.ListN.{length};
 ghost use Rattle.definitions.specs.Lists.{concatMap};
 ghost use Rattle.definitions.specs.Fields.{u16Bytes};
-ghost use Rattle.definitions.specs.Rule.{sideCapacity};
-ghost use Rattle.definitions.specs.Operations.{mapBytes, mapReply, blocksReply};
+ghost use Rattle.definitions.specs.Operations.{mapReply, blocksReply};
 
 // Reply 1 is about the map's length alone: its bytes are not read.
 fn check_map(map: &[u8]) -> Reply
@@ -37,10 +36,9 @@ pub fn check_blocks(graph: &[u8], rule: &[u8], map: &[u8]) -> Reply
     rule_check::check(rule)
 }
 
-// Writes the map: the sixteen images, each as two bytes, the lower one first.
-pub fn write_map(map: &mut [u8], images: &[u16; SIDE_CAPACITY])
-    requires { ⌜ length (now map) ≡ mapBytes ⌝ }
-    requires { ⌜ length (now images) ≡ sideCapacity ⌝ }
+// Writes the map: one image for each of its places, as two bytes, the lower one first.
+pub fn write_map(map: &mut [u8], images: &[u16])
+    requires { ⌜ length (now map) ≡ 2 * length (now images) ⌝ }
     ensures { λ r. ⌜ now (map .exit) ≡ concatMap u16Bytes (now (images .entry)) ⌝ }
 {
     put_u16s(map, images);

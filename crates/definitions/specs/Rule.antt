@@ -36,7 +36,7 @@ targetBase = 16
 
 -- the code has space for so many vertices a side; no paper names it, and sideLimit is no more
 abbrev pub sideCapacity : ℕ
-sideCapacity = 16
+sideCapacity = 64
 
 -- the numbers that a place of a rule may hold: it is a byte
 abbrev pub placeNumbers : ℕ
@@ -110,8 +110,12 @@ pub record Rule : Type 0 where
   pub sourceOutputs : List ℕ
   pub targetOutputs : List Origin
 
-unfoldable pub originOf : ℕ → Origin
-originOf p = cond (ltb p targetBase) (given p) (made (p - targetBase))
+-- a place number below `base` is a rule input's, and from there on target vertices'
+unfoldable pub originBy : ℕ → ℕ → Origin
+originBy base p = cond (ltb p base) (given p) (made (p - base))
+
+abbrev pub originOf : ℕ → Origin
+originOf p = originBy targetBase p
 
 -- a node's forms; the operations are the last five of version 1
 abbrev pub formAny : ℕ
@@ -149,16 +153,18 @@ nodeLeft block k = byteAt block (nodeAt block k + 1)
 abbrev pub nodeRight : List ℕ → ℕ → ℕ
 nodeRight block k = byteAt block (nodeAt block k + 2)
 
--- node k, whose operands are among the earlier nodes' expressions
-unfoldable pub nodeFrom : List ℕ → List Expression → ℕ → Expression
-nodeFrom block earlier k =
+-- node k, whose operands are among the earlier nodes' expressions; `left` and `right` say which
+unfoldable pub nodeBy : (ℕ → ℕ) → (ℕ → ℕ) → List ℕ → List Expression → ℕ → Expression
+nodeBy left right block earlier k =
     cond (eqb (nodeForm block k) formAny) anything
     (cond (eqb (nodeForm block k) formConstant) (constant (signed (u32At block (nodeAt block k + 4))))
     (cond (eqb (nodeForm block k) formAccess) (access (nodeLeft block k) (nodeRight block k))
     (cond (eqb (nodeForm block k) formIndex) index
-    (cond (eqb (nodeForm block k) formSum) (sum (getD earlier (nodeLeft block k) anything))
-    (apply (getD operations (nodeForm block k - formAdd) remainder) (getD earlier (nodeLeft block k) anything)
-    (getD earlier (nodeRight block k) anything))))))
+    (cond (eqb (nodeForm block k) formSum) (sum (getD earlier (left k) anything))
+    (apply (getD operations (nodeForm block k - formAdd) remainder) (getD earlier (left k) anything) (getD earlier (right k) anything))))))
+
+abbrev pub nodeFrom : List ℕ → List Expression → ℕ → Expression
+nodeFrom block earlier k = nodeBy (nodeLeft block) (nodeRight block) block earlier k
 
 unfoldable pub expressions : List ℕ → List Expression
 expressions block = build (nodeFrom block) (nodeCount block)
@@ -166,22 +172,32 @@ expressions block = build (nodeFrom block) (nodeCount block)
 unfoldable pub expressionOf : List ℕ → ℕ → Expression
 expressionOf block k = getD (expressions block) k anything
 
--- the pattern whose record starts at `at`
-unfoldable pub patternFrom : {P : Type 0} → (ℕ → P) → List ℕ → ℕ → Pattern P
-patternFrom naming block at = record {
+-- the pattern whose record starts at `at`; attribute i is `attribute i`
+unfoldable pub patternFrom : {P : Type 0} → (ℕ → P) → (ℕ → Expression) → List ℕ → ℕ → Pattern P
+patternFrom naming attribute block at = record {
   kind = byteAt block at;
   operator = byteAt block (at + 1);
   inputs = tabulate (byteAt block (at + 2)) (λ i. naming (byteAt block (at + 4 + i)));
-  attributes = tabulate (byteAt block (at + 3)) (λ i. expressionOf block (byteAt block (at + 10 + i)));
+  attributes = tabulate (byteAt block (at + 3)) attribute;
 }
 
-unfoldable pub ruleOf : List ℕ → Rule
-ruleOf block = record {
-  source = tabulate (sourceCount block) (λ j. patternFrom (λ p. p) block (vertexAt j));
-  target = tabulate (targetCount block) (λ t. patternFrom originOf block (vertexAt (sourceCount block + t)));
+-- attribute i of vertex v, here counted from 0
+abbrev pub attributeIn : List ℕ → ℕ → ℕ → Expression
+attributeIn block v i = expressionOf block (byteAt block (vertexAt v + 10 + i))
+
+-- the rule whose header and records stand in the block, where `naming` says what a target place names, and `attribute v i` is attribute i of
+-- vertex v
+unfoldable pub ruleBy : (ℕ → Origin) → (ℕ → ℕ → Expression) → List ℕ → Rule
+ruleBy naming attribute block = record {
+  source = tabulate (sourceCount block) (λ j. patternFrom (λ p. p) (attribute j) block (vertexAt j));
+  target = tabulate (targetCount block) (λ t. patternFrom naming (attribute (sourceCount block + t)) block (vertexAt (sourceCount block + t)));
   sourceOutputs = tabulate (ruleOutputCount block) (λ i. byteAt block (10 + i));
-  targetOutputs = tabulate (ruleOutputCount block) (λ i. originOf (byteAt block (12 + i)));
+  targetOutputs = tabulate (ruleOutputCount block) (λ i. naming (byteAt block (12 + i)));
 }
+
+-- the rule of a block
+unfoldable pub ruleOf : List ℕ → Rule
+ruleOf block = ruleBy originOf (attributeIn block) block
 
 -- for a number past the last vertex stands a wildcard, which has no inputs
 unfoldable pub wildcard : {P : Type 0} → Pattern P
@@ -250,12 +266,14 @@ sourceInputsFit r j = all (λ p. ltb p j) (sourceInputs r j)
 unfoldable pub targetInputsFit : Rule → ℕ → Bool
 targetInputsFit r t = not (inputKind (targetOf r t .kind)) && all (originFits r t) (targetOf r t .inputs)
 
--- vertex v, a source or a target one, has a bad record or a bad input place
-unfoldable pub badVertex : List ℕ → ℕ → Bool
-badVertex block v =
+-- vertex v, a source or a target one of the rule r in the block, has a bad record or a bad input place
+unfoldable pub badVertexOf : Rule → List ℕ → ℕ → Bool
+badVertexOf r block v =
     not (patternFits block (vertexAt v)
-    && cond (ltb v (sourceCount block)) (sourceInputsFit (ruleOf block) v)
-    (targetInputsFit (ruleOf block) (v - sourceCount block)))
+    && cond (ltb v (sourceCount block)) (sourceInputsFit r v) (targetInputsFit r (v - sourceCount block)))
+
+abbrev pub badVertex : List ℕ → ℕ → Bool
+badVertex block v = badVertexOf (ruleOf block) block v
 
 -- 002's traversal from the listed outputs
 unfoldable pub traversal : Rule → List ℕ

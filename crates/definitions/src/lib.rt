@@ -45,7 +45,7 @@ pub const SIDE_LIMIT: usize = 16;
 // The first target place that names a target vertex.
 pub const TARGET_BASE: usize = 16;
 // The vertices of a side for which an array has space.
-pub const SIDE_CAPACITY: usize = 16;
+pub const SIDE_CAPACITY: usize = 64;
 // The numbers that a place of a rule may hold: it is a byte.
 pub const PLACE_NUMBERS: usize = 256;
 

@@ -1,6 +1,7 @@
 // Finding a match in lent blocks: the replies about the blocks, then 4, and the map of the least match where there is one.
 use blocks::check_blocks;
 use blocks::write_map;
+use definitions::MAP_PLACES;
 use definitions::Reply;
 use reply::NO_MATCH;
 use reply::refuse;
@@ -22,6 +23,6 @@ pub fn find_match(graph: &[u8], rule: &[u8], start: usize, map: &mut [u8]) -> Re
         return refuse(NO_MATCH);
     }
     let images = found.images;
-    write_map(map, &images);
+    write_map(map, &images[0..MAP_PLACES]);
     Reply::Done(0)
 }

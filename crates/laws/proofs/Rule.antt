@@ -12,7 +12,7 @@ use Rattle.definitions.specs.Lists.{allBelow}
 use Rattle.definitions.specs.Paths.{Reads}
 use Rattle.definitions.specs.Fields.{byteAt}
 use Rattle.definitions.specs.Operators.{kindEmpty, shapeFits}
-use Rattle.definitions.specs.Rule.{ruleOutputLimit, sourceCount, targetCount, ruleOutputCount, nodeCount, vertexAt, Expression, Origin, Pattern, Rule, originOf, expressionOf, patternFrom, ruleOf, wildcard, sourceOf, targetOf, sourceInputs, inputKind, isRuleInput, ruleSizesFit, ruleOutputPlacesFit, ruleHeaderFits, patternFits, sourceInputsFit, useFits}
+use Rattle.definitions.specs.Rule.{ruleOutputLimit, sourceCount, targetCount, ruleOutputCount, nodeCount, vertexAt, Expression, Origin, Pattern, Rule, originOf, attributeIn, patternFrom, ruleBy, ruleOf, wildcard, sourceOf, targetOf, sourceInputs, inputKind, isRuleInput, ruleSizesFit, ruleOutputPlacesFit, ruleHeaderFits, patternFits, sourceInputsFit, useFits}
 use Rattle.laws.proofs.Lists.{decided, and-left, needed, length-tabulate, getD-tabulate, all-every, all-member, allBelow-at}
 
 -- past the last source vertex nothing is read
@@ -36,123 +36,212 @@ pub wild-input : (r : Rule) (j : ℕ) → j < length (r .source) → sourceOf r 
 unfolding isRuleInput inputKind
 wild-input r j l e = simp (lt-ltb j (length (r .source)) l, eq-eqb (sourceOf r j .kind) kindEmpty e)
 
+-- ---- the rule whose records stand in a block, field by field
+
+module _ (naming : ℕ → Origin) (attribute : ℕ → ℕ → Expression) (block : List ℕ) where
+  abbrev read : Rule
+  read = ruleBy naming attribute block
+
+  pub length-source-by : length (read .source) ≡ sourceCount block
+  unfolding ruleBy
+  length-source-by = length-tabulate (sourceCount block) (λ j. patternFrom (λ p. p) (attribute j) block (vertexAt j))
+
+  pub length-target-by : length (read .target) ≡ targetCount block
+  unfolding ruleBy
+  length-target-by =
+      length-tabulate (targetCount block) (λ t. patternFrom naming (attribute (sourceCount block + t)) block (vertexAt (sourceCount block + t)))
+
+  pub length-source-outputs-by : length (read .sourceOutputs) ≡ ruleOutputCount block
+  unfolding ruleBy
+  length-source-outputs-by = length-tabulate (ruleOutputCount block) (λ i. byteAt block (10 + i))
+
+  pub length-target-outputs-by : length (read .targetOutputs) ≡ ruleOutputCount block
+  unfolding ruleBy
+  length-target-outputs-by = length-tabulate (ruleOutputCount block) (λ i. naming (byteAt block (12 + i)))
+
+  -- a source or target vertex is read from its record
+  pub source-by : (j : ℕ) → j < sourceCount block → sourceOf read j ≡ patternFrom (λ p. p) (attribute j) block (vertexAt j)
+  unfolding ruleBy sourceOf
+  source-by j h = getD-tabulate (sourceCount block) (λ v. patternFrom (λ p. p) (attribute v) block (vertexAt v)) j wildcard h
+
+  pub target-by : (t : ℕ) → t < targetCount block
+      → targetOf read t ≡ patternFrom naming (attribute (sourceCount block + t)) block (vertexAt (sourceCount block + t))
+  unfolding ruleBy targetOf
+  target-by t h =
+      getD-tabulate (targetCount block) (λ v. patternFrom naming (attribute (sourceCount block + v)) block (vertexAt (sourceCount block + v))) t
+      wildcard h
+
+  pub source-output-by : (i d : ℕ) → i < ruleOutputCount block → getD (read .sourceOutputs) i d ≡ byteAt block (10 + i)
+  unfolding ruleBy
+  source-output-by i d h = getD-tabulate (ruleOutputCount block) (λ k. byteAt block (10 + k)) i d h
+
+  pub target-output-by : (i : ℕ) (d : Origin) → i < ruleOutputCount block → getD (read .targetOutputs) i d ≡ naming (byteAt block (12 + i))
+  unfolding ruleBy
+  target-output-by i d h = getD-tabulate (ruleOutputCount block) (λ k. naming (byteAt block (12 + k))) i d h
+
+-- a vertex that is read from the record that starts at `at`, field by field
+module _ (block : List ℕ) {P : Type 0} (naming : ℕ → P) (attribute : ℕ → Expression) (at : ℕ) {p : Pattern P}
+    (read : p ≡ patternFrom naming attribute block at) where
+  kind-at : p .kind ≡ byteAt block at
+  unfolding patternFrom
+  kind-at = ap (λ (q : Pattern P). q .kind) read
+
+  operator-at : p .operator ≡ byteAt block (at + 1)
+  unfolding patternFrom
+  operator-at = ap (λ (q : Pattern P). q .operator) read
+
+  inputs-at : length (p .inputs) ≡ byteAt block (at + 2)
+  unfolding patternFrom
+  inputs-at =
+      ap (λ (q : Pattern P). length (q .inputs)) read
+      ∙ length-tabulate (byteAt block (at + 2)) (λ i. naming (byteAt block (at + 4 + i)))
+
+  input-at : (i : ℕ) (d : P) → i < length (p .inputs) → getD (p .inputs) i d ≡ naming (byteAt block (at + 4 + i))
+  unfolding patternFrom
+  input-at i d l =
+      ap (λ (q : Pattern P). getD (q .inputs) i d) read
+      ∙ getD-tabulate (byteAt block (at + 2)) (λ k. naming (byteAt block (at + 4 + k))) i d (rw inputs-at at l)
+
+  attributes-at : length (p .attributes) ≡ byteAt block (at + 3)
+  unfolding patternFrom
+  attributes-at = ap (λ (q : Pattern P). length (q .attributes)) read ∙ length-tabulate (byteAt block (at + 3)) attribute
+
+  attribute-at : (i : ℕ) (d : Expression) → i < length (p .attributes) → getD (p .attributes) i d ≡ attribute i
+  unfolding patternFrom
+  attribute-at i d l =
+      ap (λ (q : Pattern P). getD (q .attributes) i d) read
+      ∙ getD-tabulate (byteAt block (at + 3)) attribute i d (rw attributes-at at l)
+
+-- the same of a source or target vertex, by its number
+module _ (naming : ℕ → Origin) (attribute : ℕ → ℕ → Expression) (block : List ℕ) where
+  abbrev rule : Rule
+  rule = ruleBy naming attribute block
+
+  module _ (j : ℕ) (inside : j < sourceCount block) where
+    pub source-kind-by : sourceOf rule j .kind ≡ byteAt block (vertexAt j)
+    source-kind-by = kind-at block (λ p. p) (attribute j) (vertexAt j) (source-by naming attribute block j inside)
+
+    pub source-operator-by : sourceOf rule j .operator ≡ byteAt block (vertexAt j + 1)
+    source-operator-by = operator-at block (λ p. p) (attribute j) (vertexAt j) (source-by naming attribute block j inside)
+
+    pub source-count-by : length (sourceInputs rule j) ≡ byteAt block (vertexAt j + 2)
+    source-count-by = inputs-at block (λ p. p) (attribute j) (vertexAt j) (source-by naming attribute block j inside)
+
+    pub source-input-by : (i d : ℕ) → i < length (sourceInputs rule j) → getD (sourceInputs rule j) i d ≡ byteAt block (vertexAt j + 4 + i)
+    source-input-by = input-at block (λ p. p) (attribute j) (vertexAt j) (source-by naming attribute block j inside)
+
+    pub source-attributes-by : length (sourceOf rule j .attributes) ≡ byteAt block (vertexAt j + 3)
+    source-attributes-by = attributes-at block (λ p. p) (attribute j) (vertexAt j) (source-by naming attribute block j inside)
+
+    pub source-attribute-by : (i : ℕ) (d : Expression) → i < length (sourceOf rule j .attributes) → getD (sourceOf rule j .attributes) i d ≡ attribute j i
+    source-attribute-by = attribute-at block (λ p. p) (attribute j) (vertexAt j) (source-by naming attribute block j inside)
+
+  module _ (t : ℕ) (inside : t < targetCount block) where
+    abbrev v : ℕ
+    v = sourceCount block + t
+
+    pub target-kind-by : targetOf rule t .kind ≡ byteAt block (vertexAt v)
+    target-kind-by = kind-at block naming (attribute v) (vertexAt v) (target-by naming attribute block t inside)
+
+    pub target-operator-by : targetOf rule t .operator ≡ byteAt block (vertexAt v + 1)
+    target-operator-by = operator-at block naming (attribute v) (vertexAt v) (target-by naming attribute block t inside)
+
+    pub target-count-by : length (targetOf rule t .inputs) ≡ byteAt block (vertexAt v + 2)
+    target-count-by = inputs-at block naming (attribute v) (vertexAt v) (target-by naming attribute block t inside)
+
+    pub target-input-by : (i : ℕ) (d : Origin) → i < length (targetOf rule t .inputs)
+        → getD (targetOf rule t .inputs) i d ≡ naming (byteAt block (vertexAt v + 4 + i))
+    target-input-by = input-at block naming (attribute v) (vertexAt v) (target-by naming attribute block t inside)
+
+    pub target-attributes-by : length (targetOf rule t .attributes) ≡ byteAt block (vertexAt v + 3)
+    target-attributes-by = attributes-at block naming (attribute v) (vertexAt v) (target-by naming attribute block t inside)
+
+    pub target-attribute-by : (i : ℕ) (d : Expression) → i < length (targetOf rule t .attributes)
+        → getD (targetOf rule t .attributes) i d ≡ attribute v i
+    target-attribute-by = attribute-at block naming (attribute v) (vertexAt v) (target-by naming attribute block t inside)
+
+-- ---- the rule of a block, field by field
+
 module _ (block : List ℕ) where
   pub length-source : length (ruleOf block .source) ≡ sourceCount block
   unfolding ruleOf
-  length-source = length-tabulate (sourceCount block) (λ j. patternFrom (λ p. p) block (vertexAt j))
+  length-source = length-source-by originOf (attributeIn block) block
 
   pub length-target : length (ruleOf block .target) ≡ targetCount block
   unfolding ruleOf
-  length-target = length-tabulate (targetCount block) (λ t. patternFrom originOf block (vertexAt (sourceCount block + t)))
+  length-target = length-target-by originOf (attributeIn block) block
 
   pub length-source-outputs : length (ruleOf block .sourceOutputs) ≡ ruleOutputCount block
   unfolding ruleOf
-  length-source-outputs = length-tabulate (ruleOutputCount block) (λ i. byteAt block (10 + i))
+  length-source-outputs = length-source-outputs-by originOf (attributeIn block) block
 
   pub length-target-outputs : length (ruleOf block .targetOutputs) ≡ ruleOutputCount block
   unfolding ruleOf
-  length-target-outputs = length-tabulate (ruleOutputCount block) (λ i. originOf (byteAt block (12 + i)))
-
-  -- a source or target vertex is read from its record
-  pub source-of : (j : ℕ) → j < sourceCount block → sourceOf (ruleOf block) j ≡ patternFrom (λ p. p) block (vertexAt j)
-  unfolding ruleOf sourceOf
-  source-of j h = getD-tabulate (sourceCount block) (λ v. patternFrom (λ p. p) block (vertexAt v)) j wildcard h
-
-  pub target-of : (t : ℕ) → t < targetCount block
-      → targetOf (ruleOf block) t ≡ patternFrom originOf block (vertexAt (sourceCount block + t))
-  unfolding ruleOf targetOf
-  target-of t h = getD-tabulate (targetCount block) (λ v. patternFrom originOf block (vertexAt (sourceCount block + v))) t wildcard h
+  length-target-outputs = length-target-outputs-by originOf (attributeIn block) block
 
   pub source-output-of : (i d : ℕ) → i < ruleOutputCount block → getD (ruleOf block .sourceOutputs) i d ≡ byteAt block (10 + i)
   unfolding ruleOf
-  source-output-of i d h = getD-tabulate (ruleOutputCount block) (λ k. byteAt block (10 + k)) i d h
+  source-output-of i d h = source-output-by originOf (attributeIn block) block i d h
 
   pub target-output-of : (i : ℕ) (d : Origin) → i < ruleOutputCount block
       → getD (ruleOf block .targetOutputs) i d ≡ originOf (byteAt block (12 + i))
   unfolding ruleOf
-  target-output-of i d h = getD-tabulate (ruleOutputCount block) (λ k. originOf (byteAt block (12 + k))) i d h
+  target-output-of i d h = target-output-by originOf (attributeIn block) block i d h
 
-  -- a vertex that is read from the record that starts at `at`, field by field
-  module _ {P : Type 0} (naming : ℕ → P) (at : ℕ) {p : Pattern P} (read : p ≡ patternFrom naming block at) where
-    kind-at : p .kind ≡ byteAt block at
-    unfolding patternFrom
-    kind-at = ap (λ (q : Pattern P). q .kind) read
-
-    operator-at : p .operator ≡ byteAt block (at + 1)
-    unfolding patternFrom
-    operator-at = ap (λ (q : Pattern P). q .operator) read
-
-    inputs-at : length (p .inputs) ≡ byteAt block (at + 2)
-    unfolding patternFrom
-    inputs-at =
-        ap (λ (q : Pattern P). length (q .inputs)) read
-        ∙ length-tabulate (byteAt block (at + 2)) (λ i. naming (byteAt block (at + 4 + i)))
-
-    input-at : (i : ℕ) (d : P) → i < length (p .inputs) → getD (p .inputs) i d ≡ naming (byteAt block (at + 4 + i))
-    unfolding patternFrom
-    input-at i d l =
-        ap (λ (q : Pattern P). getD (q .inputs) i d) read
-        ∙ getD-tabulate (byteAt block (at + 2)) (λ k. naming (byteAt block (at + 4 + k))) i d (rw inputs-at at l)
-
-    attributes-at : length (p .attributes) ≡ byteAt block (at + 3)
-    unfolding patternFrom
-    attributes-at =
-        ap (λ (q : Pattern P). length (q .attributes)) read
-        ∙ length-tabulate (byteAt block (at + 3)) (λ i. expressionOf block (byteAt block (at + 10 + i)))
-
-    attribute-at : (i : ℕ) (d : Expression) → i < length (p .attributes)
-        → getD (p .attributes) i d ≡ expressionOf block (byteAt block (at + 10 + i))
-    unfolding patternFrom
-    attribute-at i d l =
-        ap (λ (q : Pattern P). getD (q .attributes) i d) read
-        ∙ getD-tabulate (byteAt block (at + 3)) (λ k. expressionOf block (byteAt block (at + 10 + k))) i d (rw attributes-at at l)
-
-  -- the same of a source or target vertex, by its number
   pub source-kind-at : (j : ℕ) → j < sourceCount block → sourceOf (ruleOf block) j .kind ≡ byteAt block (vertexAt j)
-  source-kind-at j h = kind-at (λ p. p) (vertexAt j) (source-of j h)
+  unfolding ruleOf
+  source-kind-at j h = source-kind-by originOf (attributeIn block) block j h
 
   pub source-operator-at : (j : ℕ) → j < sourceCount block → sourceOf (ruleOf block) j .operator ≡ byteAt block (vertexAt j + 1)
-  source-operator-at j h = operator-at (λ p. p) (vertexAt j) (source-of j h)
+  unfolding ruleOf
+  source-operator-at j h = source-operator-by originOf (attributeIn block) block j h
 
   pub source-count-at : (j : ℕ) → j < sourceCount block → length (sourceInputs (ruleOf block) j) ≡ byteAt block (vertexAt j + 2)
-  source-count-at j h = inputs-at (λ p. p) (vertexAt j) (source-of j h)
+  unfolding ruleOf
+  source-count-at j h = source-count-by originOf (attributeIn block) block j h
 
   pub source-input-at : (j i d : ℕ) → j < sourceCount block → i < length (sourceInputs (ruleOf block) j)
       → getD (sourceInputs (ruleOf block) j) i d ≡ byteAt block (vertexAt j + 4 + i)
-  source-input-at j i d h = input-at (λ p. p) (vertexAt j) (source-of j h) i d
+  unfolding ruleOf
+  source-input-at j i d h l = source-input-by originOf (attributeIn block) block j h i d l
 
-  pub source-attributes-at : (j : ℕ) → j < sourceCount block
-      → length (sourceOf (ruleOf block) j .attributes) ≡ byteAt block (vertexAt j + 3)
-  source-attributes-at j h = attributes-at (λ p. p) (vertexAt j) (source-of j h)
+  pub source-attributes-at : (j : ℕ) → j < sourceCount block → length (sourceOf (ruleOf block) j .attributes) ≡ byteAt block (vertexAt j + 3)
+  unfolding ruleOf
+  source-attributes-at j h = source-attributes-by originOf (attributeIn block) block j h
 
   pub source-attribute-at : (j i : ℕ) (d : Expression) → j < sourceCount block → i < length (sourceOf (ruleOf block) j .attributes)
-      → getD (sourceOf (ruleOf block) j .attributes) i d ≡ expressionOf block (byteAt block (vertexAt j + 10 + i))
-  source-attribute-at j i d h = attribute-at (λ p. p) (vertexAt j) (source-of j h) i d
+      → getD (sourceOf (ruleOf block) j .attributes) i d ≡ attributeIn block j i
+  unfolding ruleOf
+  source-attribute-at j i d h l = source-attribute-by originOf (attributeIn block) block j h i d l
 
-  pub target-kind-at : (t : ℕ) → t < targetCount block
-      → targetOf (ruleOf block) t .kind ≡ byteAt block (vertexAt (sourceCount block + t))
-  target-kind-at t h = kind-at originOf (vertexAt (sourceCount block + t)) (target-of t h)
+  pub target-kind-at : (t : ℕ) → t < targetCount block → targetOf (ruleOf block) t .kind ≡ byteAt block (vertexAt (sourceCount block + t))
+  unfolding ruleOf
+  target-kind-at t h = target-kind-by originOf (attributeIn block) block t h
 
   pub target-operator-at : (t : ℕ) → t < targetCount block
       → targetOf (ruleOf block) t .operator ≡ byteAt block (vertexAt (sourceCount block + t) + 1)
-  target-operator-at t h = operator-at originOf (vertexAt (sourceCount block + t)) (target-of t h)
+  unfolding ruleOf
+  target-operator-at t h = target-operator-by originOf (attributeIn block) block t h
 
   pub target-count-at : (t : ℕ) → t < targetCount block
       → length (targetOf (ruleOf block) t .inputs) ≡ byteAt block (vertexAt (sourceCount block + t) + 2)
-  target-count-at t h = inputs-at originOf (vertexAt (sourceCount block + t)) (target-of t h)
+  unfolding ruleOf
+  target-count-at t h = target-count-by originOf (attributeIn block) block t h
 
   pub target-input-at : (t i : ℕ) (d : Origin) → t < targetCount block → i < length (targetOf (ruleOf block) t .inputs)
       → getD (targetOf (ruleOf block) t .inputs) i d ≡ originOf (byteAt block (vertexAt (sourceCount block + t) + 4 + i))
-  target-input-at t i d h = input-at originOf (vertexAt (sourceCount block + t)) (target-of t h) i d
+  unfolding ruleOf
+  target-input-at t i d h l = target-input-by originOf (attributeIn block) block t h i d l
 
   pub target-attributes-at : (t : ℕ) → t < targetCount block
       → length (targetOf (ruleOf block) t .attributes) ≡ byteAt block (vertexAt (sourceCount block + t) + 3)
-  target-attributes-at t h = attributes-at originOf (vertexAt (sourceCount block + t)) (target-of t h)
+  unfolding ruleOf
+  target-attributes-at t h = target-attributes-by originOf (attributeIn block) block t h
 
   pub target-attribute-at : (t i : ℕ) (d : Expression) → t < targetCount block → i < length (targetOf (ruleOf block) t .attributes)
-      → getD (targetOf (ruleOf block) t .attributes) i d
-      ≡ expressionOf block (byteAt block (vertexAt (sourceCount block + t) + 10 + i))
-  target-attribute-at t i d h = attribute-at originOf (vertexAt (sourceCount block + t)) (target-of t h) i d
+      → getD (targetOf (ruleOf block) t .attributes) i d ≡ attributeIn block (sourceCount block + t) i
+  unfolding ruleOf
+  target-attribute-at t i d h l = target-attribute-by originOf (attributeIn block) block t h i d l
 
   -- ---- what a header that fits says, and a record that follows its kind
 

@@ -5,7 +5,8 @@ use mathlib.Core.Bool.{true}
 use mathlib.Core.List.{List}
 use Prim.Native.Nat.{ℕ, _<_}
 use Rattle.definitions.specs.Graph.{slotCount, graphOf}
-use Rattle.definitions.specs.Rule.{sourceCount, ruleOf}
+use Rattle.definitions.specs.Rule.{sourceCount}
+use Rattle.rule_fields.specs.Fixed.{fixedOf}
 use Rattle.graph_fields.specs.Layout.{ReadableGraph}
 use Rattle.match_look.specs.Candidate.{isCandidate}
 use Rattle.match_look.specs.Setting.{Matchable}
@@ -17,6 +18,6 @@ pub record SettleReady (graph rule : List ℕ) (j v : ℕ) (images : List ℕ) :
   pub matchable : Matchable rule
   pub vertex : j < sourceCount rule
   pub slot : v < slotCount graph
-  pub candidate : isCandidate (graphOf graph) (ruleOf rule) j v ≡ true
-  pub partial : Partial (graphOf graph) (ruleOf rule) j images
-  pub inputs : SendsInputs (graphOf graph) (ruleOf rule) j v 0 images
+  pub candidate : isCandidate (graphOf graph) (fixedOf rule) j v ≡ true
+  pub partial : Partial (graphOf graph) (fixedOf rule) j images
+  pub inputs : SendsInputs (graphOf graph) (fixedOf rule) j v 0 images

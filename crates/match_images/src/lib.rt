@@ -9,8 +9,9 @@ ghost use lib.Dec.{eqb};
 ghost use lib.ListN.{length, getD};
 ghost use Rattle.definitions.specs.Lists.{anyBelow};
 ghost use Rattle.definitions.specs.Graph.{graphOf};
-ghost use Rattle.definitions.specs.Rule.{sideCapacity, ruleOf};
+ghost use Rattle.definitions.specs.Rule.{sideCapacity};
 ghost use Rattle.definitions.specs.Match.{imageOf};
+ghost use Rattle.rule_fields.specs.Fixed.{fixedOf};
 ghost use Rattle.match_images.specs.Partial.{Sends, Step};
 ghost use Rattle.match_images.specs.Ready.{SettleReady};
 
@@ -40,7 +41,7 @@ pub fn settle(
     images: &mut [u16; SIDE_CAPACITY],
 ) -> bool
     requires { ⌜ SettleReady (now graph) (now rule) j v (now images) ⌝ }
-    ensures { λ r. ⌜ Step (graphOf (now (graph .entry))) (ruleOf (now (rule .entry))) j (now (images .entry)) (Sends j v) (suc j) r
+    ensures { λ r. ⌜ Step (graphOf (now (graph .entry))) (fixedOf (now (rule .entry))) j (now (images .entry)) (Sends j v) (suc j) r
         (now (images .exit)) ⌝ }
 {
     if is_taken(images, j, v) {

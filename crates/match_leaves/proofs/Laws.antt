@@ -11,13 +11,14 @@ use native.Mathlib.Omega.{arith}
 use borrow.Author.Tests.{ltb-true, ltb-false, le-leb, lt-leb, eq-eqb, eqb-true, eqb-false}
 use lib.Dec.{eqb, ltb}
 use lib.IntN.{ℤ}
-use lib.ListN.{length, getD}
+use lib.ListN.{length, getD, List·getD-eq-default}
 use Rattle.definitions.specs.Lists.{within, build}
 use Rattle.definitions.specs.Fields.{u32At, signed}
-use Rattle.definitions.specs.Graph.{Slot, Graph, emptySlot, slotCount, graphOf, slotOf}
-use Rattle.definitions.specs.Rule.{sourceCount, nodeCount, nodeAt, anything, constant, access, formAny, formConstant, formAccess, nodeForm, nodeLeft, nodeRight, nodeFrom, expressions, expressionOf, nodeFits}
+use Rattle.definitions.specs.Graph.{unusedPlace, Slot, Graph, emptySlot, slotCount, graphOf, slotOf}
+use Rattle.definitions.specs.Rule.{sourceCount, nodeAt, anything, constant, access, formAny, formConstant, formAccess, nodeForm, nodeFrom, expressions, nodeFits, nodeBy, nodeLeft, nodeRight}
 use Rattle.definitions.specs.Attributes.{result}
 use Rattle.definitions.specs.Match.{imageOf, attributeOf, readAttribute}
+use Rattle.rule_fields.specs.Fixed.{nodesIn, nodeIn, expressionIn}
 use Rattle.laws.proofs.Lists.{decided, needed}
 use Rattle.laws.proofs.Builds.{build-at}
 use Rattle.laws.proofs.Graph.{length-slots, slot-past}
@@ -41,6 +42,22 @@ module _ (s : Slot) (b : ℕ) where
   unfolding attributeOf
   place-within h l = simp (le-leb 1 b h, le-leb b (length (s .attributes)) l)
 
+-- an Empty slot has no attributes
+empty-none : (b : ℕ) → none ≡ attributeOf emptySlot b
+unfolding emptySlot
+empty-none b =
+    ⊎-elim
+    (λ (t : ltb b 1 ≡ true). place-zero emptySlot b (ltb-true b 1 t))
+    (λ (t : ltb b 1 ≡ false). place-past emptySlot b (omega (arith, ltb-false b 1 t)))
+    (decided (ltb b 1))
+
+-- a vertex past the last image has none, so nothing is read
+pub read-outside : (graph images : List ℕ) (v b : ℕ) → length images ≤ v → slotCount graph ≤ unusedPlace
+    → none ≡ readAttribute (graphOf graph) images v b
+unfolding readAttribute imageOf
+read-outside graph images v b past few =
+    rw (List·getD-eq-default images unusedPlace past, slot-past (graphOf graph) unusedPlace (rw (length-slots graph) few)) (empty-none b)
+
 -- w is the image of v
 module _ (graph images : List ℕ) (v b w : ℕ) (place : v < length images) (image : w ≡ getD images v 0) where
   read-of : attributeOf (slotOf (graphOf graph) w) b ≡ readAttribute (graphOf graph) images v b
@@ -49,12 +66,7 @@ module _ (graph images : List ℕ) (v b w : ℕ) (place : v < length images) (im
 
   -- what is no slot has no attributes
   pub read-no-slot : slotCount graph ≤ w → none ≡ readAttribute (graphOf graph) images v b
-  unfolding emptySlot
-  read-no-slot h =
-      rw (← read-of, slot-past (graphOf graph) w (rw (length-slots graph) h)) (⊎-elim
-      (λ (t : ltb b 1 ≡ true). place-zero emptySlot b (ltb-true b 1 t))
-      (λ (t : ltb b 1 ≡ false). place-past emptySlot b (omega (arith, ltb-false b 1 t)))
-      (decided (ltb b 1)))
+  read-no-slot h = rw (← read-of, slot-past (graphOf graph) w (rw (length-slots graph) h)) (empty-none b)
 
   pub read-zero : b < 1 → none ≡ readAttribute (graphOf graph) images v b
   read-zero h = place-zero (slotOf (graphOf graph) w) b h ∙ read-of
@@ -76,57 +88,50 @@ attribute-bounded s b =
     (λ (f : within 1 b (length (s .attributes)) ≡ false). simp f)
     (decided (within 1 b (length (s .attributes))))
 
-read-bounded : (g : Graph) (images : List ℕ) (v b : ℕ) → bounded (readAttribute g images v b) ≡ true
+pub read-bounded : (g : Graph) (images : List ℕ) (v b : ℕ) → bounded (readAttribute g images v b) ≡ true
 unfolding readAttribute
 read-bounded g images v b = attribute-bounded (slotOf g (imageOf images v)) b
 
 -- ---- the nodes of a block
 
-pub node-built : (block : List ℕ) (k : ℕ) → k < nodeCount block
-    → expressionOf block k ≡ nodeFrom block (build (nodeFrom block) k) k
-unfolding expressionOf expressions
-node-built block k l = build-at (nodeFrom block) (nodeCount block) k anything l
+pub node-built : (block : List ℕ) (k : ℕ) → k < nodesIn block
+    → expressionIn block k ≡ nodeIn block (build (nodeIn block) k) k
+unfolding expressionIn
+node-built block k l = build-at (nodeIn block) (nodesIn block) k anything l
 
-module _ (block : List ℕ) (k : ℕ) (inside : k < nodeCount block) where
-  pub any-node : nodeForm block k ≡ formAny → expressionOf block k ≡ anything
-  unfolding nodeFrom
+module _ (block : List ℕ) (k : ℕ) (inside : k < nodesIn block) where
+  pub any-node : nodeForm block k ≡ formAny → expressionIn block k ≡ anything
+  unfolding nodeBy
   any-node h = node-built block k inside ∙ simp (eq-eqb (nodeForm block k) formAny h)
 
-  pub constant-node : nodeForm block k ≡ formConstant → expressionOf block k ≡ constant (signed (u32At block (nodeAt block k + 4)))
-  unfolding nodeFrom
+  pub constant-node : nodeForm block k ≡ formConstant → expressionIn block k ≡ constant (signed (u32At block (nodeAt block k + 4)))
+  unfolding nodeBy
   constant-node h = node-built block k inside ∙ simp h
 
-  pub access-node : nodeForm block k ≡ formAccess → expressionOf block k ≡ access (nodeLeft block k) (nodeRight block k)
-  unfolding nodeFrom
+  pub access-node : nodeForm block k ≡ formAccess → expressionIn block k ≡ access (nodeLeft block k) (nodeRight block k)
+  unfolding nodeBy
   access-node h = node-built block k inside ∙ simp h
-
-  -- an access that fits names a source vertex
-  pub access-vertex : nodeFits block k ≡ true → nodeForm block k ≡ formAccess → nodeLeft block k < sourceCount block
-  unfolding nodeFits
-  access-vertex fits h =
-      ltb-true (nodeLeft block k) (sourceCount block)
-      (needed (ltb (nodeLeft block k) (sourceCount block)) fits (λ f. simp (h, f, and-false)))
 
   -- ---- results, by the form
 
   module _ (read : ℕ → ℕ → Option ℤ) where
-    pub any-gives : nodeForm block k ≡ formAny → none ≡ result read (expressionOf block k)
+    pub any-gives : nodeForm block k ≡ formAny → none ≡ result read (expressionIn block k)
     unfolding result
     any-gives h = rw (any-node h)
 
-    pub constant-gives : nodeForm block k ≡ formConstant → some (signed (u32At block (nodeAt block k + 4))) ≡ result read (expressionOf block k)
+    pub constant-gives : nodeForm block k ≡ formConstant → some (signed (u32At block (nodeAt block k + 4))) ≡ result read (expressionIn block k)
     unfolding result
     constant-gives h = rw (constant-node h)
 
-    access-gives : nodeForm block k ≡ formAccess → read (nodeLeft block k) (nodeRight block k) ≡ result read (expressionOf block k)
+    access-gives : nodeForm block k ≡ formAccess → read (nodeLeft block k) (nodeRight block k) ≡ result read (expressionIn block k)
     unfolding result
     access-gives h = rw (access-node h)
 
     pub read-gives : (v b : ℕ) (x : Option ℤ) → v ≡ nodeLeft block k → b ≡ nodeRight block k → x ≡ read v b → nodeForm block k ≡ formAccess
-        → x ≡ result read (expressionOf block k)
+        → x ≡ result read (expressionIn block k)
     read-gives v b x l r e h = rw (e, l, r) (access-gives h)
 
-module _ (graph rule images : List ℕ) (k : ℕ) (inside : k < nodeCount rule) where
+module _ (graph rule images : List ℕ) (k : ℕ) (inside : k < nodesIn rule) where
   abbrev read : ℕ → ℕ → Option ℤ
   read = readAttribute (graphOf graph) images
 

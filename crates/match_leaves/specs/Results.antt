@@ -5,10 +5,10 @@ use mathlib.Core.Option.{Option}
 use Prim.Native.Nat.{ℕ}
 use lib.IntN.{ℤ}
 use Rattle.definitions.specs.Graph.{graphOf}
-use Rattle.definitions.specs.Rule.{expressionOf}
 use Rattle.definitions.specs.Attributes.{result}
 use Rattle.definitions.specs.Match.{readAttribute}
+use Rattle.rule_fields.specs.Fixed.{expressionIn}
 
 -- what node k gives under a map
 abbrev pub nodeResult : List ℕ → List ℕ → List ℕ → ℕ → Option ℤ
-nodeResult graph rule images k = result (readAttribute (graphOf graph) images) (expressionOf rule k)
+nodeResult graph rule images k = result (readAttribute (graphOf graph) images) (expressionIn rule k)

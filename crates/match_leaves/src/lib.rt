@@ -42,7 +42,7 @@ fn read_attribute(graph: &[u8], images: &[u16; SIDE_CAPACITY], v: usize, b: usiz
     number(attribute_at(graph, image, b - 1))
 }
 
-// What node k gives where it is no operation.
+// What node k gives where it is no operation. An access may name no source vertex in a node that nothing uses: it gives nothing.
 pub fn leaf_value(graph: &[u8], rule: &[u8], images: &[u16; SIDE_CAPACITY], k: usize) -> Value
     requires { ⌜ NodeEvaluation (now graph) (now rule) (now images) ⌝ }
     requires { ⌜ Leaf (now rule) k ⌝ }
@@ -57,5 +57,8 @@ pub fn leaf_value(graph: &[u8], rule: &[u8], images: &[u16; SIDE_CAPACITY], k: u
     }
     let vertex = node_byte(rule, k, 1);
     let place = node_byte(rule, k, 2);
+    if SIDE_CAPACITY <= vertex {
+        return Value::Nothing;
+    }
     read_attribute(graph, images, vertex, place)
 }

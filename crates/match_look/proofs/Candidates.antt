@@ -13,12 +13,14 @@ use Rattle.definitions.specs.Lists.{member}
 use Rattle.definitions.specs.Operators.{kindEmpty}
 use Rattle.definitions.specs.Paths.{Reads}
 use Rattle.definitions.specs.Graph.{Graph, slotOf, inputsOf, isVertex, trueCount}
-use Rattle.definitions.specs.Rule.{Rule, anything, sourceOf, ruleOf, sourceCount, sourceInputs, isRuleInput, accessesBelow}
+use Rattle.definitions.specs.Rule.{Rule, anything, sourceOf, sourceCount, sourceInputs, isRuleInput, accessesBelow}
 use Rattle.definitions.specs.Match.{imageOf, isInterior, mustBePrivate, Match, placesOf}
+use Rattle.rule_fields.specs.Fixed.{fixedOf}
 use Rattle.laws.proofs.Lists.{decided, and-left, and-right, needed}
 use Rattle.laws.proofs.Members.{true-holds, mem-place}
 use Rattle.laws.proofs.Match.{image-inside, match-inputs}
-use Rattle.laws.proofs.Rule.{source-reader, length-source, wild-input}
+use Rattle.laws.proofs.Rule.{source-reader, wild-input}
+use Rattle.rule_fields.proofs.Fixed.{length-source}
 use Rattle.rule_uses.specs.Demands.{demandOf}
 use Rattle.theory.proofs.Inside.{private-uses}
 use Rattle.match_look.specs.Head.{Head, slotHead, patternHead, SameHead}
@@ -89,13 +91,13 @@ pub record Formed (r : Rule) : Type 0 where
       → accessesBelow j (getD (sourceOf r j .attributes) i anything) ≡ true
 
 module _ (block : List ℕ) (m : Matchable block) where
-  inputs-lower : (j u : ℕ) → Reads (sourceInputs (ruleOf block)) j u → u < j
+  inputs-lower : (j u : ℕ) → Reads (sourceInputs (fixedOf block)) j u → u < j
   inputs-lower j u reads =
-      let inside : j < sourceCount block = rw (length-source block) at (source-reader (ruleOf block) j u reads) in
+      let inside : j < sourceCount block = rw (length-source block) at (source-reader (fixedOf block) j u reads) in
       let found = mem-place 255 reads in
       rw (found .2) at (m .layered .lower j (found .0) inside (found .1))
 
-  pub formed : Formed (ruleOf block)
+  pub formed : Formed (fixedOf block)
   formed = record {
     lower = inputs-lower;
     plain = m .plain;

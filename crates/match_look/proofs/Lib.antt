@@ -1,3 +1,4 @@
 pub mod Candidates
 pub mod Look
 pub mod Words
+pub mod Working

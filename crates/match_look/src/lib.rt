@@ -14,7 +14,8 @@ use rule_fields::source_operator;
 ghost use mathlib.Core.Path.{_≡_};
 ghost use Prim.Native.Nat.{_<_};
 ghost use Rattle.definitions.specs.Graph.{slotCount, graphOf, slotOf};
-ghost use Rattle.definitions.specs.Rule.{sourceCount, ruleOf, sourceOf};
+ghost use Rattle.definitions.specs.Rule.{sourceCount, sourceOf};
+ghost use Rattle.rule_fields.specs.Fixed.{fixedOf};
 ghost use Rattle.graph_fields.specs.Layout.{ReadableGraph};
 ghost use Rattle.rule_fields.specs.Layout.{ReadableRule};
 ghost use Rattle.match_look.specs.Head.{head, headIn, slotHead, patternHead};
@@ -51,7 +52,7 @@ pub fn slot_head(graph: &[u8], v: usize) -> u32
 pub fn pattern_head(rule: &[u8], j: usize) -> u32
     requires { ⌜ ReadableRule (now rule) ⌝ }
     requires { ⌜ j < sourceCount (now rule) ⌝ }
-    ensures { λ r. ⌜ headIn r ≡ patternHead (sourceOf (ruleOf (now (rule .entry))) j) ⌝ }
+    ensures { λ r. ⌜ headIn r ≡ patternHead (sourceOf (fixedOf (now (rule .entry))) j) ⌝ }
 {
     let kind = source_kind(rule, j);
     let operator = source_operator(rule, j);

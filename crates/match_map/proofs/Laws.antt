@@ -13,27 +13,30 @@ use lib.Seq.{ext-getD, getD-take}
 use Rattle.definitions.specs.Lists.{allBelow}
 use Rattle.definitions.specs.Fields.{u16At}
 use Rattle.definitions.specs.Graph.{unusedPlace, Graph, graphOf}
-use Rattle.definitions.specs.Rule.{sideLimit, sideCapacity, sourceCount, ruleOutputCount, Rule, ruleOf, SoundRule}
+use Rattle.definitions.specs.Rule.{sideCapacity, sourceCount, ruleOutputCount, Rule}
 use Rattle.definitions.specs.Match.{imageOf, Match, isMatch}
-use Rattle.definitions.specs.Operations.{mapPlaces, imagesIn}
+use Rattle.definitions.specs.Operations.{mapPlaces, mapBytes, imagesIn}
 use Rattle.definitions.specs.ReadElsewhere.{isMatchMap}
+use Rattle.rule_fields.specs.Fixed.{isExpanded, fixedOf}
 use Rattle.laws.proofs.Lists.{decided, true-not-false, fails, and-left, and-right, allBelow-at, allBelow-every}
 use Rattle.laws.proofs.Tests.{same-tests}
 use Rattle.laws.proofs.Members.{mem-at}
 use Rattle.laws.proofs.Walks.{rest}
-use Rattle.laws.proofs.Rule.{length-source, length-source-outputs, outputs-below, few-sources}
+use Rattle.rule_fields.proofs.Fixed.{length-source, length-source-outputs, lent-rule}
 use Rattle.laws.proofs.Match.{image-at, images-length, images-at, image-inside}
 use Rattle.theory.proofs.Match.{test-sound, test-complete}
+use Rattle.rule_nodes.specs.Working.{WorkingRule}
+use Rattle.rule_sound.proofs.Fixed.{in-order-of, whole-in-order-of}
 use Rattle.rule_order.specs.InOrder.{InOrder, visitedAfter}
-use Rattle.rule_order.proofs.InOrder.{in-order-first, in-order-rest, in-order-start, in-order-whole}
+use Rattle.rule_order.proofs.InOrder.{in-order-first, in-order-rest}
 use Rattle.match_images.specs.Partial.{Partial, Extends, Sends, Step}
-use Rattle.rule_check.proofs.Readable.{rule-readable}
 use Rattle.match_look.proofs.Candidates.{formed}
-use Rattle.matching.proofs.Sound.{rule-matchable}
+use Rattle.match_look.proofs.Working.{rule-matchable}
 use Rattle.match_outputs.proofs.Whole.{partial-match}
 use Rattle.match_images.proofs.Steps.{no-step, then-step, second-fails}
 use Rattle.match_outputs.proofs.Steps.{Blank, blank-after, nothing-mapped}
 use Rattle.match_map.specs.Attempt.{SendsOutputs}
+use Rattle.match_map.specs.Holding.{placesIn, isMapOf, MapFits}
 
 -- ---- an output after the other
 
@@ -45,20 +48,20 @@ pub record Attempted (g : Graph) (r : Rule) (map before : List ℕ) (i next : �
   pub order : InOrder r next (drop i (r .sourceOutputs))
   pub whole : visitedAfter next (drop i (r .sourceOutputs)) ≡ length (r .source)
 
-pub attempt-start : (g : Graph) (rule map images : List ℕ) → SoundRule rule → length images ≡ sideCapacity
-    → Attempted g (ruleOf rule) map images 0 0 images
-attempt-start g rule map images sound size = record {
+pub attempt-start : (g : Graph) (rule map images : List ℕ) → WorkingRule rule → length images ≡ sideCapacity
+    → Attempted g (fixedOf rule) map images 0 0 images
+attempt-start g rule map images working size = record {
   step = record {
     size = size;
     kept = λ i l. refl;
     rest = λ i l. refl;
-    partial = λ t. nothing-mapped g (ruleOf rule) images size;
+    partial = λ t. nothing-mapped g (fixedOf rule) images size;
     meets = λ t k l. absurd (omega arith);
     forced = λ whole m e asked. (refl, λ i l. absurd (omega arith));
   };
   seen = λ k l. absurd (omega arith);
-  order = in-order-start rule sound;
-  whole = in-order-whole rule sound;
+  order = in-order-of sideCapacity (fixedOf rule) (working .sound);
+  whole = whole-in-order-of sideCapacity (fixedOf rule) (working .sound);
 }
 
 module _ (g : Graph) (r : Rule) {map before : List ℕ} {i next : ℕ} {images : List ℕ} (a : Attempted g r map before i next images)
@@ -120,16 +123,20 @@ attempt-ends g r {i = i} a n end e past q =
 
 -- ---- the attempt decides whether the map is a match
 
-module _ (graph rule map : List ℕ) (sound : SoundRule rule) {ok : Bool} {start made : List ℕ} (blank : Blank (ruleOf rule) start)
-    (step : Step (graphOf graph) (ruleOf rule) 0 start (SendsOutputs (ruleOf rule) map (ruleOutputCount rule)) (sourceCount rule) ok made) where
+module _ (graph rule map : List ℕ) (working : WorkingRule rule) (fits : MapFits rule map) {ok : Bool} {start made : List ℕ}
+    (blank : Blank (fixedOf rule) start)
+    (step : Step (graphOf graph) (fixedOf rule) 0 start (SendsOutputs (fixedOf rule) map (ruleOutputCount rule)) (sourceCount rule) ok made) where
   abbrev g : Graph
   g = graphOf graph
 
   abbrev r : Rule
-  r = ruleOf rule
+  r = fixedOf rule
 
   abbrev n : ℕ
-  n = sourceCount rule
+  n = length (r .source)
+
+  abbrev places : ℕ
+  places = placesIn map
 
   abbrev images : List ℕ
   images = imagesIn map n
@@ -145,65 +152,73 @@ module _ (graph rule map : List ℕ) (sound : SoundRule rule) {ok : Bool} {start
   made-blank : Blank r made
   made-blank = blank-after (step .size) (step .rest) blank
 
-  made-at : (j : ℕ) → j < mapPlaces → imageOf made j ≡ getD made j 0
-  made-at j l = image-at made j (omega (arith, step .size))
+  made-at : (j : ℕ) → j < places → imageOf made j ≡ getD made j 0
+  made-at j l = image-at made j (omega (arith, step .size, fits .few))
 
   told-at : (j : ℕ) → j < n → imageOf images j ≡ u16At map (2 * j)
   unfolding imageOf
   told-at j l = images-at map n j unusedPlace l
 
-  made-rest : (j : ℕ) → j < mapPlaces → n ≤ j → getD made j 0 ≡ unusedPlace
-  made-rest j l past = sym (made-at j l) ∙ made-blank .rest j (rw (length-source rule) past)
+  made-rest : (j : ℕ) → j < places → n ≤ j → getD made j 0 ≡ unusedPlace
+  made-rest j l past = sym (made-at j l) ∙ made-blank .rest j past
 
   -- An attempt at a match succeeds, and makes what the map holds.
-  match-made : isMatchMap graph rule map ≡ true → (ok ≡ true) × (allBelow held mapPlaces ≡ true)
-  unfolding isMatchMap
+  match-made : isMapOf g r places map ≡ true → (ok ≡ true) × (allBelow held places ≡ true)
+  unfolding isMapOf
   match-made h =
-      let whole = test-sound g r images (and-left (isMatch g r images) (allBelow spare mapPlaces) h) in
+      let whole = test-sound g r images (and-left (isMatch g r images) (allBelow spare places) h) in
       let forced = step .forced images whole (λ i l. absurd (omega arith)) (λ k l.
-      told-at (getD (r .sourceOutputs) k 255) (outputs-below rule sideLimit (sound .header) (getD (r .sourceOutputs) k 255)
+      told-at (getD (r .sourceOutputs) k 255) (working .sound .outputsInside (getD (r .sourceOutputs) k 255)
       (mem-at (r .sourceOutputs) k 255 (omega (arith, length-source-outputs rule))))) in (
         forced .0,
-        allBelow-every held mapPlaces (λ j l. eq-eqb (u16At map (2 * j)) (getD made j 0) (⊎-elim
+        allBelow-every held places (λ j l. eq-eqb (u16At map (2 * j)) (getD made j 0) (⊎-elim
             (λ (t : ltb j n ≡ true).
             let below = ltb-true j n t in
-            sym (told-at j below) ∙ forced .1 j below ∙ made-at j l)
+            sym (told-at j below) ∙ forced .1 j (omega (arith, length-source rule)) ∙ made-at j l)
             (λ (t : ltb j n ≡ false).
             let past = ltb-false j n t in
-            let unused : spare j ≡ true = allBelow-at spare mapPlaces j (and-right (isMatch g r images) (allBelow spare mapPlaces) h) l in
+            let unused : spare j ≡ true = allBelow-at spare places j (and-right (isMatch g r images) (allBelow spare places) h) l in
             eqb-true (u16At map (2 * j)) unusedPlace (simp t at unused) ∙ sym (made-rest j l past))
             (decided (ltb j n)))),
       )
 
   -- What a successful attempt has made is a match, and so is a map that holds it.
-  made-match : ok ≡ true → allBelow held mapPlaces ≡ true → isMatchMap graph rule map ≡ true
-  unfolding isMatchMap
+  made-match : ok ≡ true → allBelow held places ≡ true → isMapOf g r places map ≡ true
+  unfolding isMapOf
   made-match t h =
       let whole : Partial g r (length (r .source)) made = rw (length-source rule) (step .partial t) in
-      let fits : length (r .source) ≤ sideCapacity = rw (length-source rule) (rule-readable rule sound .whole .source) in
-      let made-is = partial-match g r (formed rule (rule-matchable rule sound)) made whole (made-blank .rest) fits in
-      let holds-made : (j : ℕ) → j < mapPlaces → u16At map (2 * j) ≡ getD made j 0 =
-      λ j l. eqb-true (u16At map (2 * j)) (getD made j 0) (allBelow-at held mapPlaces j h l) in
-      let few = few-sources rule sideLimit (sound .header) in
+      let made-is = partial-match g r (formed rule (rule-matchable rule working)) made whole (made-blank .rest) (working .sound .fewSources) in
+      let holds-made : (j : ℕ) → j < places → u16At map (2 * j) ≡ getD made j 0 =
+      λ j l. eqb-true (u16At map (2 * j)) (getD made j 0) (allBelow-at held places j h l) in
       let same : images ≡ take (length (r .source)) made =
       ext-getD 0 images (take (length (r .source)) made)
-      (images-length map n ∙ sym (length-source rule) ∙ sym (made-is .size))
+      (images-length map n ∙ sym (made-is .size))
       (λ j l.
       let below : j < n = rw (images-length map n) at l in
-      images-at map n j 0 below ∙ holds-made j (omega arith)
-      ∙ sym (getD-take (length (r .source)) made j 0 (rw (length-source rule) below))) in
+      images-at map n j 0 below ∙ holds-made j (omega (arith, fits .enough, length-source rule))
+      ∙ sym (getD-take (length (r .source)) made j 0 below)) in
       let passes : isMatch g r images ≡ true = rw same (test-complete g r (take (length (r .source)) made) made-is) in
       simp (
         passes,
-        allBelow-every spare mapPlaces (λ j l. ⊎-elim
+        allBelow-every spare places (λ j l. ⊎-elim
             (λ (t : ltb j n ≡ true). simp t)
             (λ (t : ltb j n ≡ false).
             simp (t, eq-eqb (u16At map (2 * j)) unusedPlace (holds-made j l ∙ made-rest j l (ltb-false j n t))))
             (decided (ltb j n))),
       )
 
-  pub attempt-decides : ok ≡ true → allBelow held mapPlaces ≡ isMatchMap graph rule map
+  pub attempt-decides : ok ≡ true → allBelow held places ≡ isMapOf g r places map
   attempt-decides t = same-tests (made-match t) (λ h. match-made h .1)
 
-  pub no-match : ok ≡ false → false ≡ isMatchMap graph rule map
+  pub no-match : ok ≡ false → false ≡ isMapOf g r places map
   no-match f = sym (fails (λ h. true-not-false (match-made h .0) f))
+
+-- ---- a rule that is lent, with a map as the operations lend it
+
+lent-places : (map : List ℕ) → length map ≡ mapBytes → placesIn map ≡ mapPlaces
+lent-places map size = rw size
+
+pub lent-map : (graph rule map : List ℕ) → isExpanded rule ≡ false → length map ≡ mapBytes
+    → isMapOf (graphOf graph) (fixedOf rule) (placesIn map) map ≡ isMatchMap graph rule map
+unfolding isMapOf isMatchMap
+lent-map graph rule map lent size = rw (length-source rule, lent-rule rule lent, lent-places map size)

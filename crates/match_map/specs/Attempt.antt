@@ -2,19 +2,20 @@
 -- Assumes nothing.
 use mathlib.Core.Path.{_≡_}
 use mathlib.Core.List.{List}
-use Prim.Native.Nat.{ℕ, _*_, _<_}
+use Prim.Native.Nat.{ℕ, _*_, _<_, _≤_}
 use lib.ListN.{length, getD}
 use Rattle.definitions.specs.Fields.{u16At}
-use Rattle.definitions.specs.Rule.{sideCapacity, Rule, SoundRule}
+use Rattle.definitions.specs.Rule.{sideCapacity, sourceCount, Rule}
 use Rattle.definitions.specs.Match.{imageOf}
-use Rattle.definitions.specs.Operations.{mapBytes}
+use Rattle.rule_nodes.specs.Working.{WorkingRule}
 use Rattle.match_look.specs.Setting.{Setting}
+use Rattle.match_map.specs.Holding.{placesIn}
 
--- the rule is sound, the demands are counted, the map can be read, and there is space for the images
+-- the rule is sound, the demands are counted, every source vertex has a place in the map, and there is space for the images
 pub record AttemptReady (graph rule demanded map images : List ℕ) : Type 0 where
-  pub sound : SoundRule rule
+  pub working : WorkingRule rule
   pub setting : Setting graph rule demanded
-  pub mapSize : length map ≡ mapBytes
+  pub enough : sourceCount rule ≤ placesIn map
   pub space : length images ≡ sideCapacity
 
 -- the first n source outputs are sent where the map says

@@ -1,1 +1,2 @@
 pub mod Attempt
+pub mod Holding

@@ -1,6 +1,5 @@
 // Whether a map is a match. Output images fix the rest of a match, so one attempt at those that the map gives makes the only match that the
 // map can be: nothing is searched.
-use definitions::MAP_PLACES;
 use definitions::SIDE_CAPACITY;
 use definitions::UNUSED_PLACE;
 use fields::greater;
@@ -12,17 +11,18 @@ use rule_fields::output_count;
 use rule_fields::source_output;
 use rule_uses::count_demands;
 ghost use mathlib.Core.Path.{_≡_};
-ghost use Prim.Native.Nat.{_*_};
+ghost use Prim.Native.Nat.{_*_, _≤_};
 ghost use lib.Dec.{eqb};
 ghost use lib.ListN.{length, getD};
 ghost use Rattle.definitions.specs.Lists.{allBelow};
 ghost use Rattle.definitions.specs.Fields.{u16At};
 ghost use Rattle.definitions.specs.Graph.{graphOf, SoundGraph};
-ghost use Rattle.definitions.specs.Rule.{sideCapacity, sourceCount, ruleOutputCount, ruleOf, SoundRule};
-ghost use Rattle.definitions.specs.Operations.{mapPlaces, mapBytes};
-ghost use Rattle.definitions.specs.ReadElsewhere.{isMatchMap};
+ghost use Rattle.definitions.specs.Rule.{sideCapacity, sourceCount, ruleOutputCount};
+ghost use Rattle.rule_fields.specs.Fixed.{fixedOf};
+ghost use Rattle.rule_nodes.specs.Working.{WorkingRule};
 ghost use Rattle.match_images.specs.Partial.{Step};
 ghost use Rattle.match_map.specs.Attempt.{AttemptReady, SendsOutputs};
+ghost use Rattle.match_map.specs.Holding.{placesIn, isMapOf, MapFits};
 
 // The attempt: each output is matched with the slot that the map gives it, the first output first.
 fn attempt(
@@ -33,8 +33,8 @@ fn attempt(
     images: &mut [u16; SIDE_CAPACITY],
 ) -> bool
     requires { ⌜ AttemptReady (now graph) (now rule) (now demands) (now map) (now images) ⌝ }
-    ensures { λ r. ⌜ Step (graphOf (now (graph .entry))) (ruleOf (now (rule .entry))) 0 (now (images .entry))
-        (SendsOutputs (ruleOf (now (rule .entry))) (now (map .entry)) (ruleOutputCount (now (rule .entry))))
+    ensures { λ r. ⌜ Step (graphOf (now (graph .entry))) (fixedOf (now (rule .entry))) 0 (now (images .entry))
+        (SendsOutputs (fixedOf (now (rule .entry))) (now (map .entry)) (ruleOutputCount (now (rule .entry))))
         (sourceCount (now (rule .entry))) r (now (images .exit)) ⌝ }
 {
     let slots = slot_count(graph);
@@ -58,12 +58,14 @@ fn attempt(
 
 // Whether the map holds these images, in every place.
 fn holds_images(map: &[u8], images: &[u16; SIDE_CAPACITY]) -> bool
-    requires { ⌜ length (now map) ≡ mapBytes ⌝ }
+    requires { ⌜ placesIn (now map) ≤ sideCapacity ⌝ }
     requires { ⌜ length (now images) ≡ sideCapacity ⌝ }
-    ensures { λ r. ⌜ r ≡ allBelow (λ j. eqb (u16At (now (map .entry)) (2 * j)) (getD (now (images .entry)) j 0)) mapPlaces ⌝ }
+    ensures { λ r. ⌜ r ≡ allBelow (λ j. eqb (u16At (now (map .entry)) (2 * j)) (getD (now (images .entry)) j 0))
+        (placesIn (now (map .entry))) ⌝ }
 {
+    let places = map.len() / 2;
     let mut j = 0;
-    while j < MAP_PLACES {
+    while j < places {
         if u16_at(map, 2 * j) != widened(images[j]) {
             return false;
         }
@@ -75,9 +77,10 @@ fn holds_images(map: &[u8], images: &[u16; SIDE_CAPACITY]) -> bool
 // Whether the map is a match, any, with 65535 in the places that no source vertex has.
 pub fn is_match(graph: &[u8], rule: &[u8], map: &[u8]) -> bool
     requires { ⌜ SoundGraph (now graph) ⌝ }
-    requires { ⌜ SoundRule (now rule) ⌝ }
-    requires { ⌜ length (now map) ≡ mapBytes ⌝ }
-    ensures { λ r. ⌜ r ≡ isMatchMap (now (graph .entry)) (now (rule .entry)) (now (map .entry)) ⌝ }
+    requires { ⌜ WorkingRule (now rule) ⌝ }
+    requires { ⌜ MapFits (now rule) (now map) ⌝ }
+    ensures { λ r. ⌜ r ≡ isMapOf (graphOf (now (graph .entry))) (fixedOf (now (rule .entry))) (placesIn (now (map .entry)))
+        (now (map .entry)) ⌝ }
 {
     let demands = count_demands(rule);
     let mut images = [UNUSED_PLACE; SIDE_CAPACITY];

@@ -11,27 +11,29 @@ use borrow.Author.Tests.{ltb-true, ltb-false}
 use lib.Dec.{ltb}
 use lib.ListN.{length, getD, take, replicate, length-replicate}
 use Rattle.definitions.specs.Graph.{unusedPlace, slotCount, Graph, graphOf, slotOf}
-use Rattle.definitions.specs.Rule.{sideCapacity, sourceCount, Rule, ruleOf, sourceOf, SoundRule}
+use Rattle.definitions.specs.Rule.{sideCapacity, sourceCount, Rule, sourceOf}
 use Rattle.definitions.specs.Match.{imageOf, Match, MatchFrom, outputImages, NotAfter, leastMatch}
+use Rattle.rule_fields.specs.Fixed.{fixedOf}
 use Rattle.laws.proofs.Lists.{decided, true-not-false}
 use Rattle.laws.proofs.Members.{mem-member}
 use Rattle.laws.proofs.Builds.{getD-none}
 use Rattle.laws.proofs.Graph.{length-slots}
 use Rattle.laws.proofs.Match.{image-inside}
-use Rattle.laws.proofs.Rule.{length-source}
-use Rattle.theory.proofs.Fixing.{sound-fixing}
+use Rattle.rule_fields.proofs.Fixed.{length-source}
+use Rattle.theory.proofs.Fixing.{Fixing}
 use Rattle.theory.proofs.Least.{least-searched, none-found}
-use Rattle.rule_check.proofs.Readable.{rule-readable}
+use Rattle.rule_nodes.specs.Working.{WorkingRule}
+use Rattle.rule_sound.proofs.Fixed.{in-order-of, whole-in-order-of, fixing-of}
 use Rattle.rule_order.specs.InOrder.{InOrder, visitedAfter}
-use Rattle.rule_order.proofs.InOrder.{in-order-first, in-order-start, in-order-whole}
+use Rattle.rule_order.proofs.InOrder.{in-order-first}
 use Rattle.match_images.specs.Partial.{Partial, Extends, Sends, Step}
 use Rattle.match_look.specs.Head.{Head, patternHead}
 use Rattle.match_look.specs.Candidate.{passesLook, isCandidate}
 use Rattle.match_look.proofs.Candidates.{formed, output-candidate}
 use Rattle.match_look.specs.Look.{look}
 use Rattle.match_look.proofs.Look.{no-match-after-no}
+use Rattle.match_look.proofs.Working.{rule-matchable}
 use Rattle.match_candidates.specs.Listed.{NextFrom}
-use Rattle.matching.proofs.Sound.{rule-matchable}
 use Rattle.match_outputs.specs.Finds.{Finds}
 use Rattle.match_outputs.proofs.Whole.{short-images, partial-match}
 
@@ -83,7 +85,7 @@ pass-first g r o start first passed never = record {
 
 -- ---- the lent array
 
--- sixteen places, with 65535 in those that no source vertex has
+-- a place for as many images as there can be, with 65535 in those that no source vertex has
 pub record Blank (r : Rule) (images : List ℕ) : Type 0 where
   pub size : length images ≡ sideCapacity
   pub rest : (i : ℕ) → length (r .source) ≤ i → imageOf images i ≡ unusedPlace
@@ -141,12 +143,15 @@ le-cases x y h f = ⊎-elim (λ (t : ltb x y ≡ true). inl (ltb-true x y t))
     (λ (t : ltb x y ≡ false). let e : x ≡ y = omega (arith, ltb-false x y t) in inr (e, f e))
     (decided (ltb x y))
 
-module _ (graph rule : List ℕ) (sound : SoundRule rule) where
+module _ (graph rule : List ℕ) (working : WorkingRule rule) where
   abbrev g : Graph
   g = graphOf graph
 
   abbrev r : Rule
-  r = ruleOf rule
+  r = fixedOf rule
+
+  fixing : Fixing r
+  fixing = fixing-of sideCapacity r (working .sound)
 
   -- a map of all source vertices is the least match where no match from the start has output images before its own
   pub least-map : (start : ℕ) (made : List ℕ) (end : ℕ) → Partial g r end made → end ≡ length (r .source) → Blank r made
@@ -155,16 +160,16 @@ module _ (graph rule : List ℕ) (sound : SoundRule rule) where
       → Finds (leastMatch g r start) (sourceCount rule) true made
   least-map start made end p e blank from least =
       let whole : Partial g r (length (r .source)) made = rw e at p in
-      let fits : length (r .source) ≤ sideCapacity = rw (length-source rule) (rule-readable rule sound .whole .source) in
-      let f = formed rule (rule-matchable rule sound) in
+      let fits : length (r .source) ≤ sideCapacity = rw (length-source rule) (working .readable .whole .source) in
+      let f = formed rule (rule-matchable rule working) in
       let same = short-images g r f made whole (blank .rest) fits in
       let isMatch = partial-match g r f made whole (blank .rest) fits in
       record {
-        found = λ b. rw (← length-source rule) (least-searched g r (sound-fixing rule sound) start (take (length (r .source)) made)
+        found = λ b. rw (← length-source rule) (least-searched g r fixing start (take (length (r .source)) made)
             (record { from = record { isMatch = isMatch; first = rw same from }; least = rw same least }));
         none = λ f. absurd (true-not-false refl f);
         size = λ b. blank .size;
-        small = λ b. rule-readable rule sound .whole .source;
+        small = λ b. working .readable .whole .source;
         rest = λ b i l. blank .rest i (rw (length-source rule) l);
       }
 
@@ -173,7 +178,7 @@ module _ (graph rule : List ℕ) (sound : SoundRule rule) where
       → Finds (leastMatch g r start) (sourceCount rule) ok images
   nothing-found start never f = record {
     found = λ t. absurd (true-not-false t f);
-    none = λ t. none-found g r (sound-fixing rule sound) start never;
+    none = λ t. none-found g r fixing start never;
     size = λ t. absurd (true-not-false t f);
     small = λ t. absurd (true-not-false t f);
     rest = λ t. absurd (true-not-false t f);
@@ -184,14 +189,14 @@ module _ (graph rule : List ℕ) (sound : SoundRule rule) where
     first-listed = subst (List·Memᴰ o) (sym outputs) (List·Memᴰ·head refl)
 
     pub first-inside : o < length (r .source)
-    first-inside = sound-fixing rule sound .inside o first-listed
+    first-inside = working .sound .outputsInside o first-listed
 
     -- what passes the look for it is a candidate for it
     pub first-candidate : (h : Head) → h ≡ patternHead (sourceOf r o) → (v : ℕ) → passesLook h g v ≡ true → isCandidate g r o v ≡ true
     first-candidate h e v t = output-candidate g r o v (mem-member first-listed) (rw e at t)
 
     pub first-in-order : InOrder r 0 (o ∷ [])
-    first-in-order = in-order-first r 0 o others (subst (InOrder r 0) outputs (in-order-start rule sound))
+    first-in-order = in-order-first r 0 o others (subst (InOrder r 0) outputs (in-order-of sideCapacity r (working .sound)))
 
     module _ (start first : ℕ) (passed : Passed g r o start first) where
       pub first-from : (whole : List ℕ) → MatchFrom g r start whole → first ≤ imageOf whole o
@@ -207,7 +212,7 @@ module _ (graph rule : List ℕ) (sound : SoundRule rule) where
     pub one-found : {made : List ℕ} → Rooted g r o first made → Blank r made → Finds (leastMatch g r start) (sourceCount rule) true made
     unfolding visitedAfter
     one-found {made} root blank =
-        let whole : max 0 (suc o) ≡ length (r .source) = rw outputs at (in-order-whole rule sound) in
+        let whole : max 0 (suc o) ≡ length (r .source) = rw outputs at (whole-in-order-of sideCapacity r (working .sound)) in
         least-map start made (o + 1) (root .partial) (omega arith) blank (rw (outputs, root .image) (passed .from))
         (λ other from. rw (outputs, root .image)
         (le-cases first (imageOf other o) (first-from o [] outputs start first passed other from) (λ e. tt)))

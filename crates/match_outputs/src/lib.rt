@@ -10,8 +10,9 @@ ghost use mathlib.Core.Path.{_≡_};
 ghost use mathlib.Core.Bool.{false};
 ghost use mathlib.Core.List.{[], _∷_};
 ghost use Rattle.definitions.specs.Graph.{graphOf};
-ghost use Rattle.definitions.specs.Rule.{sourceCount, ruleOf};
+ghost use Rattle.definitions.specs.Rule.{sourceCount};
 ghost use Rattle.definitions.specs.Match.{leastMatch};
+ghost use Rattle.rule_fields.specs.Fixed.{fixedOf};
 ghost use Rattle.match_outputs.specs.Finds.{SearchReady, Finds};
 
 // The images of all source vertices, where `ok`; in the places after them stands 65535.
@@ -40,7 +41,7 @@ pub fn search_one(
     start: usize,
 ) -> Found
     requires { ⌜ SearchReady (now graph) (now rule) (now demands) (root ∷ []) ⌝ }
-    ensures { λ r. ⌜ Finds (leastMatch (graphOf (now (graph .entry))) (ruleOf (now (rule .entry))) start)
+    ensures { λ r. ⌜ Finds (leastMatch (graphOf (now (graph .entry))) (fixedOf (now (rule .entry))) start)
         (sourceCount (now (rule .entry))) (r .ok) (r .images) ⌝ }
 {
     let slots = slot_count(graph);

@@ -10,14 +10,16 @@ use borrow.Author.Tests.{eqb-true, eqb-false}
 use lib.Dec.{eqb}
 use lib.ListN.{length, getD}
 use Rattle.definitions.specs.Graph.{Graph, graphOf}
-use Rattle.definitions.specs.Rule.{sourceCount, Rule, ruleOf, sourceOf, SoundRule}
+use Rattle.definitions.specs.Rule.{sideCapacity, sourceCount, Rule, sourceOf}
 use Rattle.definitions.specs.Match.{imageOf, Match, leastMatch}
+use Rattle.rule_fields.specs.Fixed.{fixedOf}
 use Rattle.laws.proofs.Lists.{decided, true-not-false}
 use Rattle.laws.proofs.Members.{mem-member}
 use Rattle.laws.proofs.Match.{image-inside}
-use Rattle.theory.proofs.Fixing.{sound-fixing}
+use Rattle.rule_nodes.specs.Working.{WorkingRule}
+use Rattle.rule_sound.proofs.Fixed.{in-order-of, whole-in-order-of}
 use Rattle.rule_order.specs.InOrder.{InOrder, visitedAfter}
-use Rattle.rule_order.proofs.InOrder.{in-order-rest, in-order-start, in-order-whole}
+use Rattle.rule_order.proofs.InOrder.{in-order-rest}
 use Rattle.match_images.specs.Partial.{Sends, Step}
 use Rattle.match_images.proofs.Maps.{partial-same}
 use Rattle.match_look.specs.Head.{Head, patternHead}
@@ -83,20 +85,20 @@ rooted-after g r o first {images = images} {made = made} f step root = record {
   forced = λ whole m h i l. root .forced whole m h i l ∙ sym (step .kept i l);
 }
 
--- ---- a sound rule with two outputs
+-- ---- a rule with two outputs
 
-module _ (graph rule : List ℕ) (sound : SoundRule rule) (o q : ℕ) (outputs : ruleOf rule .sourceOutputs ≡ o ∷ q ∷ []) where
+module _ (graph rule : List ℕ) (working : WorkingRule rule) (o q : ℕ) (outputs : fixedOf rule .sourceOutputs ≡ o ∷ q ∷ []) where
   abbrev g : Graph
   g = graphOf graph
 
   abbrev r : Rule
-  r = ruleOf rule
+  r = fixedOf rule
 
   second-listed : List·Memᴰ q (r .sourceOutputs)
   second-listed = subst (List·Memᴰ q) (sym outputs) (List·Memᴰ·tail (List·Memᴰ·head refl))
 
   pub second-inside : q < length (r .source)
-  second-inside = sound-fixing rule sound .inside q second-listed
+  second-inside = working .sound .outputsInside q second-listed
 
   -- what passes the look for it is a candidate for it
   pub second-candidate : (h : Head) → h ≡ patternHead (sourceOf r q) → (v : ℕ) → passesLook h g v ≡ true → isCandidate g r q v ≡ true
@@ -106,11 +108,11 @@ module _ (graph rule : List ℕ) (sound : SoundRule rule) (o q : ℕ) (outputs :
   second-in-order =
       let same : max 0 (suc o) ≡ o + 1 = omega arith in
       subst (λ (n : ℕ). InOrder r n (q ∷ [])) same
-      (in-order-rest r 0 o (q ∷ []) (subst (InOrder r 0) outputs (in-order-start rule sound)))
+      (in-order-rest r 0 o (q ∷ []) (subst (InOrder r 0) outputs (in-order-of sideCapacity r (working .sound))))
 
   -- it has no image where the first output has one
   pub second-later : o < q
-  second-later = later r o q outputs (sound .outputs .source) (subst (InOrder r 0) outputs (in-order-start rule sound))
+  second-later = later r o q outputs (working .sound .outputs) (subst (InOrder r 0) outputs (in-order-of sideCapacity r (working .sound)))
 
   pub two-found : (start first second : ℕ) → Passed g r o start first → {images made : List ℕ} {ok : Bool}
       → ((whole : List ℕ) → Match g r whole → imageOf whole o ≡ first → second ≤ imageOf whole q)
@@ -118,10 +120,10 @@ module _ (graph rule : List ℕ) (sound : SoundRule rule) (o q : ℕ) (outputs :
       → Blank r made → Finds (leastMatch g r start) (sourceCount rule) true made
   unfolding visitedAfter
   two-found start first second passed {made = made} least root pair t blank =
-      let whole : max (max 0 (suc o)) (suc q) ≡ length (r .source) = rw outputs at (in-order-whole rule sound) in
+      let whole : max (max 0 (suc o)) (suc q) ≡ length (r .source) = rw outputs at (whole-in-order-of sideCapacity r (working .sound)) in
       let image : imageOf made o ≡ first = pair .kept o (omega arith) ∙ root .image in
       let other-image : imageOf made q ≡ second = pair .meets t in
-      least-map graph rule sound start made (max (o + 1) (suc q)) (pair .partial t) (omega arith) blank (rw (outputs, image) (passed .from))
+      least-map graph rule working start made (max (o + 1) (suc q)) (pair .partial t) (omega arith) blank (rw (outputs, image) (passed .from))
       (λ other from. rw (outputs, image, other-image) (le-cases first (imageOf other o)
-      (first-from graph rule sound o (q ∷ []) outputs start first passed other from)
+      (first-from graph rule working o (q ∷ []) outputs start first passed other from)
       (λ e. le-cases second (imageOf other q) (least other (from .isMatch) (sym e)) (λ d. tt))))

@@ -11,8 +11,9 @@ use match_outputs::none_found;
 use matching::match_candidate;
 ghost use mathlib.Core.List.{[], _∷_};
 ghost use Rattle.definitions.specs.Graph.{graphOf};
-ghost use Rattle.definitions.specs.Rule.{sourceCount, ruleOf};
+ghost use Rattle.definitions.specs.Rule.{sourceCount};
 ghost use Rattle.definitions.specs.Match.{leastMatch};
+ghost use Rattle.rule_fields.specs.Fixed.{fixedOf};
 ghost use Rattle.match_outputs.specs.Finds.{SearchReady, Finds};
 
 // The nested search: the first output, source vertex `root`, from `start` up, and for each image of it the second, `last`, from 0 up. The
@@ -28,7 +29,7 @@ pub fn search_pairs(
     start: usize,
 ) -> Found
     requires { ⌜ SearchReady (now graph) (now rule) (now demands) (root ∷ last ∷ []) ⌝ }
-    ensures { λ r. ⌜ Finds (leastMatch (graphOf (now (graph .entry))) (ruleOf (now (rule .entry))) start)
+    ensures { λ r. ⌜ Finds (leastMatch (graphOf (now (graph .entry))) (fixedOf (now (rule .entry))) start)
         (sourceCount (now (rule .entry))) (r .ok) (r .images) ⌝ }
 {
     let slots = slot_count(graph);

@@ -5,7 +5,9 @@ use rule_uses::count_places;
 ghost use mathlib.Core.Path.{_≡_};
 ghost use Prim.Native.Nat.{_<_};
 ghost use lib.Dec.{ltb};
-ghost use Rattle.definitions.specs.Rule.{sourceCount, ruleOf, SoundRule};
+ghost use Rattle.definitions.specs.Rule.{sourceCount};
+ghost use Rattle.rule_fields.specs.Fixed.{fixedOf};
+ghost use Rattle.rule_nodes.specs.Working.{WorkingRule};
 ghost use Rattle.match_readers.specs.Elsewhere.{ToldByCount};
 
 // Whether an image is named from elsewhere, where so many places name it, and so many input places of the rule's own source name its
@@ -18,9 +20,9 @@ fn exceeds(count: usize, places: usize) -> bool
 
 // Whether the image of source vertex j is read elsewhere in a match where `count` places name it, whatever the graph.
 pub fn named_elsewhere(rule: &[u8], j: usize, count: usize) -> bool
-    requires { ⌜ SoundRule (now rule) ⌝ }
+    requires { ⌜ WorkingRule (now rule) ⌝ }
     requires { ⌜ j < sourceCount (now rule) ⌝ }
-    ensures { λ r. ⌜ ToldByCount (ruleOf (now (rule .entry))) j count r ⌝ }
+    ensures { λ r. ⌜ ToldByCount (fixedOf (now (rule .entry))) j count r ⌝ }
 {
     let places = count_places(rule);
     exceeds(count, widened(places[j]))

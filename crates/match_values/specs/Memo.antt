@@ -4,11 +4,11 @@ use mathlib.Core.Path.{_≡_}
 use mathlib.Core.Bool.{cond}
 use mathlib.Core.List.{List}
 use mathlib.Core.Option.{Option, none, some}
-use Prim.Native.Nat.{ℕ}
+use Prim.Native.Nat.{ℕ, _≤_}
 use lib.Dec.{eqb}
 use lib.IntN.{ℤ, pos, negsuc}
 use lib.ListN.{length, getD}
-use Rattle.definitions.specs.Rule.{nodeLimit}
+use Rattle.rule_fields.specs.Fixed.{nodesIn}
 use Rattle.numbers.specs.declared.Value.{Value}
 use Rattle.numbers.specs.declared.Value.the-variants.{Nothing, Plus, Minus}
 use Rattle.match_leaves.specs.Results.{nodeResult}
@@ -30,7 +30,7 @@ remembered state magnitude = cond (eqb state 1) none (cond (eqb state 2) (some (
 
 -- every node has its place, and what is known is what the node gives
 pub record Memo (graph rule images states magnitudes : List ℕ) : Type 0 where
-  pub stateSize : length states ≡ nodeLimit
-  pub magnitudeSize : length magnitudes ≡ nodeLimit
+  pub stateSize : nodesIn rule ≤ length states
+  pub magnitudeSize : nodesIn rule ≤ length magnitudes
   pub known : (k : ℕ) → (getD states k 0 ≡ 0 → ⊥)
       → remembered (getD states k 0) (getD magnitudes k 0) ≡ nodeResult graph rule images k

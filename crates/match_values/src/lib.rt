@@ -6,15 +6,19 @@ use definitions::NODE_LIMIT;
 use definitions::SIDE_CAPACITY;
 use match_leaves::leaf_value;
 use numbers::Value;
-use rule_nodes::node_byte;
+use rule_fields::fixed_node_count;
+use rule_nodes::FIXED_NODE_LIMIT;
 use rule_nodes::node_form;
+use rule_nodes::node_left;
+use rule_nodes::node_right;
 ghost use mathlib.Core.Path.{_≡_};
-ghost use Prim.Native.Nat.{_<_};
-ghost use Rattle.definitions.specs.Rule.{nodeCount};
+ghost use Prim.Native.Nat.{_<_, _≤_};
+ghost use Rattle.definitions.specs.Rule.{nodeLimit};
 ghost use Rattle.numbers.specs.Value.{valueOf};
 ghost use Rattle.match_leaves.specs.Evaluable.{NodeEvaluation};
 ghost use Rattle.match_leaves.specs.Results.{nodeResult};
 ghost use Rattle.match_values.specs.Memo.{stateOf, magnitudeOf, remembered, Memo};
+ghost use Rattle.rule_fields.specs.Fixed.{nodesIn};
 
 // ---- results that are known
 
@@ -60,11 +64,11 @@ fn node_value(
     rule: &[u8],
     images: &[u16; SIDE_CAPACITY],
     k: usize,
-    states: &mut [u8; NODE_LIMIT],
-    magnitudes: &mut [u64; NODE_LIMIT],
+    states: &mut [u8],
+    magnitudes: &mut [u64],
 ) -> Value
     requires { ⌜ NodeEvaluation (now graph) (now rule) (now images) ⌝ }
-    requires { ⌜ k < nodeCount (now rule) ⌝ }
+    requires { ⌜ k < nodesIn (now rule) ⌝ }
     requires { ⌜ Memo (now graph) (now rule) (now images) (now states) (now magnitudes) ⌝ }
     ensures { λ r. ⌜ valueOf r ≡ nodeResult (now (graph .entry)) (now (rule .entry)) (now (images .entry)) k ⌝ }
     ensures { λ r. ⌜ Memo (now (graph .entry)) (now (rule .entry)) (now (images .entry)) (now (states .exit)) (now (magnitudes .exit)) ⌝ }
@@ -76,8 +80,8 @@ fn node_value(
     if form < FORM_ADD {
         return leaf_value(graph, rule, images, k);
     }
-    let left = node_byte(rule, k, 1);
-    let right = node_byte(rule, k, 2);
+    let left = node_left(rule, k);
+    let right = node_right(rule, k);
     let first = node_value(graph, rule, images, left, states, magnitudes);
     let second = node_value(graph, rule, images, right, states, magnitudes);
     let value = combine(form, first, second);
@@ -89,13 +93,51 @@ fn node_value(
     recalled(state, magnitude)
 }
 
-// What node k gives where it is an operation: nothing is known before.
-pub fn operation_value(graph: &[u8], rule: &[u8], images: &[u16; SIDE_CAPACITY], k: usize) -> Value
+// What node k gives in a rule that has no more nodes than a lent one: nothing is known before.
+fn value_of_few(graph: &[u8], rule: &[u8], images: &[u16; SIDE_CAPACITY], k: usize) -> Value
     requires { ⌜ NodeEvaluation (now graph) (now rule) (now images) ⌝ }
-    requires { ⌜ k < nodeCount (now rule) ⌝ }
+    requires { ⌜ k < nodesIn (now rule) ⌝ }
+    requires { ⌜ nodesIn (now rule) ≤ nodeLimit ⌝ }
     ensures { λ r. ⌜ valueOf r ≡ nodeResult (now (graph .entry)) (now (rule .entry)) (now (images .entry)) k ⌝ }
 {
     let mut states = [0u8; NODE_LIMIT];
     let mut magnitudes = [0u64; NODE_LIMIT];
-    node_value(graph, rule, images, k, &mut states, &mut magnitudes)
+    node_value(
+        graph,
+        rule,
+        images,
+        k,
+        &mut states[0..NODE_LIMIT],
+        &mut magnitudes[0..NODE_LIMIT],
+    )
+}
+
+// What node k gives in any rule.
+fn value_of_many(graph: &[u8], rule: &[u8], images: &[u16; SIDE_CAPACITY], k: usize) -> Value
+    requires { ⌜ NodeEvaluation (now graph) (now rule) (now images) ⌝ }
+    requires { ⌜ k < nodesIn (now rule) ⌝ }
+    ensures { λ r. ⌜ valueOf r ≡ nodeResult (now (graph .entry)) (now (rule .entry)) (now (images .entry)) k ⌝ }
+{
+    let mut states = [0u8; FIXED_NODE_LIMIT];
+    let mut magnitudes = [0u64; FIXED_NODE_LIMIT];
+    node_value(
+        graph,
+        rule,
+        images,
+        k,
+        &mut states[0..FIXED_NODE_LIMIT],
+        &mut magnitudes[0..FIXED_NODE_LIMIT],
+    )
+}
+
+// What node k gives where it is an operation. The memo has to be cleared, so a lent rule gets none that is larger than it can need.
+pub fn operation_value(graph: &[u8], rule: &[u8], images: &[u16; SIDE_CAPACITY], k: usize) -> Value
+    requires { ⌜ NodeEvaluation (now graph) (now rule) (now images) ⌝ }
+    requires { ⌜ k < nodesIn (now rule) ⌝ }
+    ensures { λ r. ⌜ valueOf r ≡ nodeResult (now (graph .entry)) (now (rule .entry)) (now (images .entry)) k ⌝ }
+{
+    if fixed_node_count(rule) <= NODE_LIMIT {
+        return value_of_few(graph, rule, images, k);
+    }
+    value_of_many(graph, rule, images, k)
 }

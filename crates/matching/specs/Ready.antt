@@ -6,7 +6,8 @@ use mathlib.Core.List.{List, [], _∷_}
 use Prim.Native.Nat.{ℕ, suc, _<_, _≤_, max}
 use lib.ListN.{length, drop}
 use Rattle.definitions.specs.Graph.{slotCount, Graph, graphOf, slotOf}
-use Rattle.definitions.specs.Rule.{Rule, sourceCount, ruleOf, sourceOf, sourceInputs}
+use Rattle.definitions.specs.Rule.{Rule, sourceCount, sourceOf, sourceInputs}
+use Rattle.rule_fields.specs.Fixed.{fixedOf}
 use Rattle.rule_order.specs.InOrder.{InOrder}
 use Rattle.match_look.specs.Candidate.{isCandidate}
 use Rattle.match_look.specs.Look.{look}
@@ -18,18 +19,18 @@ pub record VertexReady (graph rule demanded : List ℕ) (j v next : ℕ) (images
   pub setting : Setting graph rule demanded
   pub vertex : j < sourceCount rule
   pub slot : v < slotCount graph
-  pub partial : Partial (graphOf graph) (ruleOf rule) next images
-  pub order : InOrder (ruleOf rule) next (j ∷ [])
+  pub partial : Partial (graphOf graph) (fixedOf rule) next images
+  pub order : InOrder (fixedOf rule) next (j ∷ [])
 
 -- the same, where j has no image yet and v is a candidate for it
 pub record CandidateReady (graph rule demanded : List ℕ) (j v next : ℕ) (images : List ℕ) : Type 0 where
   pub setting : Setting graph rule demanded
   pub vertex : j < sourceCount rule
   pub slot : v < slotCount graph
-  pub candidate : isCandidate (graphOf graph) (ruleOf rule) j v ≡ true
+  pub candidate : isCandidate (graphOf graph) (fixedOf rule) j v ≡ true
   pub fresh : next ≤ j
-  pub partial : Partial (graphOf graph) (ruleOf rule) next images
-  pub order : InOrder (ruleOf rule) next (j ∷ [])
+  pub partial : Partial (graphOf graph) (fixedOf rule) next images
+  pub order : InOrder (fixedOf rule) next (j ∷ [])
 
 -- The first `next` source vertices have their images, and the traversal goes on with the inputs of vertex j from place i on. Slot v is a
 -- candidate for j, so that no input is entered where the look said no.
@@ -37,10 +38,10 @@ pub record InputsReady (graph rule demanded : List ℕ) (j v i next : ℕ) (imag
   pub setting : Setting graph rule demanded
   pub vertex : j < sourceCount rule
   pub slot : v < slotCount graph
-  pub candidate : isCandidate (graphOf graph) (ruleOf rule) j v ≡ true
-  pub place : i ≤ length (sourceInputs (ruleOf rule) j)
-  pub partial : Partial (graphOf graph) (ruleOf rule) next images
-  pub order : InOrder (ruleOf rule) next (drop i (sourceInputs (ruleOf rule) j))
+  pub candidate : isCandidate (graphOf graph) (fixedOf rule) j v ≡ true
+  pub place : i ≤ length (sourceInputs (fixedOf rule) j)
+  pub partial : Partial (graphOf graph) (fixedOf rule) next images
+  pub order : InOrder (fixedOf rule) next (drop i (sourceInputs (fixedOf rule) j))
 
 -- After a no of the look, vertex matching says no, and the images are as they were. That it enters no input on the way is no matter of values:
 -- it goes to inputs by way of CandidateReady and InputsReady alone, and both ask for a candidate.

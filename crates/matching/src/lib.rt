@@ -12,7 +12,8 @@ use rule_fields::source_input_count;
 ghost use Prim.Native.Nat.{suc, max};
 ghost use lib.ListN.{drop};
 ghost use Rattle.definitions.specs.Graph.{graphOf};
-ghost use Rattle.definitions.specs.Rule.{ruleOf, sourceInputs};
+ghost use Rattle.definitions.specs.Rule.{sourceInputs};
+ghost use Rattle.rule_fields.specs.Fixed.{fixedOf};
 ghost use Rattle.rule_order.specs.InOrder.{visitedAfter};
 ghost use Rattle.match_images.specs.Partial.{Sends, SendsInputs, Step};
 ghost use Rattle.matching.specs.Ready.{VertexReady, VertexDone, CandidateReady, InputsReady};
@@ -29,7 +30,7 @@ pub fn match_vertex(
     images: &mut [u16; SIDE_CAPACITY],
 ) -> bool
     requires { ⌜ VertexReady (now graph) (now rule) (now demands) j v next (now images) ⌝ }
-    ensures { λ r. ⌜ VertexDone (graphOf (now (graph .entry))) (ruleOf (now (rule .entry))) j v next (now (images .entry)) r
+    ensures { λ r. ⌜ VertexDone (graphOf (now (graph .entry))) (fixedOf (now (rule .entry))) j v next (now (images .entry)) r
         (now (images .exit)) ⌝ }
 {
     if j < next {
@@ -53,7 +54,7 @@ pub fn match_candidate(
     images: &mut [u16; SIDE_CAPACITY],
 ) -> bool
     requires { ⌜ CandidateReady (now graph) (now rule) (now demands) j v next (now images) ⌝ }
-    ensures { λ r. ⌜ Step (graphOf (now (graph .entry))) (ruleOf (now (rule .entry))) next (now (images .entry)) (Sends j v)
+    ensures { λ r. ⌜ Step (graphOf (now (graph .entry))) (fixedOf (now (rule .entry))) next (now (images .entry)) (Sends j v)
         (max next (suc j)) r (now (images .exit)) ⌝ }
 {
     if !match_inputs(graph, rule, demands, j, v, 0, next, images) {
@@ -74,9 +75,9 @@ fn match_inputs(
     images: &mut [u16; SIDE_CAPACITY],
 ) -> bool
     requires { ⌜ InputsReady (now graph) (now rule) (now demands) j v i next (now images) ⌝ }
-    ensures { λ r. ⌜ Step (graphOf (now (graph .entry))) (ruleOf (now (rule .entry))) next (now (images .entry))
-        (SendsInputs (graphOf (now (graph .entry))) (ruleOf (now (rule .entry))) j v i)
-        (visitedAfter next (drop i (sourceInputs (ruleOf (now (rule .entry))) j))) r (now (images .exit)) ⌝ }
+    ensures { λ r. ⌜ Step (graphOf (now (graph .entry))) (fixedOf (now (rule .entry))) next (now (images .entry))
+        (SendsInputs (graphOf (now (graph .entry))) (fixedOf (now (rule .entry))) j v i)
+        (visitedAfter next (drop i (sourceInputs (fixedOf (now (rule .entry))) j))) r (now (images .exit)) ⌝ }
 {
     if i == source_input_count(rule, j) {
         return true;

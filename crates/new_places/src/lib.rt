@@ -13,13 +13,15 @@ use redirection::place_of;
 use redirection::redirected;
 use rule_fields::target_input;
 use rule_fields::target_input_count;
+use rule_fields::target_split;
 ghost use mathlib.Core.Path.{_≡_};
 ghost use mathlib.Core.List.{map};
 ghost use Prim.Native.Nat.{_<_};
 ghost use lib.ListN.{length, getD};
 ghost use Rattle.definitions.specs.Lists.{padded};
 ghost use Rattle.definitions.specs.Graph.{inputLimit, outputLimit, unusedPlace, outputCount, graphOf, inputsOf};
-ghost use Rattle.definitions.specs.Rule.{ruleOf, targetOf};
+ghost use Rattle.definitions.specs.Rule.{targetOf};
+ghost use Rattle.rule_fields.specs.Fixed.{fixedOf};
 ghost use Rattle.graph_fields.specs.Layout.{WholeGraph};
 ghost use Rattle.redirection.specs.Moves.{resolveIn, moved};
 ghost use Rattle.new_places.specs.Places.{ReadableSlot, ReadableTarget};
@@ -83,14 +85,15 @@ pub fn target_inputs(
 ) -> [u16; INPUT_LIMIT]
     requires { ⌜ ReadableTarget (now rule) (now images) (now places) t ⌝ }
     ensures { λ r. ⌜ r ≡ padded inputLimit unusedPlace
-        (map (resolveIn (now (images .entry)) (now (places .entry))) (targetOf (ruleOf (now (rule .entry))) t .inputs)) ⌝ }
+        (map (resolveIn (now (images .entry)) (now (places .entry))) (targetOf (fixedOf (now (rule .entry))) t .inputs)) ⌝ }
 {
+    let split = target_split(rule);
     let count = target_input_count(rule, t);
     let mut inputs = [UNUSED_PLACE; INPUT_LIMIT];
     let mut i = 0;
     while i < count {
         let named = target_input(rule, t, i);
-        inputs[i] = place_of(images, places, named);
+        inputs[i] = place_of(images, places, split, named);
         i += 1;
     }
     inputs

@@ -11,18 +11,19 @@ use lib.IntN.{ℤ}
 use lib.ListN.{length, take}
 use Rattle.definitions.specs.Reply.{noResult, noRoom, newCycle, refusal}
 use Rattle.definitions.specs.Graph.{unusedPlace, slotCount, Graph, graphOf, hasCycle}
-use Rattle.definitions.specs.Rule.{sideCapacity, sourceCount, targetCount, Rule, ruleOf}
+use Rattle.definitions.specs.Rule.{sideCapacity, sourceCount, targetCount, Rule}
 use Rattle.definitions.specs.Match.{imageOf, readAttribute}
 use Rattle.definitions.specs.Rewriting.{targetResults, freeSlots, hasRoom}
 use Rattle.definitions.specs.Operations.{accepted, turnedDown, rewritten}
+use Rattle.rule_fields.specs.Fixed.{fixedOf}
 use Rattle.laws.proofs.Padded.{taken-at}
 use Rattle.laws.proofs.Match.{image-inside, match-inputs}
 use Rattle.laws.proofs.Rewriting.{rewritten-unfit, rewritten-full, rewritten-cyclic, rewritten-done}
 use Rattle.laws.proofs.Graph.{length-slots}
-use Rattle.laws.proofs.Rule.{length-source, length-target}
+use Rattle.rule_fields.proofs.Fixed.{length-source, length-target}
 use Rattle.graph_check.proofs.Readable.{graph-readable}
-use Rattle.rule_check.proofs.Readable.{rule-readable, rule-layered, rule-plain}
-use Rattle.attributes.proofs.Sound.{rule-evaluable}
+use Rattle.rule_sound.proofs.Fixed.{input-plain-of}
+use Rattle.rule_sound.proofs.Working.{rule-layered}
 use Rattle.encoding.specs.Tables.{Table}
 use Rattle.replacement.proofs.Sound.{new-table}
 use Rattle.new_slots.specs.Vacant.{Lowest}
@@ -42,14 +43,14 @@ module _ (graph rule images : List ℕ) (isMatched : Matched graph rule images) 
   g = graphOf graph
 
   abbrev r : Rule
-  r = ruleOf rule
+  r = fixedOf rule
 
   -- the map of the match, without the places after it
   abbrev found : List ℕ
   found = take (sourceCount rule) images
 
   few : sourceCount rule ≤ sideCapacity
-  few = rule-readable rule (isMatched .soundRule) .whole .source
+  few = isMatched .working .readable .whole .source
 
   same : (j : ℕ) → imageOf images j ≡ imageOf found j
   unfolding imageOf
@@ -68,8 +69,8 @@ module _ (graph rule images : List ℕ) (isMatched : Matched graph rule images) 
       record {
         table = graph-readable graph (isMatched .soundGraph) .whole;
         counts = isMatched .soundGraph .counts;
-        patterns = record { readable = rule-readable rule (isMatched .soundRule); layered = rule-layered rule (isMatched .soundRule) };
-        plain = rule-plain rule (isMatched .soundRule);
+        patterns = record { readable = isMatched .working .readable; layered = rule-layered rule (isMatched .working) };
+        plain = input-plain-of sideCapacity r (isMatched .working .sound);
         imageSize = isMatched .size;
         slots = images-inside;
         apart = λ i j k l e. isMatched .isMatch .injective i j (inside i k) (inside j l) (sym (same i) ∙ e ∙ same j);
@@ -100,12 +101,12 @@ module _ (graph rule images : List ℕ) (isMatched : Matched graph rule images) 
       pub prepared : Prepared graph rule images slots
       prepared = record {
         oldTable = graph-readable graph (isMatched .soundGraph);
-        patterns = rule-readable rule (isMatched .soundRule);
-        evaluable = rule-evaluable rule (isMatched .soundRule);
+        patterns = isMatched .working .readable;
+        evaluable = isMatched .working .evaluable;
         moves = record {
-          whole = rule-readable rule (isMatched .soundRule) .whole;
-          layered = rule-layered rule (isMatched .soundRule);
-          resolvable = sound-resolvable rule (isMatched .soundRule);
+          whole = isMatched .working .readable .whole;
+          layered = rule-layered rule (isMatched .working);
+          resolvable = sound-resolvable rule (isMatched .working .sound);
           arrays = record { imageSize = isMatched .size; placeSize = places .size };
         };
         placed = lowest-places g r images count slots places;
@@ -121,7 +122,7 @@ module _ (graph rule images : List ℕ) (isMatched : Matched graph rule images) 
         unfolding newTable
         new-table-of =
             subst (λ (f : List (List ℤ) → Graph). Table (f values)) (sym (new-same g r images found same))
-            (new-table graph rule found values (isMatched .soundGraph) (isMatched .soundRule) (isMatched .isMatch)
+            (new-table graph r found values sideCapacity (isMatched .soundGraph) (isMatched .working .sound) (isMatched .isMatch)
             (rw (← read-same g r images found same) known) (rw (← room-same g r images found same) room))
 
         pub cyclic : hasCycle (newTable graph rule images) ≡ true → rewritten g r found ≡ turnedDown (refusal newCycle)

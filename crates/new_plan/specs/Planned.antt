@@ -8,17 +8,19 @@ use Rattle.definitions.specs.declared.Refusal.{Refusal}
 use Rattle.definitions.specs.declared.Reply.{Reply}
 use Rattle.definitions.specs.declared.Reply.the-variants.{Done, Refused}
 use Rattle.definitions.specs.Graph.{unusedPlace, Graph, graphOf, graphBlock, SoundGraph}
-use Rattle.definitions.specs.Rule.{sideCapacity, sourceCount, ruleOf, SoundRule}
+use Rattle.definitions.specs.Rule.{sideCapacity, sourceCount}
 use Rattle.definitions.specs.Match.{imageOf, Match}
 use Rattle.definitions.specs.Operations.{Rewritten, accepted, turnedDown}
+use Rattle.rule_fields.specs.Fixed.{fixedOf}
+use Rattle.rule_nodes.specs.Working.{WorkingRule}
 use Rattle.encoding.specs.Tables.{Table}
 
--- sound blocks, and an array that begins with the images of a match of theirs and holds 65535 after them
+-- a sound graph, a rule to work on, and an array that begins with the images of a match of theirs and holds 65535 after them
 pub record Matched (graph rule images : List ℕ) : Type 0 where
   pub soundGraph : SoundGraph graph
-  pub soundRule : SoundRule rule
+  pub working : WorkingRule rule
   pub size : length images ≡ sideCapacity
-  pub isMatch : Match (graphOf graph) (ruleOf rule) (take (sourceCount rule) images)
+  pub isMatch : Match (graphOf graph) (fixedOf rule) (take (sourceCount rule) images)
   pub rest : (i : ℕ) → sourceCount rule ≤ i → imageOf images i ≡ unusedPlace
 
 -- the new table is made in a block of its own, which can be committed

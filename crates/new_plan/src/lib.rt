@@ -17,8 +17,9 @@ use vacancies::find_free;
 ghost use mathlib.Core.Path.{_≡_};
 ghost use lib.ListN.{length, take};
 ghost use Rattle.definitions.specs.Graph.{graphOf};
-ghost use Rattle.definitions.specs.Rule.{sourceCount, ruleOf};
+ghost use Rattle.definitions.specs.Rule.{sourceCount};
 ghost use Rattle.definitions.specs.Operations as operation;
+ghost use Rattle.rule_fields.specs.Fixed.{fixedOf};
 ghost use Rattle.new_plan.specs.Planned.{Matched, Planned};
 
 // What a rewriting at this match comes to: refusal 5, 6 or 7, in that order, or done with the new table in `table`. The cycle is
@@ -27,7 +28,7 @@ ghost use Rattle.new_plan.specs.Planned.{Matched, Planned};
 pub fn plan(graph: &[u8], rule: &[u8], images: &[u16; SIDE_CAPACITY], table: &mut [u8]) -> Reply
     requires { ⌜ Matched (now graph) (now rule) (now images) ⌝ }
     requires { ⌜ length (now table) ≡ length (now graph) ⌝ }
-    ensures { λ r. ⌜ Planned (operation.rewritten (graphOf (now (graph .entry))) (ruleOf (now (rule .entry)))
+    ensures { λ r. ⌜ Planned (operation.rewritten (graphOf (now (graph .entry))) (fixedOf (now (rule .entry)))
         (take (sourceCount (now (rule .entry))) (now (images .entry)))) r (now (table .exit)) ⌝ }
 {
     if let Fitness::Unfit(_) = all_fit(graph, rule, images) {

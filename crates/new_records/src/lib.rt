@@ -12,8 +12,8 @@ ghost use Prim.Native.Nat.{_<_};
 ghost use lib.ListN.{length};
 ghost use Rattle.definitions.specs.Lists.{filter, range};
 ghost use Rattle.definitions.specs.Graph.{slotCount, graphOf};
-ghost use Rattle.definitions.specs.Rule.{ruleOf};
 ghost use Rattle.definitions.specs.Rewriting.{stays, newSlot};
+ghost use Rattle.rule_fields.specs.Fixed.{fixedOf};
 ghost use Rattle.graph_records.specs.Records.{Stands};
 ghost use Rattle.new_vertices.specs.Slots.{valuesOf, fitResults, Prepared};
 ghost use Rattle.new_records.specs.Slots.{Redirects};
@@ -33,9 +33,9 @@ pub fn new_record(
     requires { ⌜ Prepared (now graph) (now rule) (now images) (now places) ⌝ }
     requires { ⌜ Redirects (now graph) (now rule) (now images) way ⌝ }
     requires { ⌜ k < slotCount (now graph) ⌝ }
-    requires { ⌜ free ≡ not (stays (graphOf (now graph)) (ruleOf (now rule)) (now images) k) ⌝ }
-    requires { ⌜ next ≡ length (filter (λ i. not (stays (graphOf (now graph)) (ruleOf (now rule)) (now images) i)) (range 0 k)) ⌝ }
-    ensures { λ r. ⌜ Stands r (newSlot (graphOf (now (graph .entry))) (ruleOf (now (rule .entry))) (now (images .entry))
+    requires { ⌜ free ≡ not (stays (graphOf (now graph)) (fixedOf (now rule)) (now images) k) ⌝ }
+    requires { ⌜ next ≡ length (filter (λ i. not (stays (graphOf (now graph)) (fixedOf (now rule)) (now images) i)) (range 0 k)) ⌝ }
+    ensures { λ r. ⌜ Stands r (newSlot (graphOf (now (graph .entry))) (fixedOf (now (rule .entry))) (now (images .entry))
         (valuesOf (fitResults (now (graph .entry)) (now (rule .entry)) (now (images .entry)))) k) ⌝ }
 {
     if !free {

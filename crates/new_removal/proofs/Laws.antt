@@ -8,13 +8,15 @@ use lib.Dec.{eqb}
 use lib.ListN.{length}
 use Rattle.definitions.specs.Paths.{Reads}
 use Rattle.definitions.specs.Graph.{storedCount, Graph, graphOf, trueCount}
-use Rattle.definitions.specs.Rule.{sourceCount, Rule, ruleOf, sourceInputs}
+use Rattle.definitions.specs.Rule.{sourceCount, Rule, sourceInputs}
 use Rattle.definitions.specs.Match.{imageOf, placesOf, isPrivate}
 use Rattle.definitions.specs.Rewriting.{goes}
+use Rattle.rule_fields.specs.Fixed.{fixedOf}
 use Rattle.laws.proofs.Tests.{same-test}
 use Rattle.laws.proofs.Members.{mem-place}
 use Rattle.laws.proofs.Graph.{length-slots}
-use Rattle.laws.proofs.Rule.{length-source, source-reader}
+use Rattle.laws.proofs.Rule.{source-reader}
+use Rattle.rule_fields.proofs.Fixed.{length-source}
 use Rattle.theory.proofs.Match.{private-sound, private-complete}
 use Rattle.theory.proofs.Inside.{private-uses, uses-private}
 use Rattle.new_removal.specs.Removal.{Removable, goesBy}
@@ -24,7 +26,7 @@ module _ (graph rule images : List ℕ) (removable : Removable graph rule images
   g = graphOf graph
 
   abbrev r : Rule
-  r = ruleOf rule
+  r = fixedOf rule
 
   abbrev v : ℕ
   v = imageOf images j

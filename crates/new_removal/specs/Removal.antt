@@ -7,8 +7,9 @@ use Prim.Native.Nat.{ℕ, _<_}
 use lib.Dec.{eqb}
 use lib.ListN.{length}
 use Rattle.definitions.specs.Graph.{slotCount, graphOf, inputsOf, TrueCounts}
-use Rattle.definitions.specs.Rule.{sideCapacity, sourceCount, Rule, ruleOf, sourceInputs, isRuleInput}
+use Rattle.definitions.specs.Rule.{sideCapacity, sourceCount, Rule, sourceInputs, isRuleInput}
 use Rattle.definitions.specs.Match.{imageOf, isConst}
+use Rattle.rule_fields.specs.Fixed.{fixedOf}
 use Rattle.graph_fields.specs.Layout.{WholeGraph}
 use Rattle.rule_uses.specs.Countable.{CountableRule}
 
@@ -18,12 +19,12 @@ pub record Removable (graph rule images : List ℕ) : Type 0 where
   pub table : WholeGraph graph
   pub counts : TrueCounts graph
   pub patterns : CountableRule rule
-  pub plain : (j : ℕ) → isRuleInput (ruleOf rule) j ≡ true → sourceInputs (ruleOf rule) j ≡ []
+  pub plain : (j : ℕ) → isRuleInput (fixedOf rule) j ≡ true → sourceInputs (fixedOf rule) j ≡ []
   pub imageSize : length images ≡ sideCapacity
   pub slots : (j : ℕ) → j < sourceCount rule → imageOf images j < slotCount graph
   pub apart : (i j : ℕ) → i < sourceCount rule → j < sourceCount rule → imageOf images i ≡ imageOf images j → i ≡ j
-  pub inputs : (j : ℕ) → j < sourceCount rule → isRuleInput (ruleOf rule) j ≡ false
-      → inputsOf (graphOf graph) (imageOf images j) ≡ map (imageOf images) (sourceInputs (ruleOf rule) j)
+  pub inputs : (j : ℕ) → j < sourceCount rule → isRuleInput (fixedOf rule) j ≡ false
+      → inputsOf (graphOf graph) (imageOf images j) ≡ map (imageOf images) (sourceInputs (fixedOf rule) j)
 
 -- whether the image of source vertex j goes, by how often it is named, and how often the rule's own source names j
 unfoldable pub goesBy : Rule → ℕ → ℕ → ℕ → Bool

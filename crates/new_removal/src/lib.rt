@@ -9,7 +9,8 @@ ghost use mathlib.Core.Path.{_≡_};
 ghost use Prim.Native.Nat.{_<_};
 ghost use lib.ListN.{length, getD};
 ghost use Rattle.definitions.specs.Graph.{slotCount, storedCount};
-ghost use Rattle.definitions.specs.Rule.{sideCapacity, sourceCount, ruleOf};
+ghost use Rattle.definitions.specs.Rule.{sideCapacity, sourceCount};
+ghost use Rattle.rule_fields.specs.Fixed.{fixedOf};
 ghost use Rattle.graph_fields.specs.Layout.{WholeGraph};
 ghost use Rattle.rule_fields.specs.Layout.{WholeRule};
 ghost use Rattle.new_removal.specs.Removal.{goesBy};
@@ -28,7 +29,7 @@ pub fn image_goes(
     requires { ⌜ WholeRule (now rule) ⌝ }
     requires { ⌜ j < sourceCount (now rule) ⌝ }
     requires { ⌜ length (now places) ≡ sideCapacity ⌝ }
-    ensures { λ r. ⌜ r ≡ goesBy (ruleOf (now (rule .entry))) j (storedCount (now (graph .entry)) image) (getD (now (places .entry)) j 0) ⌝ }
+    ensures { λ r. ⌜ r ≡ goesBy (fixedOf (now (rule .entry))) j (storedCount (now (graph .entry)) image) (getD (now (places .entry)) j 0) ⌝ }
 {
     if is_rule_input(rule, j) {
         return false;

@@ -19,8 +19,9 @@ ghost use Prim.Native.Nat.{_+_, _*_, _<_};
 ghost use lib.ListN.{length, take};
 ghost use Rattle.definitions.specs.Lists.{filter, range};
 ghost use Rattle.definitions.specs.Graph.{headerBytes, slotBytes, slotLimit, graphVersion, slotCount, graphOf, recordBlock, recordsBlock, blockAs};
-ghost use Rattle.definitions.specs.Rule.{ruleOutputCount, ruleOf};
+ghost use Rattle.definitions.specs.Rule.{ruleOutputCount};
 ghost use Rattle.definitions.specs.Rewriting.{stays};
+ghost use Rattle.rule_fields.specs.Fixed.{fixedOf};
 ghost use Rattle.laws.specs.Marked.{Marked};
 ghost use Rattle.new_vertices.specs.Slots.{Prepared};
 ghost use Rattle.new_records.specs.Slots.{Redirects};
@@ -53,8 +54,8 @@ fn write_slot(
     requires { ⌜ Prepared (now graph) (now rule) (now images) (now places) ⌝ }
     requires { ⌜ Redirects (now graph) (now rule) (now images) way ⌝ }
     requires { ⌜ k < slotCount (now graph) ⌝ }
-    requires { ⌜ free ≡ not (stays (graphOf (now graph)) (ruleOf (now rule)) (now images) k) ⌝ }
-    requires { ⌜ next ≡ length (filter (λ i. not (stays (graphOf (now graph)) (ruleOf (now rule)) (now images) i)) (range 0 k)) ⌝ }
+    requires { ⌜ free ≡ not (stays (graphOf (now graph)) (fixedOf (now rule)) (now images) k) ⌝ }
+    requires { ⌜ next ≡ length (filter (λ i. not (stays (graphOf (now graph)) (fixedOf (now rule)) (now images) i)) (range 0 k)) ⌝ }
     requires { ⌜ length (now table) ≡ length (now graph) ⌝ }
     ensures { λ r. ⌜ take (headerBytes + slotBytes * (k + 1)) (now (table .exit)) ≡ take (headerBytes + slotBytes * k) (now (table .entry))
         ++ recordBlock (λ i. 0) (newTable (now (graph .entry)) (now (rule .entry)) (now (images .entry))) k ⌝ }
@@ -76,7 +77,7 @@ fn write_slots(
 )
     requires { ⌜ Prepared (now graph) (now rule) (now images) (now places) ⌝ }
     requires { ⌜ Redirects (now graph) (now rule) (now images) way ⌝ }
-    requires { ⌜ Marked (λ k. not (stays (graphOf (now graph)) (ruleOf (now rule)) (now images) k)) (slotCount (now graph)) (now free) ⌝ }
+    requires { ⌜ Marked (λ k. not (stays (graphOf (now graph)) (fixedOf (now rule)) (now images) k)) (slotCount (now graph)) (now free) ⌝ }
     requires { ⌜ length (now table) ≡ length (now graph) ⌝ }
     ensures { λ r. ⌜ now (table .exit) ≡ take headerBytes (now (table .entry))
         ++ recordsBlock (λ i. 0) (newTable (now (graph .entry)) (now (rule .entry)) (now (images .entry)))
@@ -104,7 +105,7 @@ pub fn write_table(
 )
     requires { ⌜ Prepared (now graph) (now rule) (now images) (now places) ⌝ }
     requires { ⌜ 0 < ruleOutputCount (now rule) ⌝ }
-    requires { ⌜ Marked (λ k. not (stays (graphOf (now graph)) (ruleOf (now rule)) (now images) k)) (slotCount (now graph)) (now free) ⌝ }
+    requires { ⌜ Marked (λ k. not (stays (graphOf (now graph)) (fixedOf (now rule)) (now images) k)) (slotCount (now graph)) (now free) ⌝ }
     requires { ⌜ length (now table) ≡ length (now graph) ⌝ }
     ensures { λ r. ⌜ now (table .exit) ≡ blockAs graphVersion (λ i. 0) (newTable (now (graph .entry)) (now (rule .entry)) (now (images .entry))) ⌝ }
 {

@@ -11,10 +11,11 @@ use lib.ListN.{length, getD, length-map}
 use Rattle.definitions.specs.Lists.{padded}
 use Rattle.definitions.specs.Fields.{wordOf}
 use Rattle.definitions.specs.Graph.{inputLimit, attributeLimit, unusedPlace, graphOf}
-use Rattle.definitions.specs.Rule.{targetCount, ruleOf, targetOf}
+use Rattle.definitions.specs.Rule.{targetCount, targetOf}
 use Rattle.definitions.specs.Match.{readAttribute}
 use Rattle.definitions.specs.Rewriting.{vertexResults, targetResults, resolve}
-use Rattle.laws.proofs.Rule.{target-attributes-at}
+use Rattle.rule_fields.specs.Fixed.{fixedOf}
+use Rattle.rule_fields.proofs.Fixed.{length-target}
 use Rattle.replacement.proofs.Values.{target-values, value-count}
 use Rattle.target_attributes.specs.Words.{isGiven, Given}
 use Rattle.target_attributes.proofs.Laws.{told-given}
@@ -40,28 +41,29 @@ module _ (graph rule images : List ℕ) (t : ℕ) (known : isGiven (fitResults g
   abbrev values : List (List ℤ)
   values = valuesOf (fitResults graph rule images)
 
-  found : targetResults read (ruleOf rule .target) ≡ some values
+  found : targetResults read (fixedOf rule .target) ≡ some values
   unfolding fitResults
   found = known-values (fitResults graph rule images) known
 
-  -- as many words as the rule's record counts attributes,
-  pub word-count : length (targetOf (ruleOf rule) t .attributes) ≡ length (map wordOf (getD values t []))
-  word-count =
-      target-attributes-at rule t l
-      ∙ sym (length-map (getD values t []) wordOf ∙ value-count graph rule images values found t l)
+  inside : t < length (fixedOf rule .target)
+  inside = rw (length-target rule) l
+
+  -- as many words as the target vertex has attributes,
+  pub word-count : length (targetOf (fixedOf rule) t .attributes) ≡ length (map wordOf (getD values t []))
+  word-count = sym (length-map (getD values t []) wordOf ∙ value-count (graphOf graph) (fixedOf rule) images values found t inside)
 
   -- and they are those that are told
-  pub words-same : (ok : Bool) (words : List ℕ) → Given (vertexResults read (targetOf (ruleOf rule) t)) ok words
+  pub words-same : (ok : Bool) (words : List ℕ) → Given (vertexResults read (targetOf (fixedOf rule) t)) ok words
       → words ≡ padded attributeLimit 0 (map wordOf (getD values t []))
   words-same ok words =
-      told-words (vertexResults read (targetOf (ruleOf rule) t)) (getD values t []) ok words
-      (target-values graph rule images values found t l)
+      told-words (vertexResults read (targetOf (fixedOf rule) t)) (getD values t []) ok words
+      (target-values (graphOf graph) (fixedOf rule) images values found t inside)
 
 -- ---- the inputs of target vertex t
 
 -- the slots that the arrays give are the definition's
 pub target-places : (graph rule images places : List ℕ) (t : ℕ) {xs : List ℕ} → Prepared graph rule images places → t < targetCount rule
-    → xs ≡ padded inputLimit unusedPlace (map (resolveIn images places) (targetOf (ruleOf rule) t .inputs))
-    → xs ≡ padded inputLimit unusedPlace (map (resolve (graphOf graph) (ruleOf rule) images) (targetOf (ruleOf rule) t .inputs))
+    → xs ≡ padded inputLimit unusedPlace (map (resolveIn images places) (targetOf (fixedOf rule) t .inputs))
+    → xs ≡ padded inputLimit unusedPlace (map (resolve (graphOf graph) (fixedOf rule) images) (targetOf (fixedOf rule) t .inputs))
 target-places graph rule images places t p l h =
     h ∙ ap (padded inputLimit unusedPlace) (inputs-same (graphOf graph) rule images places (p .moves .resolvable) (p .placed) t l)

@@ -8,12 +8,13 @@ use Prim.Native.Nat.{ℕ, _<_}
 use lib.IntN.{ℤ}
 use lib.ListN.{getD}
 use Rattle.definitions.specs.Graph.{unusedPlace, graphOf}
-use Rattle.definitions.specs.Rule.{sideCapacity, ruleOf}
+use Rattle.definitions.specs.Rule.{sideCapacity}
 use Rattle.definitions.specs.Match.{readAttribute}
 use Rattle.definitions.specs.Rewriting.{targetResults, placeOf}
+use Rattle.rule_fields.specs.Fixed.{fixedOf}
 use Rattle.graph_fields.specs.Layout.{ReadableGraph}
 use Rattle.rule_fields.specs.Layout.{ReadableRule}
-use Rattle.match_leaves.specs.Evaluable.{Evaluable}
+use Rattle.rule_nodes.specs.Working.{Evaluable}
 use Rattle.target_attributes.specs.Words.{isGiven}
 use Rattle.redirection.specs.Moves.{Movable}
 
@@ -24,7 +25,7 @@ valuesOf (some values) = values
 
 -- the results of the target vertices' attributes
 unfoldable pub fitResults : List ℕ → List ℕ → List ℕ → Option (List (List ℤ))
-fitResults graph rule images = targetResults (readAttribute (graphOf graph) images) (ruleOf rule .target)
+fitResults graph rule images = targetResults (readAttribute (graphOf graph) images) (fixedOf rule .target)
 
 -- layouts that can be read, what the moves are made from, the target vertices' places, and results for every target attribute
 pub record Prepared (graph rule images places : List ℕ) : Type 0 where
@@ -32,5 +33,5 @@ pub record Prepared (graph rule images places : List ℕ) : Type 0 where
   pub patterns : ReadableRule rule
   pub evaluable : Evaluable rule
   pub moves : Movable rule images places
-  pub placed : (t : ℕ) → t < sideCapacity → getD places t unusedPlace ≡ placeOf (graphOf graph) (ruleOf rule) images t
+  pub placed : (t : ℕ) → t < sideCapacity → getD places t unusedPlace ≡ placeOf (graphOf graph) (fixedOf rule) images t
   pub known : isGiven (fitResults graph rule images) ≡ true

@@ -20,8 +20,9 @@ ghost use mathlib.Core.Path.{_≡_};
 ghost use Prim.Native.Nat.{_<_};
 ghost use Rattle.definitions.specs.Lists.{padded};
 ghost use Rattle.definitions.specs.Graph.{attributeLimit, renamed, graphOf, slotOf};
-ghost use Rattle.definitions.specs.Rule.{targetCount, ruleOf};
+ghost use Rattle.definitions.specs.Rule.{targetCount};
 ghost use Rattle.definitions.specs.Rewriting.{targetSlot};
+ghost use Rattle.rule_fields.specs.Fixed.{fixedOf};
 ghost use Rattle.graph_records.specs.Records.{Stands};
 ghost use Rattle.redirection.specs.Moves.{moved};
 ghost use Rattle.new_places.specs.Places.{ReadableSlot};
@@ -73,7 +74,7 @@ pub fn target_record(
 ) -> Record
     requires { ⌜ Prepared (now graph) (now rule) (now images) (now places) ⌝ }
     requires { ⌜ t < targetCount (now rule) ⌝ }
-    ensures { λ r. ⌜ Stands r (targetSlot (graphOf (now (graph .entry))) (ruleOf (now (rule .entry))) (now (images .entry))
+    ensures { λ r. ⌜ Stands r (targetSlot (graphOf (now (graph .entry))) (fixedOf (now (rule .entry))) (now (images .entry))
         (valuesOf (fitResults (now (graph .entry)) (now (rule .entry)) (now (images .entry)))) t) ⌝ }
 {
     let kind = target_kind(rule, t);

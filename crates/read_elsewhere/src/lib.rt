@@ -15,15 +15,16 @@ use rule_fields::source_count;
 ghost use mathlib.Core.Path.{_≡_};
 ghost use lib.ListN.{length};
 ghost use Rattle.definitions.specs.Graph.{SoundGraph};
-ghost use Rattle.definitions.specs.Rule.{ruleOf, SoundRule};
+ghost use Rattle.definitions.specs.Rule.{SoundRule};
 ghost use Rattle.definitions.specs.Operations.{mapBytes};
 ghost use Rattle.definitions.specs.ReadElsewhere.{isInner, askedReply, elsewhereReply};
+ghost use Rattle.rule_fields.specs.Fixed.{fixedOf};
 ghost use Rattle.rule_fields.specs.Layout.{WholeRule};
 
 // Whether it is a source vertex that is no rule input.
 fn is_inner(rule: &[u8], vertex: usize) -> bool
     requires { ⌜ WholeRule (now rule) ⌝ }
-    ensures { λ r. ⌜ r ≡ isInner (ruleOf (now (rule .entry))) vertex ⌝ }
+    ensures { λ r. ⌜ r ≡ isInner (fixedOf (now (rule .entry))) vertex ⌝ }
 {
     if source_count(rule) <= vertex {
         return false;

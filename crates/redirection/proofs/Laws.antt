@@ -12,35 +12,38 @@ use lib.Dec.{eqb, ltb}
 use lib.ListN.{length, getD, length-map}
 use Rattle.definitions.specs.Lists.{all, member, position}
 use Rattle.definitions.specs.Graph.{unusedPlace, Graph}
-use Rattle.definitions.specs.Rule.{sideLimit, targetBase, sideCapacity, targetCount, ruleOutputCount, Origin, given, made, Rule, originOf, ruleOf, targetOf, inputKind, originFits, targetInputsFit, SoundRule}
+use Rattle.definitions.specs.Rule.{sideCapacity, targetCount, ruleOutputCount, Origin, given, made, Rule, originBy, targetOf, inputKind, originFits, targetInputsFit}
+use Rattle.definitions.specs.FixedRule.{SoundFixed}
 use Rattle.definitions.specs.Match.{imageOf, outputImages}
 use Rattle.definitions.specs.Rewriting.{placeOf, resolve, redirect}
+use Rattle.rule_fields.specs.Fixed.{fixedOf}
 use Rattle.laws.proofs.Lists.{decided, and-right, getD-any, all-at}
 use Rattle.laws.proofs.Members.{position-inside}
-use Rattle.laws.proofs.Rule.{input-inside, length-source, length-source-outputs, length-target-outputs, few-sources, few-targets}
+use Rattle.laws.proofs.Rule.{input-inside}
+use Rattle.rule_fields.proofs.Fixed.{length-target, length-source-outputs, length-target-outputs}
 use Rattle.redirection.specs.declared.Redirection.{Redirection}
 use Rattle.redirection.specs.Moves.{originInside, Resolvable, resolveIn, redirectBy, moveOf, moved}
 
 -- ---- what a place names
 
 -- a place number whose origin is inside is that of a vertex for which there is space
-pub inside-place : (p : ℕ) → originInside (originOf p) ≡ true → p < targetBase + sideCapacity
-unfolding originInside originOf
-inside-place p h =
-    ⊎-elim (λ (t : ltb p targetBase ≡ true). omega (arith, ltb-true p targetBase t))
-    (λ (t : ltb p targetBase ≡ false). omega (arith, ltb-true (p - targetBase) sideCapacity (simp t at h)))
-    (decided (ltb p targetBase))
+pub inside-place : (split p : ℕ) → originInside (originBy split p) ≡ true → p < split + sideCapacity
+unfolding originInside originBy
+inside-place split p h =
+    ⊎-elim (λ (t : ltb p split ≡ true). omega (arith, ltb-true p split t))
+    (λ (t : ltb p split ≡ false). omega (arith, ltb-true (p - split) sideCapacity (simp t at h)))
+    (decided (ltb p split))
 
 -- a place number below the first target one is read from the images, another from the target vertices' places
-pub resolve-given : (images places : List ℕ) (p : ℕ) → p < targetBase → length images ≡ sideCapacity
-    → getD images p 0 ≡ resolveIn images places (originOf p)
-unfolding resolveIn originOf imageOf
-resolve-given images places p h n = rw (lt-ltb p targetBase h) (getD-any images p 0 unusedPlace (omega arith))
+pub resolve-given : (images places : List ℕ) (split p : ℕ) → split ≤ sideCapacity → p < split → length images ≡ sideCapacity
+    → getD images p 0 ≡ resolveIn images places (originBy split p)
+unfolding resolveIn originBy imageOf
+resolve-given images places split p l h n = rw (lt-ltb p split h) (getD-any images p 0 unusedPlace (omega arith))
 
-pub resolve-made : (images places : List ℕ) (p : ℕ) → targetBase ≤ p → p < targetBase + sideCapacity → length places ≡ sideCapacity
-    → getD places (p - targetBase) 0 ≡ resolveIn images places (originOf p)
-unfolding resolveIn originOf
-resolve-made images places p h l n = rw (le-ltb p targetBase h) (getD-any places (p - targetBase) 0 unusedPlace (omega arith))
+pub resolve-made : (images places : List ℕ) (split p : ℕ) → split ≤ p → p < split + sideCapacity → length places ≡ sideCapacity
+    → getD places (p - split) 0 ≡ resolveIn images places (originBy split p)
+unfolding resolveIn originBy
+resolve-made images places split p h l n = rw (le-ltb p split h) (getD-any places (p - split) 0 unusedPlace (omega arith))
 
 -- ---- one or two outputs, one or two moves
 
@@ -66,10 +69,10 @@ module _ (image : ℕ → ℕ) (place : Origin → ℕ) (e : ℕ) (d b : Origin)
 -- the first output's move and the last one's are all of them
 pub moves-all : (block images places : List ℕ) (k : ℕ) {way : Redirection} → k ≡ ruleOutputCount block → 0 < ruleOutputCount block
     → ruleOutputCount block ≤ 2 → way .first ≡ moveOf block images places 0 → way .second ≡ moveOf block images places (k - 1)
-    → (v : ℕ) → moved way v ≡ redirectBy (resolveIn images places) (ruleOf block) images v
+    → (v : ℕ) → moved way v ≡ redirectBy (resolveIn images places) (fixedOf block) images v
 unfolding moved moveOf redirectBy
 moves-all block images places k e some few first second v =
-    let r = ruleOf block in
+    let r = fixedOf block in
     let sources = length-source-outputs block in
     let targets = length-target-outputs block in
     let n : k ≡ length (r .sourceOutputs) = omega (arith, sources) in
@@ -98,11 +101,11 @@ resolve-same g r images places h (made t) l = h t (ltb-true t sideCapacity l)
 
 -- so the moves are the definition's redirection
 pub redirect-same : (g : Graph) (block : List ℕ) (images places : List ℕ) → Resolvable block
-    → ((t : ℕ) → t < sideCapacity → getD places t unusedPlace ≡ placeOf g (ruleOf block) images t)
-    → (v : ℕ) → redirectBy (resolveIn images places) (ruleOf block) images v ≡ redirect g (ruleOf block) images v
+    → ((t : ℕ) → t < sideCapacity → getD places t unusedPlace ≡ placeOf g (fixedOf block) images t)
+    → (v : ℕ) → redirectBy (resolveIn images places) (fixedOf block) images v ≡ redirect g (fixedOf block) images v
 unfolding redirectBy redirect
 redirect-same g block images places inside h v =
-    let r = ruleOf block in
+    let r = fixedOf block in
     let replaced = outputImages r images in
     let none = made (length (r .target)) in
     ⊎-elim (λ (t : member v replaced ≡ true).
@@ -115,19 +118,18 @@ redirect-same g block images places inside h v =
     (decided (member v replaced))
 
 -- a sound rule's target places can be resolved
-pub sound-resolvable : (block : List ℕ) → SoundRule block → Resolvable block
+pub sound-resolvable : (block : List ℕ) → SoundFixed sideCapacity (fixedOf block) → Resolvable block
 unfolding targetInputsFit
 sound-resolvable block sound =
-    let r = ruleOf block in
-    let targets = few-targets block sideLimit (sound .header) in
-    let sources : length (r .source) ≤ sideCapacity = omega (arith, few-sources block sideLimit (sound .header), length-source block) in
+    let r = fixedOf block in
     record {
       inputs = λ t i l k.
+          let inside : t < length (r .target) = rw (length-target block) l in
           let named = all-at (originFits r t) (made 255) (targetOf r t .inputs) i
-          (and-right (not (inputKind (targetOf r t .kind))) (all (originFits r t) (targetOf r t .inputs)) (sound .namedInputs t l)) k in
-          fits-inside r t (getD (targetOf r t .inputs) i (made 255)) sources (omega arith) named;
+          (and-right (not (inputKind (targetOf r t .kind))) (all (originFits r t) (targetOf r t .inputs)) (sound .namedInputs t inside)) k in
+          fits-inside r t (getD (targetOf r t .inputs) i (made 255)) (sound .fewSources) (omega (arith, sound .fewTargets)) named;
       outputs = λ i l.
-          let named = all-at (originFits r (targetCount block)) (made 255) (r .targetOutputs) i (sound .outputs .target)
+          let named = all-at (originFits r (length (r .target))) (made 255) (r .targetOutputs) i (sound .namedOutputs)
           (omega (arith, length-target-outputs block)) in
-          fits-inside r (targetCount block) (getD (r .targetOutputs) i (made 255)) sources targets named;
+          fits-inside r (length (r .target)) (getD (r .targetOutputs) i (made 255)) (sound .fewSources) (sound .fewTargets) named;
     }

@@ -8,8 +8,9 @@ use lib.Dec.{eqb, ltb}
 use lib.ListN.{length, getD}
 use Rattle.definitions.specs.Lists.{member, position}
 use Rattle.definitions.specs.Graph.{unusedPlace}
-use Rattle.definitions.specs.Rule.{sideCapacity, targetCount, ruleOutputCount, Origin, given, made, Rule, ruleOf, targetOf}
+use Rattle.definitions.specs.Rule.{sideCapacity, targetCount, ruleOutputCount, Origin, given, made, Rule, targetOf}
 use Rattle.definitions.specs.Match.{imageOf, outputImages}
+use Rattle.rule_fields.specs.Fixed.{fixedOf}
 use Rattle.rule_fields.specs.Layout.{WholeRule, Layered}
 use Rattle.redirection.specs.declared.Move.{Move}
 use Rattle.redirection.specs.declared.Redirection.{Redirection}
@@ -21,9 +22,9 @@ originInside (made t) = ltb t sideCapacity
 
 -- every target place does
 pub record Resolvable (block : List ℕ) : Type 0 where
-  pub inputs : (t i : ℕ) → t < targetCount block → i < length (targetOf (ruleOf block) t .inputs)
-      → originInside (getD (targetOf (ruleOf block) t .inputs) i (made 255)) ≡ true
-  pub outputs : (i : ℕ) → i < ruleOutputCount block → originInside (getD (ruleOf block .targetOutputs) i (made 255)) ≡ true
+  pub inputs : (t i : ℕ) → t < targetCount block → i < length (targetOf (fixedOf block) t .inputs)
+      → originInside (getD (targetOf (fixedOf block) t .inputs) i (made 255)) ≡ true
+  pub outputs : (i : ℕ) → i < ruleOutputCount block → originInside (getD (fixedOf block .targetOutputs) i (made 255)) ≡ true
 
 -- the arrays in which places are looked up: one with the images, and one with the target vertices' slots
 pub record Arrays (images places : List ℕ) : Type 0 where
@@ -51,8 +52,8 @@ redirectBy place r images v =
 -- what output i of the rule moves
 unfoldable pub moveOf : List ℕ → List ℕ → List ℕ → ℕ → Move
 moveOf block images places i = record {
-  from = imageOf images (getD (ruleOf block .sourceOutputs) i 255);
-  to = resolveIn images places (getD (ruleOf block .targetOutputs) i (made 255));
+  from = imageOf images (getD (fixedOf block .sourceOutputs) i 255);
+  to = resolveIn images places (getD (fixedOf block .targetOutputs) i (made 255));
 }
 
 -- both moves at once: what the first brought is not moved again

@@ -1,14 +1,15 @@
 // What a place of the new table names: a rule input's image or a target vertex's slot, and for a place that named a replaced output the
 // slot that takes its part.
 use definitions::SIDE_CAPACITY;
-use definitions::TARGET_BASE;
 use rule_fields::source_output;
 use rule_fields::target_output;
+use rule_fields::target_split;
 ghost use mathlib.Core.Path.{_≡_};
 ghost use mathlib.Core.Bool.{cond};
-ghost use Prim.Native.Nat.{ℕ, _+_, _<_};
+ghost use Prim.Native.Nat.{ℕ, _+_, _<_, _≤_};
 ghost use lib.Dec.{eqb};
-ghost use Rattle.definitions.specs.Rule.{targetBase, sideCapacity, ruleOutputCount, originOf, ruleOf};
+ghost use Rattle.definitions.specs.Rule.{sideCapacity, ruleOutputCount, originBy};
+ghost use Rattle.rule_fields.specs.Fixed.{fixedOf};
 ghost use Rattle.redirection.specs.Moves.{Arrays, Movable, resolveIn, redirectBy, moveOf, moved};
 
 // What names `from` is to name `to`.
@@ -23,17 +24,22 @@ pub struct Redirection {
     pub second: Move,
 }
 
-// The slot that place number p of the target names: below TARGET_BASE the image of that rule input, from there on the
-// slot of a target vertex.
-pub fn place_of(images: &[u16; SIDE_CAPACITY], places: &[u16; SIDE_CAPACITY], p: usize) -> u16
+// The slot that place number p of the target names: below `split` the image of that rule input, from there on the slot of a target vertex.
+pub fn place_of(
+    images: &[u16; SIDE_CAPACITY],
+    places: &[u16; SIDE_CAPACITY],
+    split: usize,
+    p: usize,
+) -> u16
     requires { ⌜ Arrays (now images) (now places) ⌝ }
-    requires { ⌜ p < targetBase + sideCapacity ⌝ }
-    ensures { λ r. ⌜ r ≡ resolveIn (now (images .entry)) (now (places .entry)) (originOf p) ⌝ }
+    requires { ⌜ split ≤ sideCapacity ⌝ }
+    requires { ⌜ p < split + sideCapacity ⌝ }
+    ensures { λ r. ⌜ r ≡ resolveIn (now (images .entry)) (now (places .entry)) (originBy split p) ⌝ }
 {
-    if p < TARGET_BASE {
+    if p < split {
         return images[p];
     }
-    places[p - TARGET_BASE]
+    places[p - split]
 }
 
 // What output i of the rule moves: its source output's image to the slot that its target output names.
@@ -50,7 +56,8 @@ fn move_of(
     let output = source_output(rule, i);
     let named = target_output(rule, i);
     let from = images[output];
-    let to = place_of(images, places, named);
+    let split = target_split(rule);
+    let to = place_of(images, places, split, named);
     Move { from, to }
 }
 
@@ -63,7 +70,7 @@ pub fn redirection_of(
     requires { ⌜ Movable (now rule) (now images) (now places) ⌝ }
     requires { ⌜ 0 < ruleOutputCount (now rule) ⌝ }
     ensures { λ r. ⌜ ((v : ℕ) → moved r v
-        ≡ redirectBy (resolveIn (now (images .entry)) (now (places .entry))) (ruleOf (now (rule .entry))) (now (images .entry)) v) ⌝ }
+        ≡ redirectBy (resolveIn (now (images .entry)) (now (places .entry))) (fixedOf (now (rule .entry))) (now (images .entry)) v) ⌝ }
 {
     let outputs = rule_fields::output_count(rule);
     let first = move_of(rule, images, places, 0);

@@ -1,23 +1,23 @@
--- What the proofs about the new table ask of a graph, a rule and a match. Sound blocks and a match give it.
+-- What the proofs about the new table ask of a graph, a rule and a match. A sound graph block, a sound rule and a match give it.
 -- Assumes nothing.
-use mathlib.Core.Path.{_≡_, sym, _∙_}
+use mathlib.Core.Path.{_≡_, refl}
 use mathlib.Core.Bool.{Bool, true, false, not, _&&_, and-false}
 use mathlib.Core.List.{List, [], List·Memᴰ}
 use Prim.Native.Nat.{ℕ, _<_}
 use native.Mathlib.Omega.{arith}
-use borrow.Author.Tests.{not-true, leb-true, ne-eqb}
+use borrow.Author.Tests.{not-true, leb-true, eqb-true, ne-eqb}
 use lib.Dec.{leb}
 use lib.ListN.{length}
 use Rattle.definitions.specs.Lists.{within, all, any, member}
-use Rattle.definitions.specs.Operators.{kindConst, kindCall, kindProj}
+use Rattle.definitions.specs.Operators.{kindConst, kindCall, kindProj, kinds, rowOf}
 use Rattle.definitions.specs.Graph.{Graph, SoundGraph, graphOf, isVertex}
-use Rattle.definitions.specs.Rule.{sideLimit, sourceCount, Rule, SoundRule, ruleOf, sourceOf, sourceInputs, sourceOutputsFit, targetOf, inputKind, originFits, targetInputsFit}
+use Rattle.definitions.specs.Rule.{Rule, sourceOf, sourceInputs, sourceOutputsFit, targetOf, inputKind, originFits, targetInputsFit}
+use Rattle.definitions.specs.FixedRule.{SoundFixed}
 use Rattle.definitions.specs.Match.{isConst, Match}
 use Rattle.definitions.specs.Rewriting.{hasRoom}
 use Rattle.laws.proofs.Lists.{needed, and-left, and-right, all-member}
-use Rattle.laws.proofs.Patterns.{const-plain}
-use Rattle.laws.proofs.Rule.{length-source, length-target, length-source-outputs, length-target-outputs, outputs-below}
 use Rattle.theory.proofs.Results.{Layout}
+use Rattle.rule_sound.proofs.Fixed.{reads-nothing}
 
 pub record Site (g : Graph) (r : Rule) (images : List ℕ) : Type 0 where
   pub layout : Layout g
@@ -44,28 +44,20 @@ output-other r fits o m =
     let least = leb-true kindCall kind (needed (leb kindCall kind) good (λ f. simp f)) in
     ne-eqb kind kindConst (λ e. omega (arith, least, e))
 
-pub site : (graph rule images : List ℕ) → SoundGraph graph → SoundRule rule → Match (graphOf graph) (ruleOf rule) images
-    → hasRoom (graphOf graph) (ruleOf rule) images ≡ true → Site (graphOf graph) (ruleOf rule) images
-unfolding targetInputsFit
-site graph rule images soundGraph soundRule match room =
-    let r : Rule = ruleOf rule in
-    record {
-      layout = record { vertices = soundGraph .form .inputs; acyclic = soundGraph .form .acyclic };
-      outputs = soundGraph .form .outputs;
-      isMatch = match;
-      constants = λ j l c.
-          let inside : j < sourceCount rule = rw (length-source rule) at l in
-          const-plain rule j inside (soundRule .patterns j (omega arith)) c;
-      sourceOutputs = λ o m. (
-        rw (length-source rule) (outputs-below rule sideLimit (soundRule .header) o m),
-        output-other r (soundRule .outputs .source) o m,
-      );
-      sameCount = length-target-outputs rule ∙ sym (length-source-outputs rule);
-      targetKinds = λ t l. not-true (inputKind (targetOf r t .kind))
-          (and-left (not (inputKind (targetOf r t .kind))) (all (originFits r t) (targetOf r t .inputs))
-          (soundRule .namedInputs t (rw (length-target rule) at l)));
-      targetInputs = λ t l. and-right (not (inputKind (targetOf r t .kind))) (all (originFits r t) (targetOf r t .inputs))
-          (soundRule .namedInputs t (rw (length-target rule) at l));
-      targetOutputs = rw (length-target rule) (soundRule .outputs .target);
-      room = room;
-    }
+-- a match of a sound rule with room is a site, whatever the rule's side limit
+pub site : (limit : ℕ) (r : Rule) → SoundFixed limit r → (graph images : List ℕ) → SoundGraph graph → Match (graphOf graph) r images → hasRoom (graphOf graph) r images ≡ true
+    → Site (graphOf graph) r images
+unfolding targetInputsFit isConst rowOf kinds
+site limit r s graph images sound match room = record {
+  layout = record { vertices = sound .form .inputs; acyclic = sound .form .acyclic };
+  outputs = sound .form .outputs;
+  isMatch = match;
+  constants = λ j l c. reads-nothing limit r s j kindConst l (eqb-true (sourceOf r j .kind) kindConst c) refl refl;
+  sourceOutputs = λ o m. (s .outputsInside o m, output-other r (s .outputs) o m);
+  sameCount = s .sameCount;
+  targetKinds = λ t l. not-true (inputKind (targetOf r t .kind))
+      (and-left (not (inputKind (targetOf r t .kind))) (all (originFits r t) (targetOf r t .inputs)) (s .namedInputs t l));
+  targetInputs = λ t l. and-right (not (inputKind (targetOf r t .kind))) (all (originFits r t) (targetOf r t .inputs)) (s .namedInputs t l);
+  targetOutputs = s .namedOutputs;
+  room = room;
+}

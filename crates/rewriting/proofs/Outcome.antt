@@ -10,10 +10,12 @@ use Rattle.definitions.specs.declared.Refusal.{Refusal}
 use Rattle.definitions.specs.declared.Reply.the-variants.{Done, Refused}
 use Rattle.definitions.specs.Reply.{noMatch, refused, done}
 use Rattle.definitions.specs.Graph.{Graph, graphOf, graphBlock, SoundGraph}
-use Rattle.definitions.specs.Rule.{sourceCount, ruleOf, SoundRule}
+use Rattle.definitions.specs.Rule.{sideCapacity, sourceCount, ruleOf}
 use Rattle.definitions.specs.Match.{leastMatch}
 use Rattle.definitions.specs.Operations.{outcome, mapBlock, blocksReply, accepted, turnedDown, rewritten, replaced, rewrite}
-use Rattle.theory.proofs.Fixing.{sound-fixing}
+use Rattle.rule_fields.specs.Fixed.{fixedOf}
+use Rattle.rule_nodes.specs.Working.{WorkingRule}
+use Rattle.rule_sound.proofs.Fixed.{fixing-of}
 use Rattle.theory.proofs.Least.{least-match}
 use Rattle.match_outputs.specs.Finds.{Finds}
 use Rattle.new_plan.specs.Planned.{Matched}
@@ -46,13 +48,13 @@ module _ (graph rule : List ℕ) (start : ℕ) (images : List ℕ) where
       table-left new e = sym (rw (e, replaced)) ∙ at-match
 
 -- what a search found is the map of a match
-pub matched : (graph rule : List ℕ) (start : ℕ) (ok : Bool) (images : List ℕ) → SoundGraph graph → SoundRule rule
-    → Finds (leastMatch (graphOf graph) (ruleOf rule) start) (sourceCount rule) ok images → ok ≡ true → Matched graph rule images
-matched graph rule start ok images soundGraph soundRule finds success = record {
+pub matched : (graph rule : List ℕ) (start : ℕ) (ok : Bool) (images : List ℕ) → SoundGraph graph → WorkingRule rule
+    → Finds (leastMatch (graphOf graph) (fixedOf rule) start) (sourceCount rule) ok images → ok ≡ true → Matched graph rule images
+matched graph rule start ok images soundGraph working finds success = record {
   soundGraph = soundGraph;
-  soundRule = soundRule;
+  working = working;
   size = finds .size success;
-  isMatch = least-match (graphOf graph) (ruleOf rule) (sound-fixing rule soundRule) start (take (sourceCount rule) images)
-      (finds .found success) .isMatch;
+  isMatch = least-match (graphOf graph) (fixedOf rule) (fixing-of sideCapacity (fixedOf rule) (working .sound)) start
+      (take (sourceCount rule) images) (finds .found success) .isMatch;
   rest = finds .rest success;
 }

@@ -3,6 +3,7 @@
 use blocks::check_blocks;
 use blocks::write_map;
 use commit::commit;
+use definitions::MAP_PLACES;
 use definitions::Reply;
 use definitions::SIDE_CAPACITY;
 use graph_slots::blank_table;
@@ -13,15 +14,16 @@ use search::least_match;
 ghost use mathlib.Core.Path.{_≡_};
 ghost use lib.ListN.{take};
 ghost use Rattle.definitions.specs.Graph.{graphOf};
-ghost use Rattle.definitions.specs.Rule.{sourceCount, ruleOf};
+ghost use Rattle.definitions.specs.Rule.{sourceCount};
 ghost use Rattle.definitions.specs.Operations as operation;
+ghost use Rattle.rule_fields.specs.Fixed.{fixedOf};
 ghost use Rattle.new_plan.specs.Planned.{Matched};
 ghost use Rattle.rewriting.specs.Replaced.{Replaced};
 
 // Rewrites the graph at this match, or says how that is refused, and then leaves the graph as it is.
 fn replace(graph: &mut [u8], rule: &[u8], images: &[u16; SIDE_CAPACITY]) -> Reply
     requires { ⌜ Matched (now graph) (now rule) (now images) ⌝ }
-    ensures { λ r. ⌜ Replaced (operation.rewritten (graphOf (now (graph .entry))) (ruleOf (now (rule .entry)))
+    ensures { λ r. ⌜ Replaced (operation.rewritten (graphOf (now (graph .entry))) (fixedOf (now (rule .entry)))
         (take (sourceCount (now (rule .entry))) (now (images .entry)))) r (now (graph .entry)) (now (graph .exit)) ⌝ }
 {
     let mut table = blank_table();
@@ -52,6 +54,6 @@ pub fn rewrite(graph: &mut [u8], rule: &[u8], start: usize, map: &mut [u8]) -> R
         Reply::Refused(refusal) => return Reply::Refused(refusal),
         Reply::Done(_) => {}
     }
-    write_map(map, &images);
+    write_map(map, &images[0..MAP_PLACES]);
     Reply::Done(0)
 }

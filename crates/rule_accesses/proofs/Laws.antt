@@ -11,7 +11,7 @@ use borrow.Author.Tests.{lt-ltb, le-ltb, le-leb, lt-leb, leb-true, leb-false, eq
 use lib.Dec.{eqb, leb, leb·zero}
 use lib.ListN.{getD, set, replicate, List·getD-map}
 use Rattle.definitions.specs.Lists.{build}
-use Rattle.definitions.specs.Rule.{nodeLimit, nodeCount, Expression, anything, constant, access, apply, index, sum, formAny, formConstant, formAccess, formIndex, formSum, nodeForm, nodeLeft, nodeRight, nodeFrom, expressions, expressionOf, nodeFits, badNode, accessesBelow}
+use Rattle.definitions.specs.Rule.{nodeLimit, nodeCount, Expression, anything, constant, access, apply, index, sum, formAny, formConstant, formAccess, formIndex, formSum, nodeForm, nodeLeft, nodeRight, nodeFrom, expressions, expressionOf, nodeFits, badNode, accessesBelow, nodeBy}
 use Rattle.laws.proofs.Lists.{decided, lowest-passed}
 use Rattle.laws.proofs.Builds.{build-more, getD-padded, map-build}
 use Rattle.rule_accesses.specs.Access.{topAccess, topFrom, TopsKnown, NodesFaultless}
@@ -39,7 +39,7 @@ below-top j (sum x) = below-top j x
 
 module _ (block : List ℕ) where
   top-node : (earlier : List Expression) (k : ℕ) → topAccess (nodeFrom block earlier k) ≡ topFrom block (map topAccess earlier) k
-  unfolding nodeFrom topFrom topAccess
+  unfolding nodeBy topFrom topAccess
   top-node earlier k =
       go (decided (eqb (nodeForm block k) formAny)) (decided (eqb (nodeForm block k) formConstant)) (decided (eqb (nodeForm block k) formAccess))
     where

@@ -17,13 +17,13 @@ ghost use mathlib.Core.Bool.{true, not};
 ghost use Prim.Native.Nat.{_+_, _<_};
 ghost use Rattle.definitions.specs.Lists.{lowest};
 ghost use Rattle.definitions.specs.Rule.{sourceCount, targetCount, nodeCount, nodeFits, useFits, badUse};
-ghost use Rattle.rule_fields.specs.Layout.{WholeRule, ReadableRule};
+ghost use Rattle.rule_fields.specs.Layout.{LentRule, ReadableRule};
 ghost use Rattle.rule_accesses.specs.Access.{topFrom, TopsKnown, NodesFaultless};
 
 // The top of node k: one more than the highest source vertex that it accesses, itself or through the nodes that it names, or 0
 // where it accesses none. The tops of the earlier nodes are in `tops`.
 fn node_top(rule: &[u8], k: usize, tops: &[usize; NODE_LIMIT]) -> usize
-    requires { ⌜ WholeRule (now rule) ⌝ }
+    requires { ⌜ LentRule (now rule) ⌝ }
     requires { ⌜ k < nodeCount (now rule) ⌝ }
     requires { ⌜ nodeFits (now rule) k ≡ true ⌝ }
     ensures { λ r. ⌜ r ≡ topFrom (now (rule .entry)) (now (tops .entry)) k ⌝ }
@@ -45,7 +45,7 @@ fn node_top(rule: &[u8], k: usize, tops: &[usize; NODE_LIMIT]) -> usize
 // The top of every node. Each is found once, from those of its operands: to follow the operands from each use anew could take a
 // time that doubles with every node.
 fn access_tops(rule: &[u8]) -> [usize; NODE_LIMIT]
-    requires { ⌜ WholeRule (now rule) ⌝ }
+    requires { ⌜ LentRule (now rule) ⌝ }
     requires { ⌜ NodesFaultless (now rule) ⌝ }
     ensures { λ r. ⌜ TopsKnown (now (rule .entry)) r ⌝ }
 {
@@ -62,7 +62,7 @@ fn access_tops(rule: &[u8]) -> [usize; NODE_LIMIT]
 
 // Whether vertex v may use node k as an attribute.
 fn use_fits(rule: &[u8], tops: &[usize; NODE_LIMIT], v: usize, k: usize) -> bool
-    requires { ⌜ WholeRule (now rule) ⌝ }
+    requires { ⌜ LentRule (now rule) ⌝ }
     requires { ⌜ TopsKnown (now rule) (now tops) ⌝ }
     ensures { λ r. ⌜ r ≡ useFits (now (rule .entry)) v k ⌝ }
 {
@@ -81,6 +81,7 @@ fn use_fits(rule: &[u8], tops: &[usize; NODE_LIMIT], v: usize, k: usize) -> bool
 // Whether vertex v may use each node that is an attribute of it.
 fn vertex_uses_fit(rule: &[u8], tops: &[usize; NODE_LIMIT], v: usize) -> bool
     requires { ⌜ ReadableRule (now rule) ⌝ }
+    requires { ⌜ LentRule (now rule) ⌝ }
     requires { ⌜ v < sourceCount (now rule) + targetCount (now rule) ⌝ }
     requires { ⌜ TopsKnown (now rule) (now tops) ⌝ }
     ensures { λ r. ⌜ r ≡ not (badUse (now (rule .entry)) v) ⌝ }
@@ -101,6 +102,7 @@ fn vertex_uses_fit(rule: &[u8], tops: &[usize; NODE_LIMIT], v: usize) -> bool
 // The lowest vertex that uses a node wrongly, or the number of vertices.
 pub fn bad_use(rule: &[u8]) -> usize
     requires { ⌜ ReadableRule (now rule) ⌝ }
+    requires { ⌜ LentRule (now rule) ⌝ }
     requires { ⌜ NodesFaultless (now rule) ⌝ }
     ensures { λ r. ⌜ r ≡ lowest (badUse (now (rule .entry))) (sourceCount (now (rule .entry)) + targetCount (now (rule .entry))) ⌝ }
 {

@@ -5,28 +5,56 @@ use mathlib.Core.Bool.{Bool, true, false, cond, _&&_, and-false}
 use mathlib.Core.List.{List}
 use Prim.Native.Nat.{ℕ, _+_, _-_, _<_, _≤_}
 use native.Mathlib.Omega.{arith}
-use borrow.Author.Tests.{leb-true, ltb-true, eqb-true, not-false, lt-ltb, le-ltb}
+use borrow.Author.Tests.{leb-true, ltb-true, eqb-true, ne-eqb, not-false, lt-ltb, le-ltb}
 use lib.Dec.{eqb, leb, ltb}
 use lib.ListN.{length, getD}
 use Rattle.definitions.specs.Lists.{lowest, all, allBelow}
-use Rattle.definitions.specs.Fields.{byteAt}
+use Rattle.definitions.specs.Fields.{byteAt, u16At}
 use Rattle.definitions.specs.Reply.{badRuleHeader, badRuleRecord, badRuleOrder, badRuleOutputs, badRuleExpression, done, refusedAt, refused, flag, place, judged}
-use Rattle.definitions.specs.Rule.{sideLimit, nodeLimit, sourceCount, targetCount, ruleOutputCount, nodeCount, vertexAt, nodeAt, ruleOf, sourceInputs, ruleSizesFit, ruleOutputPlacesFit, ruleHeaderFits, patternFits, sourceInputsFit, targetInputsFit, badVertex, outOfOrder, outputsFit, badNode, badUse, ruleFaults, ruleReply}
-use Rattle.laws.proofs.Lists.{needed, lowest-passed, all-at, allBelow-at}
-use Rattle.laws.proofs.Rule.{source-output-of, few-sources, few-targets, few-rule-outputs}
+use Rattle.definitions.specs.Rule.{sideLimit, ruleOutputLimit, nodeLimit, ruleVersion, sourceCount, targetCount, ruleOutputCount, nodeCount, vertexAt, nodeAt, ruleOf, sourceInputs, ruleSizesFit, ruleOutputPlacesFit, ruleHeaderFits, patternFits, sourceInputsFit, targetInputsFit, badVertex, badVertexOf, outOfOrder, outputsFit, badNode, badUse, ruleFaults, ruleReply}
+use Rattle.laws.proofs.Lists.{true-not-false, needed, lowest-passed, all-at, allBelow-at}
 use Rattle.rule_records.proofs.Laws.{pattern-inputs, pattern-attributes}
-use Rattle.rule_fields.specs.Layout.{WholeRule, ReadableRule, Layered}
+use Rattle.rule_fields.specs.Fixed.{expandedVersion, isExpanded}
+use Rattle.rule_fields.specs.Layout.{WholeRule, LentRule, ReadableRule, Layered}
+use Rattle.rule_fields.proofs.Fixed.{source-output-of, lent-rule, lent-nodes, lent-split}
 
 module _ (block : List ℕ) where
-  pub whole : ruleHeaderFits sideLimit block ≡ true → WholeRule block
-  unfolding ruleHeaderFits ruleSizesFit
-  whole h = record {
-    size = eqb-true _ _ (needed (eqb (length block) (nodeAt block (nodeCount block))) h (λ f. simp f));
-    source = few-sources block sideLimit h;
-    target = few-targets block sideLimit h;
-    outputs = few-rule-outputs block sideLimit h;
-    nodes = leb-true _ _ (needed (leb (nodeCount block) nodeLimit) h (λ f. simp (f, and-false)));
-  }
+  -- a block that is lent, and whose length and sizes are right
+  pub lent-whole : isExpanded block ≡ false → length block ≡ nodeAt block (nodeCount block) → ruleSizesFit sideLimit block ≡ true
+      → LentRule block
+  unfolding ruleSizesFit
+  lent-whole lent size sizes =
+      let same = lent-nodes block lent in
+      let nodes = leb-true (nodeCount block) nodeLimit (needed (leb (nodeCount block) nodeLimit) sizes (λ f. simp (f, and-false))) in
+      let source = leb-true (sourceCount block) sideLimit (needed (leb (sourceCount block) sideLimit) sizes (λ f. simp (f, and-false))) in
+      let target = leb-true (targetCount block) sideLimit (needed (leb (targetCount block) sideLimit) sizes (λ f. simp (f, and-false))) in
+      record {
+        whole = record {
+          size = omega (arith, size, same);
+          table = λ t. absurd (true-not-false t lent);
+          source = omega arith;
+          target = omega arith;
+          split = omega (arith, lent-split block lent);
+          outputs = leb-true (ruleOutputCount block) ruleOutputLimit
+              (needed (leb (ruleOutputCount block) ruleOutputLimit) sizes (λ f. simp (f, and-false)));
+          nodes = omega arith;
+        };
+        sameNodes = same;
+        fewNodes = nodes;
+      }
+
+  -- a block of version 1 is lent
+  pub header-lent : ruleHeaderFits sideLimit block ≡ true → isExpanded block ≡ false
+  unfolding ruleHeaderFits isExpanded u16At
+  header-lent h =
+      let version = eqb-true (u16At block 4) ruleVersion (needed (eqb (u16At block 4) ruleVersion) h (λ f. simp (f, and-false))) in
+      ne-eqb (byteAt block 4) expandedVersion (λ e. omega (arith, version))
+
+  pub whole : ruleHeaderFits sideLimit block ≡ true → LentRule block
+  unfolding ruleHeaderFits
+  whole h =
+      lent-whole (header-lent h) (eqb-true _ _ (needed (eqb (length block) (nodeAt block (nodeCount block))) h (λ f. simp f)))
+      (needed (ruleSizesFit sideLimit block) h (λ f. simp (f, and-false)))
 
   module _ (vertices : sourceCount block + targetCount block ≤ lowest (badVertex block) (sourceCount block + targetCount block)) where
     -- every vertex's record and input places are good
@@ -34,7 +62,7 @@ module _ (block : List ℕ) where
         → (patternFits block (vertexAt v)
         && cond (ltb v (sourceCount block)) (sourceInputsFit (ruleOf block) v) (targetInputsFit (ruleOf block) (v - sourceCount block)))
         ≡ true
-    unfolding badVertex
+    unfolding badVertexOf
     good v l = not-false _ (lowest-passed (badVertex block) (sourceCount block + targetCount block) v (omega arith))
 
     pub pattern : (v : ℕ) → v < sourceCount block + targetCount block → patternFits block (vertexAt v) ≡ true
@@ -56,9 +84,9 @@ module _ (block : List ℕ) where
     pub layered : ruleHeaderFits sideLimit block ≡ true → Layered block
     unfolding ruleHeaderFits ruleOutputPlacesFit
     layered h = record {
-      lower = λ j i l m.
+      lower = rw (lent-rule block (header-lent h)) (λ j i l m.
           ltb-true (getD (sourceInputs (ruleOf block) j) i 255) j
-          (all-at (λ p. ltb p j) 255 (sourceInputs (ruleOf block) j) i (lower j l) m);
+          (all-at (λ p. ltb p j) 255 (sourceInputs (ruleOf block) j) i (lower j l) m));
       outputs = λ i l.
           let below : ℕ → Bool = λ k. ltb (byteAt block (10 + k)) (sourceCount block) in
           let listed = needed (allBelow below (ruleOutputCount block)) h (λ f. simp (f, and-false)) in

@@ -15,7 +15,7 @@ use Rattle.definitions.specs.Lists.{lowest, all, allBelow, range}
 use Rattle.definitions.specs.Fields.{byteAt}
 use Rattle.definitions.specs.Paths.{Reads}
 use Rattle.definitions.specs.Reply.{badRuleRecord, badRuleOrder, badRuleExpression, done, refusedAt}
-use Rattle.definitions.specs.Rule.{sideLimit, sourceCount, targetCount, nodeCount, vertexAt, Rule, ruleOf, sourceInputs, ruleHeaderFits, originFits, sourceInputsFit, targetInputsFit, badVertex, traversal, outOfOrder, reaches, sourceOutputsFit, connected, allNamed, outputsFit, nodeFits, badNode, useFits, badUse, ruleReply, GoodOutputs, SoundRule}
+use Rattle.definitions.specs.Rule.{sideLimit, sourceCount, targetCount, nodeCount, vertexAt, Rule, ruleOf, sourceInputs, ruleHeaderFits, originFits, sourceInputsFit, targetInputsFit, badVertex, traversal, outOfOrder, reaches, sourceOutputsFit, connected, allNamed, outputsFit, nodeFits, badNode, useFits, badUse, ruleReply, GoodOutputs, SoundRule, badVertexOf}
 use Rattle.definitions.specs.Faults.{None, BadVertex, Misplaced, BadNode, BadUse, RuleFault, header, vertex, order, outputs, node, attribute}
 use Rattle.laws.proofs.Lists.{decided, passes, fails, true-not-false, needed, all-member, all-members, allBelow-at, allBelow-some, anyBelow-found, anyBelow-some, getD-any}
 use Rattle.laws.proofs.Faults.{by-place, Decides, found-lowest, found-none, lowest-is, lowest-inside, none-found, Ruling, good, bad, Judges, done-only, done-every}
@@ -148,7 +148,7 @@ module _ (block : List ℕ) where
   -- ---- no sound block has one
 
   vertex-good : SoundRule block → (v : ℕ) → v < vertices → badVertex block v ≡ false
-  unfolding badVertex
+  unfolding badVertexOf
   vertex-good s v l =
       ⊎-elim (λ (t : ltb v (sourceCount block) ≡ true). simp (s .patterns v l, t, s .lowerInputs v (ltb-true v (sourceCount block) t)))
       (λ (t : ltb v (sourceCount block) ≡ false).

@@ -10,7 +10,8 @@ ghost use mathlib.Core.Bool.{false};
 ghost use Prim.Native.Nat.{ℕ, _<_};
 ghost use lib.ListN.{getD};
 ghost use Rattle.definitions.specs.Lists.{all};
-ghost use Rattle.definitions.specs.Rule.{sourceCount, ruleOf, reaches, connected};
+ghost use Rattle.definitions.specs.Rule.{sourceCount, reaches, connected};
+ghost use Rattle.rule_fields.specs.Fixed.{fixedOf};
 ghost use Rattle.rule_fields.specs.Layout.{LayeredRule};
 ghost use Rattle.rule_connection.specs.Reached.{inputMarked, reachedNext};
 
@@ -18,7 +19,7 @@ ghost use Rattle.rule_connection.specs.Reached.{inputMarked, reachedNext
 fn has_marked_input(rule: &[u8], w: usize, found: &[bool; SIDE_CAPACITY]) -> bool
     requires { ⌜ LayeredRule (now rule) ⌝ }
     requires { ⌜ w < sourceCount (now rule) ⌝ }
-    ensures { λ r. ⌜ r ≡ inputMarked (ruleOf (now (rule .entry))) (now (found .entry)) w ⌝ }
+    ensures { λ r. ⌜ r ≡ inputMarked (fixedOf (now (rule .entry))) (now (found .entry)) w ⌝ }
 {
     let count = source_input_count(rule, w);
     let mut i = 0;
@@ -36,7 +37,7 @@ fn has_marked_input(rule: &[u8], w: usize, found: &[bool; SIDE_CAPACITY]) -> boo
 fn reaches_next(rule: &[u8], v: usize, w: usize, found: &[bool; SIDE_CAPACITY]) -> bool
     requires { ⌜ LayeredRule (now rule) ⌝ }
     requires { ⌜ w < sourceCount (now rule) ⌝ }
-    ensures { λ r. ⌜ r ≡ reachedNext (ruleOf (now (rule .entry))) v (now (found .entry)) w ⌝ }
+    ensures { λ r. ⌜ r ≡ reachedNext (fixedOf (now (rule .entry))) v (now (found .entry)) w ⌝ }
 {
     if v == w {
         return true;
@@ -47,7 +48,7 @@ fn reaches_next(rule: &[u8], v: usize, w: usize, found: &[bool; SIDE_CAPACITY]) 
 // At w, whether source vertex v reaches w.
 fn reached_from(rule: &[u8], v: usize) -> [bool; SIDE_CAPACITY]
     requires { ⌜ LayeredRule (now rule) ⌝ }
-    ensures { λ r. ⌜ ((w : ℕ) → w < sourceCount (now (rule .entry)) → getD r w false ≡ reaches (ruleOf (now (rule .entry))) v w) ⌝ }
+    ensures { λ r. ⌜ ((w : ℕ) → w < sourceCount (now (rule .entry)) → getD r w false ≡ reaches (fixedOf (now (rule .entry))) v w) ⌝ }
 {
     let count = source_count(rule);
     let mut found = [false; SIDE_CAPACITY];
@@ -63,7 +64,7 @@ fn reached_from(rule: &[u8], v: usize) -> [bool; SIDE_CAPACITY]
 // Whether v reaches every source output.
 fn reaches_outputs(rule: &[u8], v: usize) -> bool
     requires { ⌜ LayeredRule (now rule) ⌝ }
-    ensures { λ r. ⌜ r ≡ all (reaches (ruleOf (now (rule .entry))) v) (ruleOf (now (rule .entry)) .sourceOutputs) ⌝ }
+    ensures { λ r. ⌜ r ≡ all (reaches (fixedOf (now (rule .entry))) v) (fixedOf (now (rule .entry)) .sourceOutputs) ⌝ }
 {
     let count = output_count(rule);
     let found = reached_from(rule, v);
@@ -82,7 +83,7 @@ fn reaches_outputs(rule: &[u8], v: usize) -> bool
 // Whether some source vertex reaches every source output; with one output, that output itself does.
 pub fn is_connected(rule: &[u8]) -> bool
     requires { ⌜ LayeredRule (now rule) ⌝ }
-    ensures { λ r. ⌜ r ≡ connected (ruleOf (now (rule .entry))) ⌝ }
+    ensures { λ r. ⌜ r ≡ connected (fixedOf (now (rule .entry))) ⌝ }
 {
     let count = source_count(rule);
     let mut v = 0;

@@ -20,11 +20,11 @@ ghost use Rattle.definitions.specs.Lists.{within, lowest};
 ghost use Rattle.definitions.specs.Fields.{filled};
 ghost use Rattle.definitions.specs.Graph.{attributeLimit};
 ghost use Rattle.definitions.specs.Rule.{ruleHeaderBytes, sourceCount, nodeCount, nodeAt, formRemainder, operandFits, nodeFits, badNode};
-ghost use Rattle.rule_fields.specs.Layout.{WholeRule};
+ghost use Rattle.rule_fields.specs.Layout.{LentRule};
 
 // Whether node k leaves its number zero.
 fn number_unused(rule: &[u8], k: usize) -> bool
-    requires { ⌜ WholeRule (now rule) ⌝ }
+    requires { ⌜ LentRule (now rule) ⌝ }
     requires { ⌜ k < nodeCount (now rule) ⌝ }
     ensures { λ r. ⌜ r ≡ filled (now (rule .entry)) (nodeAt (now (rule .entry)) k + 4) (nodeAt (now (rule .entry)) k + 8) 0 ⌝ }
 {
@@ -64,7 +64,7 @@ fn access_fits(rule: &[u8], vertex: usize, attribute: usize) -> bool
 
 // Whether node k may name node j as an operand: an earlier one that is not any.
 fn operand_fits(rule: &[u8], k: usize, j: usize) -> bool
-    requires { ⌜ WholeRule (now rule) ⌝ }
+    requires { ⌜ LentRule (now rule) ⌝ }
     requires { ⌜ k < nodeCount (now rule) ⌝ }
     ensures { λ r. ⌜ r ≡ operandFits (now (rule .entry)) k j ⌝ }
 {
@@ -79,7 +79,7 @@ fn operand_fits(rule: &[u8], k: usize, j: usize) -> bool
 
 // Whether node k, whose form is none of 0 to 2, is an operation with two operands that it may name.
 fn operation_fits(rule: &[u8], k: usize, form: usize, left: usize, right: usize) -> bool
-    requires { ⌜ WholeRule (now rule) ⌝ }
+    requires { ⌜ LentRule (now rule) ⌝ }
     requires { ⌜ k < nodeCount (now rule) ⌝ }
     ensures { λ r. ⌜ r ≡ (leb form formRemainder && operandFits (now (rule .entry)) k left && operandFits (now (rule .entry)) k right) ⌝ }
 {
@@ -94,7 +94,7 @@ fn operation_fits(rule: &[u8], k: usize, form: usize, left: usize, right: usize)
 
 // Whether node k has a form, its used fields in range, and its unused fields zero.
 fn node_fits(rule: &[u8], k: usize) -> bool
-    requires { ⌜ WholeRule (now rule) ⌝ }
+    requires { ⌜ LentRule (now rule) ⌝ }
     requires { ⌜ k < nodeCount (now rule) ⌝ }
     ensures { λ r. ⌜ r ≡ nodeFits (now (rule .entry)) k ⌝ }
 {
@@ -122,7 +122,7 @@ fn node_fits(rule: &[u8], k: usize) -> bool
 
 // The lowest node with a fault, or the number of nodes.
 pub fn bad_node(rule: &[u8]) -> usize
-    requires { ⌜ WholeRule (now rule) ⌝ }
+    requires { ⌜ LentRule (now rule) ⌝ }
     ensures { λ r. ⌜ r ≡ lowest (badNode (now (rule .entry))) (nodeCount (now (rule .entry))) ⌝ }
 {
     let nodes = node_count(rule);

@@ -2,17 +2,27 @@
 use definitions::KIND_CONST;
 use definitions::KIND_EMPTY;
 use definitions::KIND_VARIABLE;
+use definitions::NODE_BYTES;
 use definitions::PATTERN_BYTES;
 use definitions::RULE_HEADER_BYTES;
+use definitions::SIDE_CAPACITY;
+use definitions::TARGET_BASE;
 use fields::byte_at;
+use fields::u16_at;
 ghost use mathlib.Core.Path.{_≡_};
 ghost use Prim.Native.Nat.{_+_, _<_, _≤_};
 ghost use lib.ListN.{length, getD};
 ghost use Rattle.definitions.specs.Fields.{byteAt};
 ghost use Rattle.definitions.specs.Graph.{inputLimit, attributeLimit};
-ghost use Rattle.definitions.specs.Rule.{ruleHeaderBytes, patternBytes, sourceCount, targetCount, ruleOutputCount, nodeCount, vertexAt, anything, made, originOf, expressionOf, ruleOf, sourceOf, targetOf, sourceInputs, isRuleInput};
+ghost use Rattle.definitions.specs.Rule.{ruleHeaderBytes, patternBytes, sideCapacity, sourceCount, targetCount, ruleOutputCount, nodeCount, vertexAt, anything, made, sourceOf, targetOf, sourceInputs, isRuleInput};
 ghost use Rattle.definitions.specs.Match.{isConst};
+ghost use Rattle.rule_fields.specs.Fixed.{isExpanded, splitIn, originIn, nodesIn, expressionIn, attributeNode, fixedOf};
 ghost use Rattle.rule_fields.specs.Layout.{WholeRule, ReadableRule};
+
+// What byte 4 holds in the layout of a fixed rule that was made of a variadic one.
+pub const EXPANDED_VERSION: usize = 3;
+// The bytes for the nodes of a vertex's attributes in that layout.
+pub const ATTRIBUTE_PLACE_BYTES: usize = 12;
 
 // How many source vertices the header counts.
 pub fn source_count(rule: &[u8]) -> usize
@@ -44,6 +54,53 @@ pub fn node_count(rule: &[u8]) -> usize
     ensures { λ r. ⌜ (r ≡ nodeCount (now (rule .entry))) × (r < 256) ⌝ }
 {
     byte_at(rule, 9)
+}
+
+// Whether the block is a fixed rule that was made of a variadic one.
+pub fn is_expanded(rule: &[u8]) -> bool
+    requires { ⌜ ruleHeaderBytes ≤ length (now rule) ⌝ }
+    ensures { λ r. ⌜ r ≡ isExpanded (now (rule .entry)) ⌝ }
+{
+    byte_at(rule, 4) == EXPANDED_VERSION
+}
+
+// The first place number that names a target vertex.
+pub fn target_split(rule: &[u8]) -> usize
+    requires { ⌜ ruleHeaderBytes ≤ length (now rule) ⌝ }
+    ensures { λ r. ⌜ (r ≡ splitIn (now (rule .entry))) × (r ≤ sideCapacity) ⌝ }
+{
+    if is_expanded(rule) {
+        return SIDE_CAPACITY;
+    }
+    TARGET_BASE
+}
+
+// How many nodes there are, in either layout.
+pub fn fixed_node_count(rule: &[u8]) -> usize
+    requires { ⌜ ruleHeaderBytes ≤ length (now rule) ⌝ }
+    ensures { λ r. ⌜ (r ≡ nodesIn (now (rule .entry))) × (r < 65536) ⌝ }
+{
+    let low = node_count(rule);
+    if is_expanded(rule) {
+        return low + 256 * byte_at(rule, 14);
+    }
+    low
+}
+
+// The node of attribute i of vertex v, here counted from 0.
+fn attribute_node(rule: &[u8], v: usize, i: usize) -> usize
+    requires { ⌜ WholeRule (now rule) ⌝ }
+    requires { ⌜ v < sourceCount (now rule) + targetCount (now rule) ⌝ }
+    requires { ⌜ i < attributeLimit ⌝ }
+    ensures { λ r. ⌜ r ≡ attributeNode (now (rule .entry)) v i ⌝ }
+{
+    if is_expanded(rule) {
+        let vertices = source_count(rule) + target_count(rule);
+        let nodes = fixed_node_count(rule);
+        let table = RULE_HEADER_BYTES + PATTERN_BYTES * vertices + NODE_BYTES * nodes;
+        return u16_at(rule, table + ATTRIBUTE_PLACE_BYTES * v + 2 * i);
+    }
+    byte_at(rule, RULE_HEADER_BYTES + PATTERN_BYTES * v + 10 + i)
 }
 
 // Where the record of source vertex j starts.
@@ -91,7 +148,7 @@ fn target_byte(rule: &[u8], t: usize, i: usize) -> usize
 pub fn source_kind(rule: &[u8], j: usize) -> usize
     requires { ⌜ WholeRule (now rule) ⌝ }
     requires { ⌜ j < sourceCount (now rule) ⌝ }
-    ensures { λ r. ⌜ (r ≡ sourceOf (ruleOf (now (rule .entry))) j .kind) × (r < 256) ⌝ }
+    ensures { λ r. ⌜ (r ≡ sourceOf (fixedOf (now (rule .entry))) j .kind) × (r < 256) ⌝ }
 {
     source_byte(rule, j, 0)
 }
@@ -100,7 +157,7 @@ pub fn source_kind(rule: &[u8], j: usize) -> usize
 pub fn source_operator(rule: &[u8], j: usize) -> usize
     requires { ⌜ WholeRule (now rule) ⌝ }
     requires { ⌜ j < sourceCount (now rule) ⌝ }
-    ensures { λ r. ⌜ (r ≡ sourceOf (ruleOf (now (rule .entry))) j .operator) × (r < 256) ⌝ }
+    ensures { λ r. ⌜ (r ≡ sourceOf (fixedOf (now (rule .entry))) j .operator) × (r < 256) ⌝ }
 {
     source_byte(rule, j, 1)
 }
@@ -109,7 +166,7 @@ pub fn source_operator(rule: &[u8], j: usize) -> usize
 pub fn source_input_count(rule: &[u8], j: usize) -> usize
     requires { ⌜ ReadableRule (now rule) ⌝ }
     requires { ⌜ j < sourceCount (now rule) ⌝ }
-    ensures { λ r. ⌜ (r ≡ length (sourceInputs (ruleOf (now (rule .entry))) j)) × (r ≤ inputLimit) ⌝ }
+    ensures { λ r. ⌜ (r ≡ length (sourceInputs (fixedOf (now (rule .entry))) j)) × (r ≤ inputLimit) ⌝ }
 {
     source_byte(rule, j, 2)
 }
@@ -118,8 +175,8 @@ pub fn source_input_count(rule: &[u8], j: usize) -> usize
 pub fn source_input(rule: &[u8], j: usize, i: usize) -> usize
     requires { ⌜ ReadableRule (now rule) ⌝ }
     requires { ⌜ j < sourceCount (now rule) ⌝ }
-    requires { ⌜ i < length (sourceInputs (ruleOf (now rule)) j) ⌝ }
-    ensures { λ r. ⌜ (r ≡ getD (sourceInputs (ruleOf (now (rule .entry))) j) i 255) × (r < 256) ⌝ }
+    requires { ⌜ i < length (sourceInputs (fixedOf (now rule)) j) ⌝ }
+    ensures { λ r. ⌜ (r ≡ getD (sourceInputs (fixedOf (now (rule .entry))) j) i 255) × (r < 256) ⌝ }
 {
     source_byte(rule, j, 4 + i)
 }
@@ -128,7 +185,7 @@ pub fn source_input(rule: &[u8], j: usize, i: usize) -> usize
 pub fn source_attribute_count(rule: &[u8], j: usize) -> usize
     requires { ⌜ ReadableRule (now rule) ⌝ }
     requires { ⌜ j < sourceCount (now rule) ⌝ }
-    ensures { λ r. ⌜ (r ≡ length (sourceOf (ruleOf (now (rule .entry))) j .attributes)) × (r ≤ attributeLimit) ⌝ }
+    ensures { λ r. ⌜ (r ≡ length (sourceOf (fixedOf (now (rule .entry))) j .attributes)) × (r ≤ attributeLimit) ⌝ }
 {
     source_byte(rule, j, 3)
 }
@@ -137,18 +194,18 @@ pub fn source_attribute_count(rule: &[u8], j: usize) -> usize
 pub fn source_attribute(rule: &[u8], j: usize, i: usize) -> usize
     requires { ⌜ ReadableRule (now rule) ⌝ }
     requires { ⌜ j < sourceCount (now rule) ⌝ }
-    requires { ⌜ i < length (sourceOf (ruleOf (now rule)) j .attributes) ⌝ }
-    ensures { λ r. ⌜ expressionOf (now (rule .entry)) r ≡ getD (sourceOf (ruleOf (now (rule .entry))) j .attributes) i anything ⌝ }
-    ensures { λ r. ⌜ r ≡ byteAt (now (rule .entry)) (vertexAt j + 10 + i) ⌝ }
+    requires { ⌜ i < length (sourceOf (fixedOf (now rule)) j .attributes) ⌝ }
+    ensures { λ r. ⌜ expressionIn (now (rule .entry)) r ≡ getD (sourceOf (fixedOf (now (rule .entry))) j .attributes) i anything ⌝ }
+    ensures { λ r. ⌜ r ≡ attributeNode (now (rule .entry)) j i ⌝ }
 {
-    source_byte(rule, j, 10 + i)
+    attribute_node(rule, j, i)
 }
 
 // The kind of target vertex t.
 pub fn target_kind(rule: &[u8], t: usize) -> usize
     requires { ⌜ WholeRule (now rule) ⌝ }
     requires { ⌜ t < targetCount (now rule) ⌝ }
-    ensures { λ r. ⌜ (r ≡ targetOf (ruleOf (now (rule .entry))) t .kind) × (r < 256) ⌝ }
+    ensures { λ r. ⌜ (r ≡ targetOf (fixedOf (now (rule .entry))) t .kind) × (r < 256) ⌝ }
 {
     target_byte(rule, t, 0)
 }
@@ -157,7 +214,7 @@ pub fn target_kind(rule: &[u8], t: usize) -> usize
 pub fn target_operator(rule: &[u8], t: usize) -> usize
     requires { ⌜ WholeRule (now rule) ⌝ }
     requires { ⌜ t < targetCount (now rule) ⌝ }
-    ensures { λ r. ⌜ (r ≡ targetOf (ruleOf (now (rule .entry))) t .operator) × (r < 256) ⌝ }
+    ensures { λ r. ⌜ (r ≡ targetOf (fixedOf (now (rule .entry))) t .operator) × (r < 256) ⌝ }
 {
     target_byte(rule, t, 1)
 }
@@ -166,7 +223,7 @@ pub fn target_operator(rule: &[u8], t: usize) -> usize
 pub fn target_input_count(rule: &[u8], t: usize) -> usize
     requires { ⌜ ReadableRule (now rule) ⌝ }
     requires { ⌜ t < targetCount (now rule) ⌝ }
-    ensures { λ r. ⌜ (r ≡ length (targetOf (ruleOf (now (rule .entry))) t .inputs)) × (r ≤ inputLimit) ⌝ }
+    ensures { λ r. ⌜ (r ≡ length (targetOf (fixedOf (now (rule .entry))) t .inputs)) × (r ≤ inputLimit) ⌝ }
 {
     target_byte(rule, t, 2)
 }
@@ -175,8 +232,8 @@ pub fn target_input_count(rule: &[u8], t: usize) -> usize
 pub fn target_input(rule: &[u8], t: usize, i: usize) -> usize
     requires { ⌜ ReadableRule (now rule) ⌝ }
     requires { ⌜ t < targetCount (now rule) ⌝ }
-    requires { ⌜ i < length (targetOf (ruleOf (now rule)) t .inputs) ⌝ }
-    ensures { λ r. ⌜ (originOf r ≡ getD (targetOf (ruleOf (now (rule .entry))) t .inputs) i (made 255)) × (r < 256) ⌝ }
+    requires { ⌜ i < length (targetOf (fixedOf (now rule)) t .inputs) ⌝ }
+    ensures { λ r. ⌜ (originIn (now (rule .entry)) r ≡ getD (targetOf (fixedOf (now (rule .entry))) t .inputs) i (made 255)) × (r < 256) ⌝ }
 {
     target_byte(rule, t, 4 + i)
 }
@@ -185,7 +242,7 @@ pub fn target_input(rule: &[u8], t: usize, i: usize) -> usize
 pub fn target_attribute_count(rule: &[u8], t: usize) -> usize
     requires { ⌜ ReadableRule (now rule) ⌝ }
     requires { ⌜ t < targetCount (now rule) ⌝ }
-    ensures { λ r. ⌜ (r ≡ length (targetOf (ruleOf (now (rule .entry))) t .attributes)) × (r ≤ attributeLimit) ⌝ }
+    ensures { λ r. ⌜ (r ≡ length (targetOf (fixedOf (now (rule .entry))) t .attributes)) × (r ≤ attributeLimit) ⌝ }
 {
     target_byte(rule, t, 3)
 }
@@ -194,18 +251,19 @@ pub fn target_attribute_count(rule: &[u8], t: usize) -> usize
 pub fn target_attribute(rule: &[u8], t: usize, i: usize) -> usize
     requires { ⌜ ReadableRule (now rule) ⌝ }
     requires { ⌜ t < targetCount (now rule) ⌝ }
-    requires { ⌜ i < length (targetOf (ruleOf (now rule)) t .attributes) ⌝ }
-    ensures { λ r. ⌜ expressionOf (now (rule .entry)) r ≡ getD (targetOf (ruleOf (now (rule .entry))) t .attributes) i anything ⌝ }
-    ensures { λ r. ⌜ r ≡ byteAt (now (rule .entry)) (vertexAt (sourceCount (now (rule .entry)) + t) + 10 + i) ⌝ }
+    requires { ⌜ i < length (targetOf (fixedOf (now rule)) t .attributes) ⌝ }
+    ensures { λ r. ⌜ expressionIn (now (rule .entry)) r ≡ getD (targetOf (fixedOf (now (rule .entry))) t .attributes) i anything ⌝ }
+    ensures { λ r. ⌜ r ≡ attributeNode (now (rule .entry)) (sourceCount (now (rule .entry)) + t) i ⌝ }
 {
-    target_byte(rule, t, 10 + i)
+    let vertex = source_count(rule) + t;
+    attribute_node(rule, vertex, i)
 }
 
 // The source vertex that source output i is.
 pub fn source_output(rule: &[u8], i: usize) -> usize
     requires { ⌜ WholeRule (now rule) ⌝ }
     requires { ⌜ i < ruleOutputCount (now rule) ⌝ }
-    ensures { λ r. ⌜ (r ≡ getD (ruleOf (now (rule .entry)) .sourceOutputs) i 255) × (r < 256) ⌝ }
+    ensures { λ r. ⌜ (r ≡ getD (fixedOf (now (rule .entry)) .sourceOutputs) i 255) × (r < 256) ⌝ }
 {
     byte_at(rule, 10 + i)
 }
@@ -214,7 +272,7 @@ pub fn source_output(rule: &[u8], i: usize) -> usize
 pub fn target_output(rule: &[u8], i: usize) -> usize
     requires { ⌜ WholeRule (now rule) ⌝ }
     requires { ⌜ i < ruleOutputCount (now rule) ⌝ }
-    ensures { λ r. ⌜ (originOf r ≡ getD (ruleOf (now (rule .entry)) .targetOutputs) i (made 255)) × (r < 256) ⌝ }
+    ensures { λ r. ⌜ (originIn (now (rule .entry)) r ≡ getD (fixedOf (now (rule .entry)) .targetOutputs) i (made 255)) × (r < 256) ⌝ }
 {
     byte_at(rule, 12 + i)
 }
@@ -222,7 +280,7 @@ pub fn target_output(rule: &[u8], i: usize) -> usize
 // Whether j is a rule input: a source vertex that is a wildcard or a Variable.
 pub fn is_rule_input(rule: &[u8], j: usize) -> bool
     requires { ⌜ WholeRule (now rule) ⌝ }
-    ensures { λ r. ⌜ r ≡ isRuleInput (ruleOf (now (rule .entry))) j ⌝ }
+    ensures { λ r. ⌜ r ≡ isRuleInput (fixedOf (now (rule .entry))) j ⌝ }
 {
     if source_count(rule) <= j {
         return false;
@@ -241,7 +299,7 @@ pub fn is_rule_input(rule: &[u8], j: usize) -> bool
 pub fn is_const(rule: &[u8], j: usize) -> bool
     requires { ⌜ WholeRule (now rule) ⌝ }
     requires { ⌜ j < sourceCount (now rule) ⌝ }
-    ensures { λ r. ⌜ r ≡ isConst (ruleOf (now (rule .entry))) j ⌝ }
+    ensures { λ r. ⌜ r ≡ isConst (fixedOf (now (rule .entry))) j ⌝ }
 {
     source_kind(rule, j) == KIND_CONST
 }

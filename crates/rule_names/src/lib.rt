@@ -1,7 +1,6 @@
 // Whether some target place names every rule input and every target vertex. A place holds a number below PLACE_NUMBERS, so what is
 // named is marked at its place number, once for all.
 use definitions::PLACE_NUMBERS;
-use definitions::TARGET_BASE;
 use rule_fields::is_rule_input;
 use rule_fields::output_count;
 use rule_fields::source_count;
@@ -9,11 +8,13 @@ use rule_fields::target_count;
 use rule_fields::target_input;
 use rule_fields::target_input_count;
 use rule_fields::target_output;
+use rule_fields::target_split;
 ghost use mathlib.Core.Path.{_≡_};
 ghost use Prim.Native.Nat.{_<_};
 ghost use lib.ListN.{length};
 ghost use Rattle.definitions.specs.Lists.{allBelow};
-ghost use Rattle.definitions.specs.Rule.{placeNumbers, sourceCount, targetCount, made, ruleOf, targetOf, named, allNamed};
+ghost use Rattle.definitions.specs.Rule.{placeNumbers, sourceCount, targetCount, made, targetOf, named, allNamed};
+ghost use Rattle.rule_fields.specs.Fixed.{splitIn, fixedOf};
 ghost use Rattle.rule_fields.specs.Layout.{WholeRule, ReadableRule};
 ghost use Rattle.rule_names.specs.Marks.{MarksAdded, NamesMarked, inputNamed};
 
@@ -22,7 +23,7 @@ fn mark_inputs(rule: &[u8], t: usize, used: &mut [bool; PLACE_NUMBERS])
     requires { ⌜ ReadableRule (now rule) ⌝ }
     requires { ⌜ t < targetCount (now rule) ⌝ }
     requires { ⌜ length (now used) ≡ placeNumbers ⌝ }
-    ensures { λ r. ⌜ MarksAdded (targetOf (ruleOf (now (rule .entry))) t .inputs) (now (used .entry)) (now (used .exit)) ⌝ }
+    ensures { λ r. ⌜ MarksAdded (splitIn (now (rule .entry))) (targetOf (fixedOf (now (rule .entry))) t .inputs) (now (used .entry)) (now (used .exit)) ⌝ }
 {
     let count = target_input_count(rule, t);
     let mut i = 0;
@@ -37,7 +38,7 @@ fn mark_inputs(rule: &[u8], t: usize, used: &mut [bool; PLACE_NUMBERS])
 fn mark_outputs(rule: &[u8], used: &mut [bool; PLACE_NUMBERS])
     requires { ⌜ WholeRule (now rule) ⌝ }
     requires { ⌜ length (now used) ≡ placeNumbers ⌝ }
-    ensures { λ r. ⌜ MarksAdded (ruleOf (now (rule .entry)) .targetOutputs) (now (used .entry)) (now (used .exit)) ⌝ }
+    ensures { λ r. ⌜ MarksAdded (splitIn (now (rule .entry))) (fixedOf (now (rule .entry)) .targetOutputs) (now (used .entry)) (now (used .exit)) ⌝ }
 {
     let outputs = output_count(rule);
     let mut i = 0;
@@ -69,7 +70,7 @@ fn input_named(rule: &[u8], j: usize, used: &[bool; PLACE_NUMBERS]) -> bool
     requires { ⌜ WholeRule (now rule) ⌝ }
     requires { ⌜ j < sourceCount (now rule) ⌝ }
     requires { ⌜ NamesMarked (now rule) (now used) ⌝ }
-    ensures { λ r. ⌜ r ≡ inputNamed (ruleOf (now (rule .entry))) j ⌝ }
+    ensures { λ r. ⌜ r ≡ inputNamed (fixedOf (now (rule .entry))) j ⌝ }
 {
     if is_rule_input(rule, j) {
         return used[j];
@@ -81,7 +82,7 @@ fn input_named(rule: &[u8], j: usize, used: &[bool; PLACE_NUMBERS]) -> bool
 fn inputs_named(rule: &[u8], used: &[bool; PLACE_NUMBERS]) -> bool
     requires { ⌜ WholeRule (now rule) ⌝ }
     requires { ⌜ NamesMarked (now rule) (now used) ⌝ }
-    ensures { λ r. ⌜ r ≡ allBelow (inputNamed (ruleOf (now (rule .entry)))) (length (ruleOf (now (rule .entry)) .source)) ⌝ }
+    ensures { λ r. ⌜ r ≡ allBelow (inputNamed (fixedOf (now (rule .entry)))) (length (fixedOf (now (rule .entry)) .source)) ⌝ }
 {
     let count = source_count(rule);
     let mut j = 0;
@@ -99,12 +100,13 @@ fn inputs_named(rule: &[u8], used: &[bool; PLACE_NUMBERS]) -> bool
 fn vertices_named(rule: &[u8], used: &[bool; PLACE_NUMBERS]) -> bool
     requires { ⌜ WholeRule (now rule) ⌝ }
     requires { ⌜ NamesMarked (now rule) (now used) ⌝ }
-    ensures { λ r. ⌜ r ≡ allBelow (λ t. named (ruleOf (now (rule .entry))) (made t)) (length (ruleOf (now (rule .entry)) .target)) ⌝ }
+    ensures { λ r. ⌜ r ≡ allBelow (λ t. named (fixedOf (now (rule .entry))) (made t)) (length (fixedOf (now (rule .entry)) .target)) ⌝ }
 {
+    let split = target_split(rule);
     let count = target_count(rule);
     let mut t = 0;
     while t < count {
-        if used[TARGET_BASE + t] {
+        if used[split + t] {
             t += 1;
         } else {
             return false;
@@ -116,7 +118,7 @@ fn vertices_named(rule: &[u8], used: &[bool; PLACE_NUMBERS]) -> bool
 // Whether every rule input and every target vertex is named by some target place.
 pub fn all_named(rule: &[u8]) -> bool
     requires { ⌜ ReadableRule (now rule) ⌝ }
-    ensures { λ r. ⌜ r ≡ allNamed (ruleOf (now (rule .entry))) ⌝ }
+    ensures { λ r. ⌜ r ≡ allNamed (fixedOf (now (rule .entry))) ⌝ }
 {
     let used = marked(rule);
     if inputs_named(rule, &used) {

@@ -13,10 +13,12 @@ use lib.ListN.{length, getD, length-append, List·getD-append}
 use lib.Seq.{ext-getD, getD-append-seam}
 use Rattle.definitions.specs.Lists.{tabulate, foldl, member, range}
 use Rattle.definitions.specs.Paths.{visit}
-use Rattle.definitions.specs.Rule.{sideLimit, Rule, SoundRule, ruleOf, sourceInputs, traversal}
+use Rattle.definitions.specs.Rule.{sideLimit, Rule, SoundRule, sourceInputs, traversal}
+use Rattle.rule_fields.specs.Fixed.{fixedOf}
 use Rattle.laws.proofs.Lists.{decided}
 use Rattle.laws.proofs.Ranges.{length-range, range-at, range-more}
-use Rattle.laws.proofs.Rule.{length-source, outputs-below}
+use Rattle.laws.proofs.Rule.{outputs-below}
+use Rattle.rule_fields.proofs.Fixed.{length-source}
 use Rattle.rule_order.specs.InOrder.{InOrder, visitedAfter}
 use Rattle.rule_order.proofs.Laws.{passed, entered}
 
@@ -179,18 +181,3 @@ module _ (r : Rule) (order : traversal r ≡ range 0 (length (r .source)))
       let made : List ℕ = foldl (visit (sourceInputs r) n) (range 0 0) (r .sourceOutputs) in
       sym (length-range (visitedAfter 0 (r .sourceOutputs)))
       ∙ ap length (sym counted ∙ sym (append-nil made) ∙ whole-order) ∙ length-range n
-
--- ---- the rule of a sound block
-
-module _ (block : List ℕ) (sound : SoundRule block) where
-  in-order : traversal (ruleOf block) ≡ range 0 (length (ruleOf block .source))
-  in-order = sound .order ∙ ap (range 0) (sym (length-source block))
-
-  outputs-inside : (u : ℕ) → List·Memᴰ u (ruleOf block .sourceOutputs) → u < length (ruleOf block .source)
-  outputs-inside u m = rw (length-source block) (outputs-below block sideLimit (sound .header) u m)
-
-  pub in-order-start : InOrder (ruleOf block) 0 (ruleOf block .sourceOutputs)
-  in-order-start = start-in-order (ruleOf block) in-order outputs-inside
-
-  pub in-order-whole : visitedAfter 0 (ruleOf block .sourceOutputs) ≡ length (ruleOf block .source)
-  in-order-whole = whole-in-order (ruleOf block) in-order outputs-inside

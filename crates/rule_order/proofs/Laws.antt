@@ -15,11 +15,12 @@ use lib.ListN.{length, getD, drop, drop-of-length-le, List·getD-append, List·g
 use lib.Seq.{getD-at, drop-cons}
 use Rattle.definitions.specs.Lists.{lowest, tabulate, foldl, member, range}
 use Rattle.definitions.specs.Paths.{visit}
-use Rattle.definitions.specs.Rule.{Rule, sourceCount, ruleOutputCount, ruleOf, sourceInputs, traversal, outOfOrder}
+use Rattle.definitions.specs.Rule.{Rule, sourceCount, ruleOutputCount, sourceInputs, traversal, outOfOrder}
+use Rattle.rule_fields.specs.Fixed.{fixedOf}
 use Rattle.laws.proofs.Lists.{decided, true-not-false, lowest-none, lowest-found}
 use Rattle.laws.proofs.Members.{mem-member, no-member, mem-range, range-mem}
 use Rattle.laws.proofs.Ranges.{length-range, range-at, range-more}
-use Rattle.laws.proofs.Rule.{length-source, length-source-outputs}
+use Rattle.rule_fields.proofs.Fixed.{length-source, length-source-outputs}
 use Rattle.rule_order.specs.Order.{DiffersAt, Counts, Visits, VisitsInputs}
 
 -- ---- 0, 1, .. n - 1
@@ -93,18 +94,18 @@ wrong-count f h = record { right = λ t. absurd (true-not-false t f); wrong = λ
 
 module _ (block : List ℕ) (v next : ℕ) (fits : next ≤ sourceCount block) where
   -- a depth above v is one more than another
-  above : {ok : Bool} {after : ℕ} → ((d : ℕ) → v ≤ d → Counts (visit (sourceInputs (ruleOf block)) (suc d) (range 0 next) v) ok after)
-      → (d : ℕ) → v < d → Counts (visit (sourceInputs (ruleOf block)) d (range 0 next) v) ok after
+  above : {ok : Bool} {after : ℕ} → ((d : ℕ) → v ≤ d → Counts (visit (sourceInputs (fixedOf block)) (suc d) (range 0 next) v) ok after)
+      → (d : ℕ) → v < d → Counts (visit (sourceInputs (fixedOf block)) d (range 0 next) v) ok after
   above h zero l = absurd (not-suc-le-zero l)
   above h (suc d) l = h d (le-of-suc-le-suc l)
 
   pub visited-before : v < next → Visits block v next true next
-  visited-before h = record { counts = above (λ d l. right-count (passed (ruleOf block) d next v h)); small = fits }
+  visited-before h = record { counts = above (λ d l. right-count (passed (fixedOf block) d next v h)); small = fits }
 
   module _ (fresh : next ≤ v) where
     pub inputs-wrong : {ok : Bool} {after : ℕ} → VisitsInputs block v 0 next ok after → ok ≡ false → Visits block v next ok after
     inputs-wrong i f = record {
-      counts = above (λ d l. wrong-count f (rw (entered (ruleOf block) d next v fresh)
+      counts = above (λ d l. wrong-count f (rw (entered (fixedOf block) d next v fresh)
           (differs-more (v ∷ []) (i .counts d l .wrong f))));
       small = i .small;
     }
@@ -116,7 +117,7 @@ module _ (block : List ℕ) (v next : ℕ) (fits : next ≤ sourceCount block) w
         other = v;
         later = [];
         apart = h;
-        visited = entered (ruleOf block) d next v fresh ∙ ap (λ (xs : List ℕ). xs ++ v ∷ []) (i .counts d l .right t);
+        visited = entered (fixedOf block) d next v fresh ∙ ap (λ (xs : List ℕ). xs ++ v ∷ []) (i .counts d l .right t);
       }));
       small = i .small;
     }
@@ -124,28 +125,28 @@ module _ (block : List ℕ) (v next : ℕ) (fits : next ≤ sourceCount block) w
     pub is-next : {ok : Bool} {after : ℕ} → VisitsInputs block v 0 next ok after → ok ≡ true → v ≡ after → v < sourceCount block
         → Visits block v next true (after + 1)
     is-next {after = after} i t e b = record {
-      counts = above (λ d l. right-count (entered (ruleOf block) d next v fresh ∙ rw (i .counts d l .right t, e, add-one) (sym (range-more after))));
+      counts = above (λ d l. right-count (entered (fixedOf block) d next v fresh ∙ rw (i .counts d l .right t, e, add-one) (sym (range-more after))));
       small = omega arith;
     }
 
 module _ (block : List ℕ) (v i next : ℕ) where
-  pub inputs-done : length (sourceInputs (ruleOf block) v) ≤ i → next ≤ sourceCount block → VisitsInputs block v i next true next
+  pub inputs-done : length (sourceInputs (fixedOf block) v) ≤ i → next ≤ sourceCount block → VisitsInputs block v i next true next
   inputs-done h b = record {
-    counts = λ d l. right-count (none-left (ruleOf block) d (sourceInputs (ruleOf block) v) i (range 0 next) h);
+    counts = λ d l. right-count (none-left (fixedOf block) d (sourceInputs (fixedOf block) v) i (range 0 next) h);
     small = b;
   }
 
-  module _ (u : ℕ) (h : i < length (sourceInputs (ruleOf block) v)) (e : u ≡ getD (sourceInputs (ruleOf block) v) i 255) (lower : u < v) where
+  module _ (u : ℕ) (h : i < length (sourceInputs (fixedOf block) v)) (e : u ≡ getD (sourceInputs (fixedOf block) v) i 255) (lower : u < v) where
     pub input-wrong : {ok : Bool} {after : ℕ} → Visits block u next ok after → ok ≡ false → VisitsInputs block v i next ok after
     input-wrong one f = record {
-      counts = λ d l. wrong-count f (one-wrong (ruleOf block) d (sourceInputs (ruleOf block) v) i next u h e (one .counts d (omega arith) .wrong f));
+      counts = λ d l. wrong-count f (one-wrong (fixedOf block) d (sourceInputs (fixedOf block) v) i next u h e (one .counts d (omega arith) .wrong f));
       small = one .small;
     }
 
     pub input-passed : {passed ok : Bool} {mid after : ℕ} → Visits block u next passed mid → passed ≡ true
         → VisitsInputs block v (i + 1) mid ok after → VisitsInputs block v i next ok after
     input-passed one t rest = record {
-      counts = λ d l. rw (one-first (ruleOf block) d (sourceInputs (ruleOf block) v) i (range 0 next) u h e, one .counts d (omega arith) .right t)
+      counts = λ d l. rw (one-first (fixedOf block) d (sourceInputs (fixedOf block) v) i (range 0 next) u h e, one .counts d (omega arith) .right t)
           (rest .counts d l);
       small = rest .small;
     }
@@ -197,35 +198,35 @@ module _ (r : Rule) (j : ℕ) (small : j ≤ length (r .source)) where
 -- where i outputs are visited and no vertex is out of order, the other outputs complete the traversal
 abbrev pub Continues : List ℕ → ℕ → ℕ → Type 0
 Continues block i next =
-    foldl (visit (sourceInputs (ruleOf block)) (sourceCount block)) (range 0 next) (drop i (ruleOf block .sourceOutputs)) ≡ traversal (ruleOf block)
+    foldl (visit (sourceInputs (fixedOf block)) (sourceCount block)) (range 0 next) (drop i (fixedOf block .sourceOutputs)) ≡ traversal (fixedOf block)
 
 pub outputs-begin : (block : List ℕ) → Continues block 0 0
 unfolding traversal range tabulate
 outputs-begin block = rw (length-source block)
 
 pub outputs-done : (block : List ℕ) (i next : ℕ) → Continues block i next → ruleOutputCount block ≤ i → next ≤ sourceCount block
-    → next ≡ lowest (outOfOrder (ruleOf block)) (sourceCount block)
+    → next ≡ lowest (outOfOrder (fixedOf block)) (sourceCount block)
 outputs-done block i next more h small =
-    let all : length (ruleOf block .sourceOutputs) ≤ i = rw (length-source-outputs block) h in
-    let counted : traversal (ruleOf block) ≡ range 0 next =
-    sym more ∙ none-left (ruleOf block) (sourceCount block) (ruleOf block .sourceOutputs) i (range 0 next) all in
-    rw (length-source block) at (ended (ruleOf block) next (rw (length-source block) small) counted)
+    let all : length (fixedOf block .sourceOutputs) ≤ i = rw (length-source-outputs block) h in
+    let counted : traversal (fixedOf block) ≡ range 0 next =
+    sym more ∙ none-left (fixedOf block) (sourceCount block) (fixedOf block .sourceOutputs) i (range 0 next) all in
+    rw (length-source block) at (ended (fixedOf block) next (rw (length-source block) small) counted)
 
 module _ (block : List ℕ) (i next u : ℕ) (more : Continues block i next) (h : i < ruleOutputCount block)
-    (e : u ≡ getD (ruleOf block .sourceOutputs) i 255) (inside : u < sourceCount block) where
-  within : i < length (ruleOf block .sourceOutputs)
+    (e : u ≡ getD (fixedOf block .sourceOutputs) i 255) (inside : u < sourceCount block) where
+  within : i < length (fixedOf block .sourceOutputs)
   within = rw (length-source-outputs block) h
 
   pub output-wrong : {ok : Bool} {after : ℕ} → Visits block u next ok after → ok ≡ false
-      → after ≡ lowest (outOfOrder (ruleOf block)) (sourceCount block)
+      → after ≡ lowest (outOfOrder (fixedOf block)) (sourceCount block)
   output-wrong {after = after} one f =
-      let differs : DiffersAt (traversal (ruleOf block)) after = rw (← more) (one-wrong (ruleOf block) (sourceCount block)
-      (ruleOf block .sourceOutputs) i next u within e (one .counts (sourceCount block) inside .wrong f)) in
-      rw (length-source block) at (misplaced (ruleOf block) after (rw (length-source block) (one .small)) differs)
+      let differs : DiffersAt (traversal (fixedOf block)) after = rw (← more) (one-wrong (fixedOf block) (sourceCount block)
+      (fixedOf block .sourceOutputs) i next u within e (one .counts (sourceCount block) inside .wrong f)) in
+      rw (length-source block) at (misplaced (fixedOf block) after (rw (length-source block) (one .small)) differs)
 
   pub output-passed : {ok : Bool} {after : ℕ} → Visits block u next ok after → ok ≡ true → Continues block (i + 1) after
   output-passed one t =
       rw (
         ← one .counts (sourceCount block) inside .right t,
-        ← one-first (ruleOf block) (sourceCount block) (ruleOf block .sourceOutputs) i (range 0 next) u within e,
+        ← one-first (fixedOf block) (sourceCount block) (fixedOf block .sourceOutputs) i (range 0 next) u within e,
       ) more

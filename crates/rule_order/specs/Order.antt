@@ -7,7 +7,8 @@ use Prim.Native.Nat.{ℕ, _<_, _≤_}
 use lib.ListN.{drop}
 use Rattle.definitions.specs.Lists.{foldl, range}
 use Rattle.definitions.specs.Paths.{visit}
-use Rattle.definitions.specs.Rule.{sourceCount, ruleOf, sourceInputs}
+use Rattle.definitions.specs.Rule.{sourceCount, sourceInputs}
+use Rattle.rule_fields.specs.Fixed.{fixedOf}
 use Rattle.rule_fields.specs.Layout.{LayeredRule}
 
 -- v is a source vertex, its inputs and theirs are lower, and no more vertices are visited than there are.
@@ -30,10 +31,10 @@ pub record Counts (done : List ℕ) (ok : Bool) (next : ℕ) : Type 0 where
 
 -- The depth d is the definition's; above v, it is enough, whatever it is.
 pub record Visits (block : List ℕ) (v next : ℕ) (ok : Bool) (after : ℕ) : Type 0 where
-  pub counts : (d : ℕ) → v < d → Counts (visit (sourceInputs (ruleOf block)) d (range 0 next) v) ok after
+  pub counts : (d : ℕ) → v < d → Counts (visit (sourceInputs (fixedOf block)) d (range 0 next) v) ok after
   pub small : after ≤ sourceCount block
 
 -- the same of the inputs of v from place i on
 pub record VisitsInputs (block : List ℕ) (v i next : ℕ) (ok : Bool) (after : ℕ) : Type 0 where
-  pub counts : (d : ℕ) → v ≤ d → Counts (foldl (visit (sourceInputs (ruleOf block)) d) (range 0 next) (drop i (sourceInputs (ruleOf block) v))) ok after
+  pub counts : (d : ℕ) → v ≤ d → Counts (foldl (visit (sourceInputs (fixedOf block)) d) (range 0 next) (drop i (sourceInputs (fixedOf block) v))) ok after
   pub small : after ≤ sourceCount block

@@ -9,7 +9,8 @@ ghost use mathlib.Core.Path.{_≡_};
 ghost use Prim.Native.Nat.{_≤_};
 ghost use lib.ListN.{length};
 ghost use Rattle.definitions.specs.Lists.{lowest};
-ghost use Rattle.definitions.specs.Rule.{sourceCount, ruleOf, sourceInputs, outOfOrder};
+ghost use Rattle.definitions.specs.Rule.{sourceCount, sourceInputs, outOfOrder};
+ghost use Rattle.rule_fields.specs.Fixed.{fixedOf};
 ghost use Rattle.rule_fields.specs.Layout.{LayeredRule};
 ghost use Rattle.rule_order.specs.Order.{MayVisit, Visits, VisitsInputs};
 
@@ -48,7 +49,7 @@ fn visit(rule: &[u8], v: usize, next: usize) -> Visited
 // Visits the inputs of v from place i on.
 fn visit_inputs(rule: &[u8], v: usize, i: usize, next: usize) -> Visited
     requires { ⌜ MayVisit (now rule) v next ⌝ }
-    requires { ⌜ i ≤ length (sourceInputs (ruleOf (now rule)) v) ⌝ }
+    requires { ⌜ i ≤ length (sourceInputs (fixedOf (now rule)) v) ⌝ }
     ensures { λ r. ⌜ VisitsInputs (now (rule .entry)) v i next (r .ok) (r .next) ⌝ }
 {
     if i == source_input_count(rule, v) {
@@ -65,7 +66,7 @@ fn visit_inputs(rule: &[u8], v: usize, i: usize, next: usize) -> Visited
 // source vertices.
 pub fn first_misplaced(rule: &[u8]) -> usize
     requires { ⌜ LayeredRule (now rule) ⌝ }
-    ensures { λ r. ⌜ r ≡ lowest (outOfOrder (ruleOf (now (rule .entry)))) (sourceCount (now (rule .entry))) ⌝ }
+    ensures { λ r. ⌜ r ≡ lowest (outOfOrder (fixedOf (now (rule .entry)))) (sourceCount (now (rule .entry))) ⌝ }
 {
     let outputs = output_count(rule);
     let mut next = 0;

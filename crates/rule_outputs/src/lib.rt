@@ -17,7 +17,8 @@ ghost use mathlib.Core.Path.{_≡_};
 ghost use Prim.Native.Nat.{_+_, _<_};
 ghost use lib.ListN.{length, getD, drop};
 ghost use Rattle.definitions.specs.Lists.{all, member, distinct};
-ghost use Rattle.definitions.specs.Rule.{sourceCount, ruleOutputCount, ruleOf, sourceInputs, originFits, sourceOutputsFit, outputsFit};
+ghost use Rattle.definitions.specs.Rule.{sourceCount, ruleOutputCount, sourceInputs, originFits, sourceOutputsFit, outputsFit};
+ghost use Rattle.rule_fields.specs.Fixed.{fixedOf};
 ghost use Rattle.rule_fields.specs.Layout.{WholeRule, ReadableRule, LayeredRule};
 ghost use Rattle.rule_outputs.specs.Outputs.{isRead, mayBeOutput};
 
@@ -27,7 +28,7 @@ ghost use Rattle.rule_outputs.specs.Outputs.{isRead, mayBeOutput};
 fn source_reads(rule: &[u8], j: usize, o: usize) -> bool
     requires { ⌜ ReadableRule (now rule) ⌝ }
     requires { ⌜ j < sourceCount (now rule) ⌝ }
-    ensures { λ r. ⌜ r ≡ member o (sourceInputs (ruleOf (now (rule .entry))) j) ⌝ }
+    ensures { λ r. ⌜ r ≡ member o (sourceInputs (fixedOf (now (rule .entry))) j) ⌝ }
 {
     let count = source_input_count(rule, j);
     let mut i = 0;
@@ -43,7 +44,7 @@ fn source_reads(rule: &[u8], j: usize, o: usize) -> bool
 // Whether some source vertex reads o.
 fn is_read(rule: &[u8], o: usize) -> bool
     requires { ⌜ ReadableRule (now rule) ⌝ }
-    ensures { λ r. ⌜ r ≡ isRead (ruleOf (now (rule .entry))) o ⌝ }
+    ensures { λ r. ⌜ r ≡ isRead (fixedOf (now (rule .entry))) o ⌝ }
 {
     let count = source_count(rule);
     let mut j = 0;
@@ -60,7 +61,7 @@ fn is_read(rule: &[u8], o: usize) -> bool
 fn may_be_output(rule: &[u8], o: usize) -> bool
     requires { ⌜ ReadableRule (now rule) ⌝ }
     requires { ⌜ o < sourceCount (now rule) ⌝ }
-    ensures { λ r. ⌜ r ≡ mayBeOutput (ruleOf (now (rule .entry))) o ⌝ }
+    ensures { λ r. ⌜ r ≡ mayBeOutput (fixedOf (now (rule .entry))) o ⌝ }
 {
     let kind = source_kind(rule, o);
     if kind < KIND_CALL {
@@ -78,7 +79,7 @@ fn may_be_output(rule: &[u8], o: usize) -> bool
 // Whether every source output may be one.
 fn may_all_be_outputs(rule: &[u8]) -> bool
     requires { ⌜ LayeredRule (now rule) ⌝ }
-    ensures { λ r. ⌜ r ≡ all (mayBeOutput (ruleOf (now (rule .entry)))) (ruleOf (now (rule .entry)) .sourceOutputs) ⌝ }
+    ensures { λ r. ⌜ r ≡ all (mayBeOutput (fixedOf (now (rule .entry)))) (fixedOf (now (rule .entry)) .sourceOutputs) ⌝ }
 {
     let count = output_count(rule);
     let mut i = 0;
@@ -97,8 +98,8 @@ fn may_all_be_outputs(rule: &[u8]) -> bool
 fn comes_again(rule: &[u8], i: usize) -> bool
     requires { ⌜ WholeRule (now rule) ⌝ }
     requires { ⌜ i < ruleOutputCount (now rule) ⌝ }
-    ensures { λ r. ⌜ r ≡ member (getD (ruleOf (now (rule .entry)) .sourceOutputs) i 255)
-        (drop (i + 1) (ruleOf (now (rule .entry)) .sourceOutputs)) ⌝ }
+    ensures { λ r. ⌜ r ≡ member (getD (fixedOf (now (rule .entry)) .sourceOutputs) i 255)
+        (drop (i + 1) (fixedOf (now (rule .entry)) .sourceOutputs)) ⌝ }
 {
     let count = output_count(rule);
     let o = source_output(rule, i);
@@ -115,7 +116,7 @@ fn comes_again(rule: &[u8], i: usize) -> bool
 // Whether no source vertex is an output twice.
 fn are_distinct(rule: &[u8]) -> bool
     requires { ⌜ WholeRule (now rule) ⌝ }
-    ensures { λ r. ⌜ r ≡ distinct (ruleOf (now (rule .entry)) .sourceOutputs) ⌝ }
+    ensures { λ r. ⌜ r ≡ distinct (fixedOf (now (rule .entry)) .sourceOutputs) ⌝ }
 {
     let count = output_count(rule);
     let mut i = 0;
@@ -131,7 +132,7 @@ fn are_distinct(rule: &[u8]) -> bool
 // Whether the source outputs are distinct, and each may be one.
 fn source_outputs_fit(rule: &[u8]) -> bool
     requires { ⌜ LayeredRule (now rule) ⌝ }
-    ensures { λ r. ⌜ r ≡ sourceOutputsFit (ruleOf (now (rule .entry))) ⌝ }
+    ensures { λ r. ⌜ r ≡ sourceOutputsFit (fixedOf (now (rule .entry))) ⌝ }
 {
     if are_distinct(rule) {
         return may_all_be_outputs(rule);
@@ -144,8 +145,8 @@ fn source_outputs_fit(rule: &[u8]) -> bool
 // Whether each target output names a rule input or a target vertex.
 fn target_outputs_fit(rule: &[u8]) -> bool
     requires { ⌜ WholeRule (now rule) ⌝ }
-    ensures { λ r. ⌜ r ≡ all (originFits (ruleOf (now (rule .entry))) (length (ruleOf (now (rule .entry)) .target)))
-        (ruleOf (now (rule .entry)) .targetOutputs) ⌝ }
+    ensures { λ r. ⌜ r ≡ all (originFits (fixedOf (now (rule .entry))) (length (fixedOf (now (rule .entry)) .target)))
+        (fixedOf (now (rule .entry)) .targetOutputs) ⌝ }
 {
     let vertices = target_count(rule);
     let count = output_count(rule);
@@ -167,7 +168,7 @@ fn target_outputs_fit(rule: &[u8]) -> bool
 // vertex is named.
 pub fn outputs_fit(rule: &[u8]) -> bool
     requires { ⌜ LayeredRule (now rule) ⌝ }
-    ensures { λ r. ⌜ r ≡ outputsFit (ruleOf (now (rule .entry))) ⌝ }
+    ensures { λ r. ⌜ r ≡ outputsFit (fixedOf (now (rule .entry))) ⌝ }
 {
     if source_outputs_fit(rule) {
         if is_connected(rule) {

@@ -3,12 +3,12 @@ use definitions::KIND_EMPTY;
 use definitions::KIND_VARIABLE;
 use definitions::PATTERN_BYTES;
 use definitions::RULE_HEADER_BYTES;
-use definitions::TARGET_BASE;
 use fields::byte_at;
 use operators::shape_fits;
 use rule_fields::is_rule_input;
 use rule_fields::source_count;
 use rule_fields::target_count;
+use rule_fields::target_split;
 use runs::is_filled;
 ghost use mathlib.Core.Path.{_≡_};
 ghost use mathlib.Core.Bool.{not};
@@ -17,7 +17,8 @@ ghost use lib.ListN.{length};
 ghost use Rattle.definitions.specs.Lists.{lowest};
 ghost use Rattle.definitions.specs.Fields.{byteAt};
 ghost use Rattle.definitions.specs.Graph.{inputLimit};
-ghost use Rattle.definitions.specs.Rule.{patternBytes, sourceCount, targetCount, vertexAt, originOf, ruleOf, patternFits, originFits, sourceInputsFit, targetInputsFit, badVertex};
+ghost use Rattle.definitions.specs.Rule.{patternBytes, sourceCount, targetCount, vertexAt, patternFits, originFits, sourceInputsFit, targetInputsFit, badVertexOf};
+ghost use Rattle.rule_fields.specs.Fixed.{originIn, fixedOf};
 ghost use Rattle.rule_fields.specs.Layout.{WholeRule};
 
 // Whether the record at `at` follows the tables, and its unused places hold 255.
@@ -43,7 +44,7 @@ fn source_inputs_fit(rule: &[u8], j: usize) -> bool
     requires { ⌜ WholeRule (now rule) ⌝ }
     requires { ⌜ j < sourceCount (now rule) ⌝ }
     requires { ⌜ byteAt (now rule) (vertexAt j + 2) ≤ inputLimit ⌝ }
-    ensures { λ r. ⌜ r ≡ sourceInputsFit (ruleOf (now (rule .entry))) j ⌝ }
+    ensures { λ r. ⌜ r ≡ sourceInputsFit (fixedOf (now (rule .entry))) j ⌝ }
 {
     let at = RULE_HEADER_BYTES + PATTERN_BYTES * j;
     let inputs = byte_at(rule, at + 2);
@@ -60,12 +61,13 @@ fn source_inputs_fit(rule: &[u8], j: usize) -> bool
 // Whether the place number p of the target names a rule input, or a target vertex below t.
 pub fn origin_fits(rule: &[u8], t: usize, p: usize) -> bool
     requires { ⌜ WholeRule (now rule) ⌝ }
-    ensures { λ r. ⌜ r ≡ originFits (ruleOf (now (rule .entry))) t (originOf p) ⌝ }
+    ensures { λ r. ⌜ r ≡ originFits (fixedOf (now (rule .entry))) t (originIn (now (rule .entry)) p) ⌝ }
 {
-    if p < TARGET_BASE {
+    let split = target_split(rule);
+    if p < split {
         return is_rule_input(rule, p);
     }
-    p - TARGET_BASE < t
+    p - split < t
 }
 
 // Whether target vertex t is of a target's kind, and its inputs name rule inputs and earlier target
@@ -74,7 +76,7 @@ fn target_inputs_fit(rule: &[u8], t: usize) -> bool
     requires { ⌜ WholeRule (now rule) ⌝ }
     requires { ⌜ t < targetCount (now rule) ⌝ }
     requires { ⌜ byteAt (now rule) (vertexAt (sourceCount (now rule) + t) + 2) ≤ inputLimit ⌝ }
-    ensures { λ r. ⌜ r ≡ targetInputsFit (ruleOf (now (rule .entry))) t ⌝ }
+    ensures { λ r. ⌜ r ≡ targetInputsFit (fixedOf (now (rule .entry))) t ⌝ }
 {
     let v = source_count(rule) + t;
     let at = RULE_HEADER_BYTES + PATTERN_BYTES * v;
@@ -100,7 +102,7 @@ fn target_inputs_fit(rule: &[u8], t: usize) -> bool
 fn vertex_fits(rule: &[u8], v: usize) -> bool
     requires { ⌜ WholeRule (now rule) ⌝ }
     requires { ⌜ v < sourceCount (now rule) + targetCount (now rule) ⌝ }
-    ensures { λ r. ⌜ r ≡ not (badVertex (now (rule .entry)) v) ⌝ }
+    ensures { λ r. ⌜ r ≡ not (badVertexOf (fixedOf (now (rule .entry))) (now (rule .entry)) v) ⌝ }
 {
     if !pattern_fits(rule, RULE_HEADER_BYTES + PATTERN_BYTES * v) {
         return false;
@@ -115,7 +117,7 @@ fn vertex_fits(rule: &[u8], v: usize) -> bool
 // The lowest vertex with a bad record or a bad input place, or the number of vertices.
 pub fn bad_vertex(rule: &[u8]) -> usize
     requires { ⌜ WholeRule (now rule) ⌝ }
-    ensures { λ r. ⌜ r ≡ lowest (badVertex (now (rule .entry))) (sourceCount (now (rule .entry)) + targetCount (now (rule .entry))) ⌝ }
+    ensures { λ r. ⌜ r ≡ lowest (badVertexOf (fixedOf (now (rule .entry))) (now (rule .entry))) (sourceCount (now (rule .entry)) + targetCount (now (rule .entry))) ⌝ }
 {
     let vertices = source_count(rule) + target_count(rule);
     let mut v = 0;

@@ -9,27 +9,28 @@ use native.Mathlib.Omega.{arith}
 use borrow.Author.Tests.{ltb-true, ltb-false, lt-ltb, le-ltb}
 use lib.Dec.{ltb}
 use lib.ListN.{set}
-use Rattle.definitions.specs.Rule.{Rule, ruleOf, sourceCount, sourceInputs}
+use Rattle.definitions.specs.Rule.{Rule, sourceCount, sourceInputs}
 use Rattle.definitions.specs.Match.{mustBePrivate, placesOf}
+use Rattle.rule_fields.specs.Fixed.{fixedOf}
 use Rattle.laws.specs.Counted.{Counted}
 use Rattle.laws.proofs.Lists.{decided}
-use Rattle.laws.proofs.Rule.{length-source, source-count-at}
+use Rattle.rule_fields.proofs.Fixed.{length-source, source-count-at}
 use Rattle.laws.proofs.Counts.{counted-put, reads-most}
 use Rattle.rule_fields.specs.Layout.{ReadableRule}
 use Rattle.rule_uses.specs.Countable.{placesBelow}
 use Rattle.rule_uses.specs.Demands.{demandOf}
 
 -- the source vertices below the last one are all
-pub places-all : (block : List ℕ) (w j : ℕ) → w ≡ sourceCount block → placesBelow (ruleOf block) w j ≡ placesOf (ruleOf block) j
+pub places-all : (block : List ℕ) (w j : ℕ) → w ≡ sourceCount block → placesBelow (fixedOf block) w j ≡ placesOf (fixedOf block) j
 unfolding placesOf
-places-all block w j e = ap (λ (n : ℕ). placesBelow (ruleOf block) n j) (e ∙ sym (length-source block))
+places-all block w j e = ap (λ (n : ℕ). placesBelow (fixedOf block) n j) (e ∙ sym (length-source block))
 
 module _ {block : List ℕ} (readable : ReadableRule block) where
-  pub places-below-most : (w j : ℕ) → w ≤ sourceCount block → placesBelow (ruleOf block) w j ≤ 6 * w
-  places-below-most w j h = reads-most (sourceInputs (ruleOf block)) w j
+  pub places-below-most : (w j : ℕ) → w ≤ sourceCount block → placesBelow (fixedOf block) w j ≤ 6 * w
+  places-below-most w j h = reads-most (sourceInputs (fixedOf block)) w j
       (λ u l. omega (arith, source-count-at block u (omega arith), readable .inputs u (omega arith)))
 
-  pub places-most : (j : ℕ) → placesOf (ruleOf block) j ≤ 6 * sourceCount block
+  pub places-most : (j : ℕ) → placesOf (fixedOf block) j ≤ 6 * sourceCount block
   places-most j = omega (
     arith,
     places-all block (sourceCount block) j refl,

@@ -3,7 +3,8 @@
 use mathlib.Core.List.{List}
 use Prim.Native.Nat.{ℕ, _<_}
 use Rattle.definitions.specs.Lists.{total, count}
-use Rattle.definitions.specs.Rule.{sideCapacity, sourceCount, Rule, ruleOf, sourceInputs}
+use Rattle.definitions.specs.Rule.{sideCapacity, sourceCount, Rule, sourceInputs}
+use Rattle.rule_fields.specs.Fixed.{fixedOf}
 use Rattle.laws.specs.Counted.{Counted}
 use Rattle.rule_fields.specs.Layout.{ReadableRule, Layered}
 
@@ -21,4 +22,4 @@ pub record InputsNext (block : List ℕ) (w : ℕ) (places : List ℕ) : Type 0 
   pub readable : ReadableRule block
   pub layered : Layered block
   pub vertex : w < sourceCount block
-  pub counted : Counted sideCapacity (placesBelow (ruleOf block) w) places
+  pub counted : Counted sideCapacity (placesBelow (fixedOf block) w) places

@@ -11,8 +11,9 @@ ghost use mathlib.Core.Path.{_≡_};
 ghost use Prim.Native.Nat.{ℕ, _+_, _<_};
 ghost use lib.ListN.{length, getD};
 ghost use Rattle.definitions.specs.Lists.{member};
-ghost use Rattle.definitions.specs.Rule.{sideCapacity, sourceCount, ruleOf};
+ghost use Rattle.definitions.specs.Rule.{sideCapacity, sourceCount};
 ghost use Rattle.definitions.specs.Match.{mustBePrivate, placesOf};
+ghost use Rattle.rule_fields.specs.Fixed.{fixedOf};
 ghost use Rattle.laws.specs.Counted.{Counted};
 ghost use Rattle.rule_fields.specs.Layout.{WholeRule};
 ghost use Rattle.rule_uses.specs.Countable.{placesBelow, CountableRule, InputsNext};
@@ -21,7 +22,7 @@ ghost use Rattle.rule_uses.specs.Demands.{demandOf};
 // Whether source vertex j is an output.
 fn is_source_output(rule: &[u8], j: usize) -> bool
     requires { ⌜ WholeRule (now rule) ⌝ }
-    ensures { λ r. ⌜ r ≡ member j (ruleOf (now (rule .entry)) .sourceOutputs) ⌝ }
+    ensures { λ r. ⌜ r ≡ member j (fixedOf (now (rule .entry)) .sourceOutputs) ⌝ }
 {
     let outputs = rule_fields::output_count(rule);
     let mut i = 0;
@@ -38,7 +39,7 @@ fn is_source_output(rule: &[u8], j: usize) -> bool
 fn must_be_private(rule: &[u8], j: usize) -> bool
     requires { ⌜ WholeRule (now rule) ⌝ }
     requires { ⌜ j < sourceCount (now rule) ⌝ }
-    ensures { λ r. ⌜ r ≡ mustBePrivate (ruleOf (now (rule .entry))) j ⌝ }
+    ensures { λ r. ⌜ r ≡ mustBePrivate (fixedOf (now (rule .entry))) j ⌝ }
 {
     if is_rule_input(rule, j) {
         return false;
@@ -55,7 +56,7 @@ fn must_be_private(rule: &[u8], j: usize) -> bool
 // Counts the input places of source vertex w, after those of the vertices below it.
 fn add_source_inputs(rule: &[u8], w: usize, places: &mut [u16; SIDE_CAPACITY])
     requires { ⌜ InputsNext (now rule) w (now places) ⌝ }
-    ensures { λ r. ⌜ Counted sideCapacity (placesBelow (ruleOf (now (rule .entry))) (w + 1)) (now (places .exit)) ⌝ }
+    ensures { λ r. ⌜ Counted sideCapacity (placesBelow (fixedOf (now (rule .entry))) (w + 1)) (now (places .exit)) ⌝ }
 {
     let inputs = source_input_count(rule, w);
     let mut i = 0;
@@ -69,7 +70,7 @@ fn add_source_inputs(rule: &[u8], w: usize, places: &mut [u16; SIDE_CAPACITY])
 // How often input places of source vertices name each source vertex.
 pub fn count_places(rule: &[u8]) -> [u16; SIDE_CAPACITY]
     requires { ⌜ CountableRule (now rule) ⌝ }
-    ensures { λ r. ⌜ Counted sideCapacity (placesOf (ruleOf (now (rule .entry)))) r ⌝ }
+    ensures { λ r. ⌜ Counted sideCapacity (placesOf (fixedOf (now (rule .entry)))) r ⌝ }
 {
     let vertices = source_count(rule);
     let mut places = [0u16; SIDE_CAPACITY];
@@ -85,7 +86,7 @@ pub fn count_places(rule: &[u8]) -> [u16; SIDE_CAPACITY]
 pub fn count_demands(rule: &[u8]) -> [u16; SIDE_CAPACITY]
     requires { ⌜ CountableRule (now rule) ⌝ }
     ensures { λ r. ⌜ (length r ≡ sideCapacity)
-        × ((j : ℕ) → j < sourceCount (now (rule .entry)) → getD r j 0 ≡ demandOf (ruleOf (now (rule .entry))) j) ⌝ }
+        × ((j : ℕ) → j < sourceCount (now (rule .entry)) → getD r j 0 ≡ demandOf (fixedOf (now (rule .entry))) j) ⌝ }
 {
     let vertices = source_count(rule);
     let mut demands = count_places(rule);

@@ -11,15 +11,17 @@ use rule_fields::output_count;
 use rule_fields::source_output;
 use rule_uses::count_demands;
 ghost use Rattle.definitions.specs.Graph.{graphOf, SoundGraph};
-ghost use Rattle.definitions.specs.Rule.{sourceCount, ruleOf, SoundRule};
+ghost use Rattle.definitions.specs.Rule.{sourceCount};
 ghost use Rattle.definitions.specs.Match.{leastMatch};
+ghost use Rattle.rule_fields.specs.Fixed.{fixedOf};
+ghost use Rattle.rule_nodes.specs.Working.{WorkingRule};
 ghost use Rattle.match_outputs.specs.Finds.{Finds};
 
 // Counts what every step asks for, and searches. A rule has one output or two.
 fn search(graph: &[u8], rule: &[u8], start: usize) -> Found
     requires { ⌜ SoundGraph (now graph) ⌝ }
-    requires { ⌜ SoundRule (now rule) ⌝ }
-    ensures { λ r. ⌜ Finds (leastMatch (graphOf (now (graph .entry))) (ruleOf (now (rule .entry))) start)
+    requires { ⌜ WorkingRule (now rule) ⌝ }
+    ensures { λ r. ⌜ Finds (leastMatch (graphOf (now (graph .entry))) (fixedOf (now (rule .entry))) start)
         (sourceCount (now (rule .entry))) (r .ok) (r .images) ⌝ }
 {
     let demands = count_demands(rule);
@@ -34,8 +36,8 @@ fn search(graph: &[u8], rule: &[u8], start: usize) -> Found
 // The least match whose first output's image is at least `start`.
 pub fn least_match(graph: &[u8], rule: &[u8], start: usize) -> Found
     requires { ⌜ SoundGraph (now graph) ⌝ }
-    requires { ⌜ SoundRule (now rule) ⌝ }
-    ensures { λ r. ⌜ Finds (leastMatch (graphOf (now (graph .entry))) (ruleOf (now (rule .entry))) start)
+    requires { ⌜ WorkingRule (now rule) ⌝ }
+    ensures { λ r. ⌜ Finds (leastMatch (graphOf (now (graph .entry))) (fixedOf (now (rule .entry))) start)
         (sourceCount (now (rule .entry))) (r .ok) (r .images) ⌝ }
 {
     let root = source_output(rule, 0);

@@ -10,8 +10,9 @@ use rule_fields::target_kind;
 ghost use mathlib.Core.Path.{_≡_};
 ghost use Prim.Native.Nat.{_<_};
 ghost use Rattle.definitions.specs.Graph.{graphOf};
-ghost use Rattle.definitions.specs.Rule.{targetCount, ruleOf, targetOf};
+ghost use Rattle.definitions.specs.Rule.{targetCount, targetOf};
 ghost use Rattle.definitions.specs.Match.{readAttribute};
+ghost use Rattle.rule_fields.specs.Fixed.{fixedOf};
 ghost use Rattle.attributes.specs.Evaluation.{Evaluation};
 ghost use Rattle.target_attributes.specs.Fitness.{targetFitness, Told};
 
@@ -38,7 +39,7 @@ pub fn vertex_words(graph: &[u8], rule: &[u8], images: &[u16; SIDE_CAPACITY], t:
     requires { ⌜ Evaluation (now graph) (now rule) (now images) ⌝ }
     requires { ⌜ t < targetCount (now rule) ⌝ }
     ensures { λ r. ⌜ Told (readAttribute (graphOf (now (graph .entry))) (now (images .entry)))
-        (targetOf (ruleOf (now (rule .entry))) t) r ⌝ }
+        (targetOf (fixedOf (now (rule .entry))) t) r ⌝ }
 {
     let kind = target_kind(rule, t);
     let count = target_attribute_count(rule, t);
@@ -65,7 +66,7 @@ pub fn vertex_words(graph: &[u8], rule: &[u8], images: &[u16; SIDE_CAPACITY], t:
 pub fn all_fit(graph: &[u8], rule: &[u8], images: &[u16; SIDE_CAPACITY]) -> Fitness
     requires { ⌜ Evaluation (now graph) (now rule) (now images) ⌝ }
     ensures { λ r. ⌜ r ≡ targetFitness (readAttribute (graphOf (now (graph .entry))) (now (images .entry)))
-        (ruleOf (now (rule .entry))) ⌝ }
+        (fixedOf (now (rule .entry))) ⌝ }
 {
     let count = target_count(rule);
     let mut t = 0;

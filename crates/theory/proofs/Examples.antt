@@ -7,7 +7,7 @@ use Rattle.definitions.specs.Operators.{operators, countsOf, kinds, rowOf, shap
 use Rattle.definitions.specs.Reply.{answered, refusalAt, flag, place, judged, firstRefusal, whereDone}
 use Rattle.definitions.specs.Paths.{grown, grownBy, reaching, onCycle, visit}
 use Rattle.definitions.specs.Graph.{emptySlot, renamed, slotFrom, graphOf, slotOf, isVertex, readsOf, trueCount, countTail, slotBlock, headerBlock, blockAs, outputPlacesFit, headerFits, atLeastOne, zerosOffset, recordFits, badRecord, badInputs, badOutput, lowestOnCycle, hasCycle, badCount, nameFaults, cycleFaults, faultsAs, countFaults, replyAs, graphReply}
-use Rattle.definitions.specs.Rule.{originOf, operations, nodeFrom, expressions, expressionOf, patternFrom, ruleOf, wildcard, sourceOf, targetOf, inputKind, isRuleInput, ruleSizesFit, ruleOutputPlacesFit, ruleHeaderFits, patternFits, originFits, sourceInputsFit, targetInputsFit, badVertex, traversal, outOfOrder, reached, reaches, sourceOutputsFit, connected, sameOrigin, named, allNamed, outputsFit, operandFits, nodeFits, badNode, accessesBelow, useFits, badUse, ruleFaults, ruleReply, sourceInputs}
+use Rattle.definitions.specs.Rule.{originOf, operations, nodeFrom, expressions, expressionOf, patternFrom, ruleBy, ruleOf, wildcard, sourceOf, targetOf, inputKind, isRuleInput, ruleSizesFit, ruleOutputPlacesFit, ruleHeaderFits, patternFits, originFits, sourceInputsFit, targetInputsFit, badVertex, traversal, outOfOrder, reached, reaches, sourceOutputsFit, connected, sameOrigin, named, allNamed, outputsFit, operandFits, nodeFits, badNode, accessesBelow, useFits, badUse, ruleFaults, ruleReply, sourceInputs, badVertexOf, originBy, nodeBy}
 use Rattle.definitions.specs.Attributes.{inRange, fit, quotient, isZero, operate, combine, result, sameNumber, gives, agrees}
 use Rattle.definitions.specs.Match.{imageOf, attributeOf, readAttribute, isInterior, isConst, mustBePrivate, imagesWhere, innerImages, takes, isPrivate, isMatch, fromReader, imagesFrom, imagesFor, choicesOf, choices, attempt, leastMatch}
 use Rattle.definitions.specs.Rewriting.{results, indexFits, vertexResults, targetResults, goes, isRemoved, stays, freeSlots, placeOf, resolve, hasRoom, redirect, targetSlot, stayingSlot, newSlot, newGraph}
@@ -20,7 +20,7 @@ use Rattle.theory.specs.Faults.{AllTold, faultExamples}
 use Rattle.theory.specs.ReadElsewhere.{AllReply, askExamples}
 
 computed : AllHold examples × AllHold sharedConstants × AllTold faultExamples × AllReply askExamples
-unfolding examples sharedConstants faultExamples askExamples allBelow anyBelow lowest total count tabulate build all any filter padded foldl concatMap allPairs firstSome member position distinct range u16At u32At filled markFits signed wordOf u16Bytes u32Bytes operators countsOf kinds rowOf shapeFits refusalAt flag place judged firstRefusal whereDone grown grownBy reaching onCycle emptySlot slotFrom graphOf slotOf isVertex readsOf trueCount countTail slotBlock headerBlock blockAs outputPlacesFit headerFits atLeastOne zerosOffset recordFits badRecord badInputs badOutput lowestOnCycle hasCycle badCount nameFaults cycleFaults faultsAs countFaults replyAs graphReply originOf operations nodeFrom expressions expressionOf patternFrom ruleOf wildcard sourceOf targetOf inputKind isRuleInput ruleSizesFit ruleOutputPlacesFit ruleHeaderFits patternFits originFits sourceInputsFit targetInputsFit badVertex visit traversal outOfOrder reached reaches sourceOutputsFit connected sameOrigin named allNamed outputsFit operandFits nodeFits badNode accessesBelow useFits badUse ruleFaults ruleReply inRange fit quotient isZero operate combine result sameNumber gives agrees imageOf attributeOf readAttribute isInterior isConst mustBePrivate imagesWhere innerImages takes isPrivate isMatch fromReader imagesFrom imagesFor choicesOf choices attempt leastMatch results indexFits vertexResults targetResults goes isRemoved stays freeSlots placeOf resolve hasRoom redirect targetSlot renamed stayingSlot newSlot newGraph mapBlock mapReply blocksReply matched findMatch rewrittenWith rewritten replaced rewrite importReply importGraph answered imagesIn isReadElsewhere isMatchMap isInner elsewhereAnswer askedReply elsewhereReply
+unfolding examples sharedConstants faultExamples askExamples allBelow anyBelow lowest total count tabulate build all any filter padded foldl concatMap allPairs firstSome member position distinct range u16At u32At filled markFits signed wordOf u16Bytes u32Bytes operators countsOf kinds rowOf shapeFits refusalAt flag place judged firstRefusal whereDone grown grownBy reaching onCycle emptySlot slotFrom graphOf slotOf isVertex readsOf trueCount countTail slotBlock headerBlock blockAs outputPlacesFit headerFits atLeastOne zerosOffset recordFits badRecord badInputs badOutput lowestOnCycle hasCycle badCount nameFaults cycleFaults faultsAs countFaults replyAs graphReply originBy operations nodeBy expressions expressionOf patternFrom ruleBy ruleOf wildcard sourceOf targetOf inputKind isRuleInput ruleSizesFit ruleOutputPlacesFit ruleHeaderFits patternFits originFits sourceInputsFit targetInputsFit badVertexOf visit traversal outOfOrder reached reaches sourceOutputsFit connected sameOrigin named allNamed outputsFit operandFits nodeFits badNode accessesBelow useFits badUse ruleFaults ruleReply inRange fit quotient isZero operate combine result sameNumber gives agrees imageOf attributeOf readAttribute isInterior isConst mustBePrivate imagesWhere innerImages takes isPrivate isMatch fromReader imagesFrom imagesFor choicesOf choices attempt leastMatch results indexFits vertexResults targetResults goes isRemoved stays freeSlots placeOf resolve hasRoom redirect targetSlot renamed stayingSlot newSlot newGraph mapBlock mapReply blocksReply matched findMatch rewrittenWith rewritten replaced rewrite importReply importGraph answered imagesIn isReadElsewhere isMatchMap isInner elsewhereAnswer askedReply elsewhereReply
 computed = ((refl, (refl, (refl, (refl, (refl, (refl, (refl, (refl, (refl, (refl, (refl, (refl, (refl, (refl, (refl, (refl, (refl, (refl, (refl, (refl, tt)))))))))))))))))))), (refl, (refl, (refl, (refl, (refl, (refl, (refl, (refl, (refl, (refl, (refl, tt))))))))))), (refl, (refl, (refl, (refl, (refl, (refl, (refl, (refl, (refl, (refl, (refl, (refl, (refl, (refl, (refl, (refl, (refl, (refl, tt)))))))))))))))))), (refl, (refl, (refl, (refl, (refl, (refl, (refl, (refl, (refl, (refl, (refl, (refl, (refl, (refl, (refl, (refl, (refl, (refl, (refl, (refl, tt)))))))))))))))))))))
 
 pub examples-hold : AllHold examples

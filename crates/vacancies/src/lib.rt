@@ -10,8 +10,8 @@ use rule_fields::source_count;
 use rule_uses::count_places;
 ghost use mathlib.Core.Bool.{not};
 ghost use Rattle.definitions.specs.Graph.{slotCount, graphOf, isVertex};
-ghost use Rattle.definitions.specs.Rule.{ruleOf};
 ghost use Rattle.definitions.specs.Rewriting.{stays};
+ghost use Rattle.rule_fields.specs.Fixed.{fixedOf};
 ghost use Rattle.graph_fields.specs.Layout.{WholeGraph};
 ghost use Rattle.new_removal.specs.Removal.{Removable};
 ghost use Rattle.laws.specs.Marked.{Marked};
@@ -36,7 +36,7 @@ fn mark_empty(graph: &[u8]) -> [bool; SLOT_LIMIT]
 // Marks the slots that are Empty after the removal: the images that go too.
 pub fn find_free(graph: &[u8], rule: &[u8], images: &[u16; SIDE_CAPACITY]) -> [bool; SLOT_LIMIT]
     requires { ⌜ Removable (now graph) (now rule) (now images) ⌝ }
-    ensures { λ r. ⌜ Marked (λ k. not (stays (graphOf (now (graph .entry))) (ruleOf (now (rule .entry))) (now (images .entry)) k))
+    ensures { λ r. ⌜ Marked (λ k. not (stays (graphOf (now (graph .entry))) (fixedOf (now (rule .entry))) (now (images .entry)) k))
         (slotCount (now (graph .entry))) r ⌝ }
 {
     let vertices = source_count(rule);

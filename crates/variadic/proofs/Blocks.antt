@@ -16,7 +16,7 @@ use Rattle.definitions.specs.Fields.{byteAt}
 use Rattle.definitions.specs.Operators.{kindTuple}
 use Rattle.definitions.specs.Paths.{Reads}
 use Rattle.definitions.specs.Reply.{done, Fault, fault, flag, place, judged}
-use Rattle.definitions.specs.Rule.{sideLimit, sourceCount, targetCount, ruleOutputCount, nodeCount, vertexAt, ruleOf, sourceOf, sourceInputs, ruleSizesFit, ruleOutputPlacesFit, sourceInputsFit, targetInputsFit, traversal, outOfOrder, outputsFit}
+use Rattle.definitions.specs.Rule.{sideLimit, sourceCount, targetCount, ruleOutputCount, nodeCount, vertexAt, ruleOf, sourceOf, sourceInputs, ruleSizesFit, ruleOutputPlacesFit, sourceInputsFit, targetInputsFit, traversal, outOfOrder, outputsFit, ruleBy}
 use Rattle.definitions.specs.FixedRule.{SoundFixed}
 use Rattle.definitions.specs.Variadic.{VariadicRule, expansion}
 use Rattle.definitions.specs.VariadicBlock.{fieldLimit, expandedLimit, variadicOf, unmarked, variadicHeaderFits, markedPatternFits, templatesFit, sourceTemplatesFit, targetTemplatesFit, sharedOutputs, badVariadicVertex, badVariadicNode, variadicUseFits, badVariadicUse, isBadExpansion, variadicFaults, variadicReply, SoundVariadic}
@@ -30,7 +30,7 @@ use Rattle.theory.proofs.Fixing.{traversal-every}
 use Rattle.rule_order.proofs.Laws.{in-place}
 use Rattle.rule_order.proofs.Once.{traversal-whole}
 use Rattle.variadic.specs.Templated.{Templated}
-use Rattle.variadic.proofs.Sound.{lower-of, only-sound, every-sound}
+use Rattle.rule_sound.proofs.Sound.{lower-of, only-sound, every-sound}
 
 -- a test that fails for all elements fails for each
 none-in : (p : ℕ → Bool) (xs : List ℕ) {x : ℕ} → any p xs ≡ false → List·Memᴰ x xs → p x ≡ false
@@ -205,7 +205,7 @@ module _ (block : List ℕ) where
     lower-inputs j l = and-left (sourceInputsFit (rule .plain) j) (sourceTemplatesFit rule j) (source-good j l)
 
     output-inside : (o : ℕ) → List·Memᴰ o (rule .plain .sourceOutputs) → o < length (rule .plain .source)
-    unfolding variadicHeaderFits variadicOf ruleOutputPlacesFit ruleOf
+    unfolding variadicHeaderFits variadicOf ruleOutputPlacesFit ruleBy ruleOf
     output-inside o m =
         let below : ℕ → Bool = λ i. ltb (byteAt block (10 + i)) (sourceCount block) in
         let listed = needed (allBelow below (ruleOutputCount block)) (f .header) (λ e. simp (e, and-false)) in

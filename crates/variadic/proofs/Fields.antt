@@ -23,7 +23,7 @@ use Rattle.definitions.specs.Variadic.{VariadicRule, sourceCopy, sourceNumber, 
 use Rattle.definitions.specs.FixedRule.{SoundFixed}
 use Rattle.variadic.specs.Templated.{Templated}
 use Rattle.definitions.specs.Widths.{fieldsAt}
-use Rattle.variadic.proofs.Fixed.{fixing-of}
+use Rattle.rule_sound.proofs.Fixed.{fixing-of}
 use Rattle.variadic.proofs.Values.{same-tabulate}
 use Rattle.variadic.proofs.OneSize.{Route, route-from, no-template, copy-shared, inputs-shared, reads-fixed, tuple-image, agree-route}
 

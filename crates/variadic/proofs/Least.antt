@@ -20,7 +20,7 @@ use Rattle.theory.proofs.Fixing.{Fixing}
 use Rattle.theory.proofs.Least.{attempt-some, made-chosen, match-tried, match-succeeds, attempt-from}
 use Rattle.definitions.specs.FixedRule.{SoundFixed}
 use Rattle.definitions.specs.Widths.{Found, LeastAmong, foundBy, attemptOf, attemptAll, leastOf}
-use Rattle.variadic.proofs.Fixed.{fixing-of}
+use Rattle.rule_sound.proofs.Fixed.{fixing-of}
 
 -- every list is sorted by what always holds
 pub any-sorted : {A : Type 0} (xs : List A) → Sorted (λ x y. Unit {0}) xs

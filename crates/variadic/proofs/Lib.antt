@@ -1,5 +1,3 @@
-pub mod Sound
-pub mod Fixed
 pub mod Least
 pub mod OneSize
 pub mod Values

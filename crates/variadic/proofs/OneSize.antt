@@ -23,7 +23,7 @@ use Rattle.laws.proofs.Rule.{source-reader}
 use Rattle.definitions.specs.Variadic.{VariadicRule, original, sourceCopy, fields, sourceNames, sourceOrder, sourceNumber, copied, expansion}
 use Rattle.definitions.specs.FixedRule.{SoundFixed}
 use Rattle.variadic.specs.Templated.{Templated}
-use Rattle.variadic.proofs.Fixed.{fixing-of}
+use Rattle.rule_sound.proofs.Fixed.{fixing-of}
 
 -- ---- places in lists
 

@@ -9,10 +9,11 @@ use lib.IntN.{ℤ}
 use lib.ListN.{getD}
 use Rattle.definitions.specs.Fields.{signed}
 use Rattle.definitions.specs.Graph.{graphOf, slotOf}
-use Rattle.definitions.specs.Rule.{nodeCount, anything, ruleOf, sourceOf}
+use Rattle.definitions.specs.Rule.{anything, sourceOf}
 use Rattle.definitions.specs.Attributes.{gives, agrees}
 use Rattle.definitions.specs.Match.{readAttribute}
-use Rattle.laws.proofs.Rule.{source-attributes-at}
+use Rattle.rule_fields.specs.Fixed.{fixedOf, nodesIn}
+use Rattle.rule_fields.proofs.Fixed.{source-attributes-at}
 use Rattle.fields.specs.Integer.{integerOf}
 use Rattle.numbers.specs.Value.{valueOf}
 use Rattle.match_leaves.specs.Results.{nodeResult}
@@ -24,7 +25,7 @@ abbrev start : tie.After-source-attribute → tie.Start
 start c = c .before .before .before
 
 -- the attribute names a node
-inside : (c : tie.After-source-attribute) → c .source-attribute .result < nodeCount (start c .args .rule .now)
+inside : (c : tie.After-source-attribute) → c .source-attribute .result < nodesIn (start c .args .rule .now)
 inside c =
     let s = start c in
     let rule = s .args .rule .now in
@@ -41,7 +42,7 @@ by-result : (d : tie.After-attribute-at) (x : Option ℤ)
     → let a = d .before .before .before in let s = start a in
     x ≡ nodeResult (s .args .graph .now) (s .args .rule .now) (s .args .images .now) (a .source-attribute .result)
     → gives x (integerOf (d .attribute-at .result)) ≡ agrees (readAttribute (graphOf (s .args .graph .now)) (s .args .images .now))
-    (getD (sourceOf (ruleOf (s .args .rule .now)) (s .args .j) .attributes) (s .args .i) anything)
+    (getD (sourceOf (fixedOf (s .args .rule .now)) (s .args .j) .attributes) (s .args .i) anything)
     (signed (getD (slotOf (graphOf (s .args .graph .now)) (s .args .v) .attributes) (s .args .i) 0))
 by-result d x e =
     let f = d .before .before in
@@ -49,7 +50,7 @@ by-result d x e =
     let s = start a in
     let graph = graphOf (s .args .graph .now) in
     result-agrees (s .args .rule .now) (a .source-attribute .result) (inside a) (readAttribute graph (s .args .images .now))
-    (getD (sourceOf (ruleOf (s .args .rule .now)) (s .args .j) .attributes) (s .args .i) anything)
+    (getD (sourceOf (fixedOf (s .args .rule .now)) (s .args .j) .attributes) (s .args .i) anything)
     (signed (getD (slotOf graph (s .args .v) .attributes) (s .args .i) 0)) (a .source-attribute .ensures .0)
     x (integerOf (d .attribute-at .result)) e (d .attribute-at .ensures)
     (s .pre .0 .evaluable .nodes (a .source-attribute .result) (inside a)) (λ z. d .before .if1 .left (f .node-form .ensures .0 ∙ z))
@@ -67,7 +68,7 @@ returns c =
     let s = start a in
     let graph = graphOf (s .args .graph .now) in
     any-agrees (s .args .rule .now) (a .source-attribute .result) (inside a) (readAttribute graph (s .args .images .now))
-    (getD (sourceOf (ruleOf (s .args .rule .now)) (s .args .j) .attributes) (s .args .i) anything)
+    (getD (sourceOf (fixedOf (s .args .rule .now)) (s .args .j) .attributes) (s .args .i) anything)
     (signed (getD (slotOf graph (s .args .v) .attributes) (s .args .i) 0)) (a .source-attribute .ensures .0)
     (sym (f .node-form .ensures .0) ∙ c .if1 .taken)
 

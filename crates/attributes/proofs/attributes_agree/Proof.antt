@@ -11,8 +11,9 @@ use lib.IntN.{ℤ}
 use lib.ListN.{length}
 use Rattle.definitions.specs.Lists.{allBelow}
 use Rattle.definitions.specs.Graph.{graphOf, slotOf}
-use Rattle.definitions.specs.Rule.{Expression, ruleOf, sourceOf}
+use Rattle.definitions.specs.Rule.{Expression, sourceOf}
 use Rattle.definitions.specs.Match.{readAttribute}
+use Rattle.rule_fields.specs.Fixed.{fixedOf}
 use Rattle.attributes.proofs.Laws.{agreesAt, agree-fails, agree-more, agree-ends}
 use Rattle.attributes.proofs.attributes_agree.Statement.{statement}
 use Rattle.attributes.proofs.attributes_agree.Tie as tie
@@ -20,7 +21,7 @@ use Rattle.attributes.proofs.attributes_agree.Tie as tie
 abbrev Inv-loop : tie.InvT-loop
 Inv-loop graph rule images j v count i₀ i =
     let read = readAttribute (graphOf graph) images in
-    (i ≤ count) × (allBelow (agreesAt read (sourceOf (ruleOf rule) j .attributes) (slotOf (graphOf graph) v .attributes)) i ≡ true)
+    (i ≤ count) × (allBelow (agreesAt read (sourceOf (fixedOf rule) j .attributes) (slotOf (graphOf graph) v .attributes)) i ≡ true)
 
 abbrev μ-loop : tie.MeasureT-loop
 μ-loop graph rule images j v count i₀ i = count - i
@@ -32,7 +33,7 @@ abbrev reads : tie.Start Inv-loop μ-loop → ℕ → ℕ → Option ℤ
 reads s = readAttribute (graphOf (s .args .graph .now)) (s .args .images .now)
 
 abbrev patterns : tie.Start Inv-loop μ-loop → List Expression
-patterns s = sourceOf (ruleOf (s .args .rule .now)) (s .args .j) .attributes
+patterns s = sourceOf (fixedOf (s .args .rule .now)) (s .args .j) .attributes
 
 abbrev words : tie.Start Inv-loop μ-loop → List ℕ
 words s = slotOf (graphOf (s .args .graph .now)) (s .args .v) .attributes

@@ -9,10 +9,11 @@ use borrow.Author.Needs.{needs}
 use lib.IntN.{ℤ}
 use lib.ListN.{getD}
 use Rattle.definitions.specs.Graph.{graphOf}
-use Rattle.definitions.specs.Rule.{sourceCount, nodeCount, Expression, anything, ruleOf, targetOf}
+use Rattle.definitions.specs.Rule.{sourceCount, Expression, anything, targetOf}
 use Rattle.definitions.specs.Attributes.{result}
 use Rattle.definitions.specs.Match.{readAttribute}
-use Rattle.laws.proofs.Rule.{target-attributes-at}
+use Rattle.rule_fields.specs.Fixed.{fixedOf, nodesIn}
+use Rattle.rule_fields.proofs.Fixed.{target-attributes-at}
 use Rattle.numbers.specs.Value.{valueOf, bounded}
 use Rattle.match_leaves.specs.Results.{nodeResult}
 use Rattle.match_values.proofs.Laws.{node-bounded}
@@ -24,7 +25,7 @@ abbrev start : tie.After-target-attribute → tie.Start
 start c = c .before .before .before
 
 -- the attribute names a node
-inside : (c : tie.After-target-attribute) → c .target-attribute .result < nodeCount (start c .args .rule .now)
+inside : (c : tie.After-target-attribute) → c .target-attribute .result < nodesIn (start c .args .rule .now)
 inside c =
     let s = start c in
     let rule = s .args .rule .now in
@@ -41,7 +42,7 @@ by-node : (c : tie.After-target-attribute) (x : Option ℤ)
     → let s = start c in
     x ≡ nodeResult (s .args .graph .now) (s .args .rule .now) (s .args .images .now) (c .target-attribute .result)
     → (x ≡ result (readAttribute (graphOf (s .args .graph .now)) (s .args .images .now))
-    (getD (targetOf (ruleOf (s .args .rule .now)) (s .args .t) .attributes) (s .args .i) anything)) × (bounded x ≡ true)
+    (getD (targetOf (fixedOf (s .args .rule .now)) (s .args .t) .attributes) (s .args .i) anything)) × (bounded x ≡ true)
 by-node c x e =
     let s = start c in
     let graph = s .args .graph .now in

@@ -7,18 +7,18 @@ use borrow.Author.Needs.{needs}
 use borrow.Author.Tests.{not-true, not-false}
 use lib.ListN.{length}
 use Rattle.definitions.specs.Graph.{graphOf}
-use Rattle.definitions.specs.Rule.{ruleOf}
-use Rattle.laws.proofs.Rule.{length-source}
+use Rattle.rule_fields.specs.Fixed.{fixedOf}
+use Rattle.rule_fields.proofs.Fixed.{length-source}
 use Rattle.match_look.proofs.Candidates.{Formed, formed, candidate-attributes}
 use Rattle.match_images.proofs.Maps.{settled}
 use Rattle.match_images.proofs.Steps.{is-taken, disagree}
 use Rattle.match_images.proofs.settle.Statement.{statement}
 use Rattle.match_images.proofs.settle.Tie as tie
 
-well : (s : tie.Start) → Formed (ruleOf (s .args .rule .now))
+well : (s : tie.Start) → Formed (fixedOf (s .args .rule .now))
 well s = formed (s .args .rule .now) (s .pre .matchable)
 
-inside : (s : tie.Start) → s .args .j < length (ruleOf (s .args .rule .now) .source)
+inside : (s : tie.Start) → s .args .j < length (fixedOf (s .args .rule .now) .source)
 inside s = rw (length-source (s .args .rule .now)) (s .pre .vertex)
 
 is-taken-requires : tie.Need-is-taken-requires
@@ -27,14 +27,14 @@ is-taken-requires c κs = search needs
 returns : tie.Need-returns
 returns c =
     let s = c .before .before .before .before .before in
-    is-taken (graphOf (s .args .graph .now)) (ruleOf (s .args .rule .now)) (well s) (s .args .j) (s .args .v) (inside s)
+    is-taken (graphOf (s .args .graph .now)) (fixedOf (s .args .rule .now)) (well s) (s .args .j) (s .args .v) (inside s)
     (s .pre .partial .size) (sym (c .before .is-taken .ensures) ∙ c .if1 .taken)
 
 attributes-agree-requires : tie.Need-attributes-agree-requires
 attributes-agree-requires c κs =
     let s = c .before .before .before .before .before .before in
     let m = s .pre .matchable in
-    let fit = candidate-attributes (graphOf (s .args .graph .now)) (ruleOf (s .args .rule .now)) (well s) (s .args .j) (s .args .v)
+    let fit = candidate-attributes (graphOf (s .args .graph .now)) (fixedOf (s .args .rule .now)) (well s) (s .args .j) (s .args .v)
     (inside s) (s .pre .candidate) in (
       record { table = s .pre .readable; patterns = m .readable; evaluable = m .evaluable; imageSize = s .pre .partial .size },
       record { vertex = s .pre .vertex; slot = s .pre .slot; enough = fit },
@@ -43,7 +43,7 @@ attributes-agree-requires c κs =
 returns-2 : tie.Need-returns-2
 returns-2 c =
     let s = c .before .before .before .before .before .before .before .before in
-    disagree (graphOf (s .args .graph .now)) (ruleOf (s .args .rule .now)) (well s) (s .args .j) (s .args .v) (inside s)
+    disagree (graphOf (s .args .graph .now)) (fixedOf (s .args .rule .now)) (well s) (s .args .j) (s .args .v) (inside s)
     (s .pre .partial .size) (sym (c .before .attributes-agree .ensures) ∙ not-true _ (c .if2 .taken))
 
 cast-images : tie.Need-cast-images
@@ -59,7 +59,7 @@ returns-3 : tie.Need-returns-3
 returns-3 c =
     let t = c .before .before .before in
     let s = t .before .before .before .before .before in
-    settled (graphOf (s .args .graph .now)) (ruleOf (s .args .rule .now)) (well s) (s .args .j) (s .args .v) (s .args .images .now) (inside s)
+    settled (graphOf (s .args .graph .now)) (fixedOf (s .args .rule .now)) (well s) (s .args .j) (s .args .v) (s .args .images .now) (inside s)
     (omega (arith, s .pre .vertex, s .pre .matchable .readable .whole .source)) (s .pre .partial) (s .pre .candidate)
     (sym (t .before .is-taken .ensures) ∙ t .if1 .left) (s .pre .inputs)
     (sym (c .before .attributes-agree .ensures) ∙ not-false _ (c .if2 .left))

@@ -1,14 +1,14 @@
--- The tests are the definition's, on the form that was read. An access that fits names a source vertex, which has an image.
+-- The tests are the definition's, on the form that was read. An access to a vertex that has no place among the images gives nothing.
 -- Assumes nothing.
 use mathlib.Core.Path.{_≡_, sym, ap, _∙_}
-use mathlib.Core.Option.{some}
+use mathlib.Core.Option.{none, some}
 use native.Mathlib.Omega.{arith}
 use borrow.Author.Needs.{needs}
 use Rattle.definitions.specs.Graph.{graphOf}
 use Rattle.definitions.specs.Rule.{nodeForm}
 use Rattle.definitions.specs.Match.{readAttribute}
 use Rattle.numbers.specs.Value.{valueOf}
-use Rattle.match_leaves.proofs.Laws.{access-vertex, any-gives, constant-gives, read-gives}
+use Rattle.match_leaves.proofs.Laws.{read-outside, any-gives, constant-gives, read-gives}
 use Rattle.match_leaves.proofs.leaf_value.Statement.{statement}
 use Rattle.match_leaves.proofs.leaf_value.Tie as tie
 
@@ -49,26 +49,28 @@ node-byte-requires c κs = search needs
 node-byte-requires-2 : tie.Need-node-byte-requires-2
 node-byte-requires-2 c κs = search needs
 
-read-attribute-requires : tie.Need-read-attribute-requires
-read-attribute-requires c κs =
-    let s = start (c .before .before) in
-    let vertex = c .before in (
-      s .pre .0 .table,
-      (
-        s .pre .0 .imageSize,
-        omega (
-          arith,
-          vertex .node-byte .ensures .0,
-          s .pre .0 .whole .source,
-          access-vertex (s .args .rule .now) (s .args .k) (s .pre .1 .inside)
-              (s .pre .0 .evaluable .nodes (s .args .k) (s .pre .1 .inside)) (is-access (vertex .before)),
-        ),
-      ),
-    )
-
+-- the vertex has no place among the images
 returns-3 : tie.Need-returns-3
+unfolding valueOf
 returns-3 c =
     let right = c .before in
+    let left = right .before in
+    let s = start (left .before) in
+    let graph = s .args .graph .now in
+    let images = s .args .images .now in
+    let none-read = read-outside graph images (left .node-byte .result) (right .node-byte2 .result)
+    (omega (arith, c .if3 .taken, s .pre .0 .imageSize)) (omega (arith, s .pre .0 .table .whole .slots)) in
+    read-gives (s .args .rule .now) (s .args .k) (s .pre .1 .inside) (readAttribute (graphOf graph) images) (left .node-byte .result)
+    (right .node-byte2 .result) none (left .node-byte .ensures .0) (right .node-byte2 .ensures .0) none-read (is-access (left .before))
+
+read-attribute-requires : tie.Need-read-attribute-requires
+read-attribute-requires c κs =
+    let s = start (c .before .before .before) in
+    (s .pre .0 .table, (s .pre .0 .imageSize, omega (arith, c .if3 .left)))
+
+returns-4 : tie.Need-returns-4
+returns-4 c =
+    let right = c .before .before in
     let left = right .before in
     let s = start (left .before) in
     let rule = s .args .rule .now in
@@ -88,5 +90,6 @@ leaf-value-spec =
     returns-2
     node-byte-requires
     node-byte-requires-2
+    returns-3
     read-attribute-requires
-    returns-3)
+    returns-4)

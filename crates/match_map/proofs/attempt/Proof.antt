@@ -8,17 +8,18 @@ use borrow.Author.Needs.{needs}
 use borrow.Author.Tests.{not-true, not-false}
 use lib.ListN.{length, getD}
 use Rattle.definitions.specs.Graph.{Graph, graphOf}
-use Rattle.definitions.specs.Rule.{sideLimit, sourceCount, ruleOutputCount, Rule, ruleOf}
+use Rattle.definitions.specs.Rule.{sideCapacity, sourceCount, ruleOutputCount, Rule}
+use Rattle.rule_fields.specs.Fixed.{fixedOf}
 use Rattle.laws.proofs.Members.{mem-at}
 use Rattle.laws.proofs.Graph.{length-slots}
-use Rattle.laws.proofs.Rule.{length-source, length-source-outputs, outputs-below, few-sources}
+use Rattle.rule_fields.proofs.Fixed.{length-source, length-source-outputs}
 use Rattle.match_map.proofs.Laws.{Attempted, attempt-start, output-in-order, output-fails, output-outside, output-passes, attempt-ends}
 use Rattle.match_map.proofs.attempt.Statement.{statement}
 use Rattle.match_map.proofs.attempt.Tie as tie
 
 abbrev Inv-loop : tie.InvT-loop
 Inv-loop graph rule demands map images₀ slots outputs next₀ i₀ images next i =
-    Attempted (graphOf graph) (ruleOf rule) map images₀ i next images × (i ≤ outputs)
+    Attempted (graphOf graph) (fixedOf rule) map images₀ i next images × (i ≤ outputs)
 
 abbrev μ-loop : tie.MeasureT-loop
 μ-loop graph rule demands map images₀ slots outputs next₀ i₀ images next i = outputs - i
@@ -38,7 +39,7 @@ abbrev g : Counted → Graph
 g k = graphOf (start k .args .graph .now)
 
 abbrev r : Counted → Rule
-r k = ruleOf (ruleBlock k)
+r k = fixedOf (ruleBlock k)
 
 all-outputs : (k : Counted) → length (r k .sourceOutputs) ≡ k .output-count .result
 all-outputs k = omega (arith, length-source-outputs (ruleBlock k), k .output-count .ensures .0)
@@ -52,7 +53,7 @@ output-count-requires c κs = omega (arith, c .before .before .before .before .p
 loop-holds : tie.Need-loop-holds Inv-loop μ-loop
 loop-holds c =
     let s = start c in
-    (attempt-start (g c) (ruleBlock c) (s .args .map .now) (s .args .images .now) (s .pre .sound) (s .pre .space), omega arith)
+    (attempt-start (g c) (ruleBlock c) (s .args .map .now) (s .args .images .now) (s .pre .working) (s .pre .space), omega arith)
 
 -- ---- a turn
 
@@ -79,18 +80,18 @@ inside : (o : Output) → o .source-output .result < sourceCount (ruleBlock (cou
 inside o =
     let t = o .before in
     let k = counted t in
-    rw (o .source-output .ensures .0)
-    (outputs-below (ruleBlock k) sideLimit (start k .pre .sound .header) (getD (r k .sourceOutputs) (t .before .loop .i) 255)
+    rw (o .source-output .ensures .0, ← length-source (ruleBlock k))
+    (start k .pre .working .sound .outputsInside (getD (r k .sourceOutputs) (t .before .loop .i) 255)
     (mem-at (r k .sourceOutputs) (t .before .loop .i) 255 (left t)))
 
-few : (o : Output) → o .source-output .result < sideLimit
-few o = let k = counted (o .before) in omega (arith, inside o, few-sources (ruleBlock k) sideLimit (start k .pre .sound .header))
+few : (o : Output) → o .source-output .result < sideCapacity
+few o = let k = counted (o .before) in omega (arith, inside o, start k .pre .working .readable .whole .source)
 
 mul-u16-at : tie.Need-mul-u16-at Inv-loop μ-loop
 mul-u16-at c = omega (arith, few c)
 
 u16-at-requires : tie.Need-u16-at-requires Inv-loop μ-loop
-u16-at-requires c κs = omega (arith, few c, start (counted (c .before)) .pre .mapSize)
+u16-at-requires c κs = omega (arith, inside c, start (counted (c .before)) .pre .enough)
 
 abbrev Slot : Type 0
 Slot = tie.After-u16-at Inv-loop μ-loop

@@ -10,16 +10,16 @@ use lib.Dec.{eqb}
 use lib.ListN.{getD}
 use Rattle.definitions.specs.Lists.{allBelow}
 use Rattle.definitions.specs.Fields.{u16At}
-use Rattle.definitions.specs.Operations.{mapPlaces}
 use Rattle.laws.proofs.Lists.{allBelow-step, allBelow-fails}
+use Rattle.match_map.specs.Holding.{placesIn}
 use Rattle.match_map.proofs.holds_images.Statement.{statement}
 use Rattle.match_map.proofs.holds_images.Tie as tie
 
 abbrev Inv-loop : tie.InvT-loop
-Inv-loop map images j₀ j = (j ≤ mapPlaces) × (allBelow (λ k. eqb (u16At map (2 * k)) (getD images k 0)) j ≡ true)
+Inv-loop map images places j₀ j = (j ≤ placesIn map) × (allBelow (λ k. eqb (u16At map (2 * k)) (getD images k 0)) j ≡ true)
 
 abbrev μ-loop : tie.MeasureT-loop
-μ-loop map images j₀ j = mapPlaces - j
+μ-loop map images places j₀ j = placesIn map - j
 
 abbrev test : tie.Start Inv-loop μ-loop → ℕ → Bool
 test s k = eqb (u16At (s .args .map .now) (2 * k)) (getD (s .args .images .now) k 0)
@@ -50,7 +50,7 @@ returns c =
     let a = u .before .before in
     let s = a .before .before in
     let j = a .loop .j in
-    sym (allBelow-fails (test s) mapPlaces j (omega (arith, u .before .loop-test .taken))
+    sym (allBelow-fails (test s) (placesIn (s .args .map .now)) j (omega (arith, u .before .loop-test .taken))
     (ne-eqb (u16At (s .args .map .now) (2 * j)) (getD (s .args .images .now) j 0)
     (λ e. c .if1 .taken (u .u16-at .ensures .0 ∙ e ∙ sym (w .widened .ensures)))))
 
@@ -76,7 +76,7 @@ loop-again c =
 returns-2 : tie.Need-returns-2 Inv-loop μ-loop
 returns-2 c =
     let a = c .before in
-    let e : a .loop .j ≡ mapPlaces = omega (arith, c .loop-test .left, a .loop .inv .0) in
+    let e : a .loop .j ≡ placesIn (a .before .before .args .map .now) = omega (arith, c .loop-test .left, a .loop .inv .0) in
     sym (ap (allBelow (test (a .before .before))) (sym e) ∙ a .loop .inv .1)
 
 pub holds-images-spec : {M : Type 1} → statement M

@@ -6,8 +6,9 @@ use Prim.Native.Nat.{ℕ, _-_, _<_}
 use native.Mathlib.Omega.{arith}
 use lib.ListN.{length}
 use Rattle.definitions.specs.Graph.{slotCount, Graph, graphOf}
-use Rattle.definitions.specs.Rule.{sourceCount, Rule, ruleOf}
-use Rattle.laws.proofs.Rule.{length-source}
+use Rattle.definitions.specs.Rule.{sourceCount, Rule}
+use Rattle.rule_fields.specs.Fixed.{fixedOf}
+use Rattle.rule_fields.proofs.Fixed.{length-source}
 use Rattle.match_look.specs.Head.{headIn}
 use Rattle.match_outputs.proofs.Steps.{AtCandidate, at-next, passed-start, Blank, blank-start, blank-after, nothing-mapped, root-fails, root-made, first-inside, first-candidate, first-in-order, all-passed, nothing-found, one-found}
 use Rattle.match_outputs.proofs.search_one.Statement.{statement}
@@ -15,7 +16,7 @@ use Rattle.match_outputs.proofs.search_one.Tie as tie
 
 abbrev Inv-loop : tie.InvT-loop
 Inv-loop graph rule demands root start slots head images₀ slot₀ images slot =
-    AtCandidate (graphOf graph) (ruleOf rule) root start (headIn head) slots slot × Blank (ruleOf rule) images
+    AtCandidate (graphOf graph) (fixedOf rule) root start (headIn head) slots slot × Blank (fixedOf rule) images
 
 abbrev μ-loop : tie.MeasureT-loop
 μ-loop graph rule demands root start slots head images₀ slot₀ images slot = slots - slot
@@ -38,7 +39,7 @@ abbrev g : Counted → Graph
 g k = graphOf (graphBlock k)
 
 abbrev r : Counted → Rule
-r k = ruleOf (ruleBlock k)
+r k = fixedOf (ruleBlock k)
 
 abbrev root : Counted → ℕ
 root k = start k .args .root
@@ -47,7 +48,7 @@ all-slots : (k : Counted) → k .slot-count .result ≡ slotCount (graphBlock k)
 all-slots k = k .slot-count .ensures .0
 
 inside : (k : Counted) → root k < length (r k .source)
-inside k = first-inside (graphBlock k) (ruleBlock k) (start k .pre .sound) (root k) [] (start k .pre .listed)
+inside k = first-inside (graphBlock k) (ruleBlock k) (start k .pre .working) (root k) [] (start k .pre .listed)
 
 vertex : (k : Counted) → root k < sourceCount (ruleBlock k)
 vertex k = omega (arith, inside k, length-source (ruleBlock k))
@@ -94,12 +95,12 @@ match-candidate-requires c κs =
       setting = s .pre .setting;
       vertex = vertex k;
       slot = omega (arith, c .before .loop-test .taken, all-slots k);
-      candidate = first-candidate (graphBlock k) (ruleBlock k) (s .pre .sound) (root k) [] (s .pre .listed)
+      candidate = first-candidate (graphBlock k) (ruleBlock k) (s .pre .working) (root k) [] (s .pre .listed)
           (headIn (head a .pattern-head .result)) (head a .pattern-head .ensures) (a .loop .slot)
           (a .loop .inv .0 .looked (c .before .loop-test .taken));
       fresh = omega arith;
       partial = nothing-mapped (g k) (r k) (a .loop .images) (a .loop .inv .1 .size);
-      order = first-in-order (graphBlock k) (ruleBlock k) (s .pre .sound) (root k) [] (s .pre .listed);
+      order = first-in-order (graphBlock k) (ruleBlock k) (s .pre .working) (root k) [] (s .pre .listed);
     }
 
 returns : tie.Need-returns Inv-loop μ-loop
@@ -108,7 +109,7 @@ returns c =
     let a = turn v in
     let k = counted a in
     let step = v .match-candidate .ensures in
-    one-found (graphBlock k) (ruleBlock k) (start k .pre .sound) (root k) (start k .pre .listed) (start k .args .start) (a .loop .slot)
+    one-found (graphBlock k) (ruleBlock k) (start k .pre .working) (root k) (start k .pre .listed) (start k .args .start) (a .loop .slot)
     (a .loop .inv .0 .passed) (root-made (g k) (r k) (root k) (a .loop .slot) step (c .if1 .taken))
     (blank-after (step .size) (step .rest) (a .loop .inv .1))
 
@@ -142,8 +143,8 @@ returns-2 c =
     let a = c .before in
     let k = counted a in
     let s = start k in
-    nothing-found (graphBlock k) (ruleBlock k) (s .pre .sound) (s .args .start)
-    (all-passed (graphBlock k) (ruleBlock k) (s .pre .sound) (root k) [] (s .pre .listed) (s .args .start) (a .loop .slot)
+    nothing-found (graphBlock k) (ruleBlock k) (s .pre .working) (s .args .start)
+    (all-passed (graphBlock k) (ruleBlock k) (s .pre .working) (root k) [] (s .pre .listed) (s .args .start) (a .loop .slot)
     (a .loop .inv .0 .passed) (omega (arith, c .loop-test .left, all-slots k))) refl
 
 pub search-one-spec : {M : Type 1} → statement M

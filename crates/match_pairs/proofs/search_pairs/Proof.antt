@@ -8,10 +8,11 @@ use Prim.Native.Nat.{ℕ, suc, _+_, _-_, _<_, _≤_, max}
 use native.Mathlib.Omega.{arith}
 use lib.ListN.{length, getD}
 use Rattle.definitions.specs.Graph.{slotLimit, slotCount, Graph, graphOf}
-use Rattle.definitions.specs.Rule.{Rule, ruleOf}
+use Rattle.definitions.specs.Rule.{Rule}
 use Rattle.definitions.specs.Match.{imageOf}
+use Rattle.rule_fields.specs.Fixed.{fixedOf}
 use Rattle.laws.proofs.Graph.{length-slots}
-use Rattle.laws.proofs.Rule.{length-source}
+use Rattle.rule_fields.proofs.Fixed.{length-source}
 use Rattle.match_images.specs.Partial.{Sends, Step}
 use Rattle.match_look.specs.Head.{headIn}
 use Rattle.match_look.specs.Candidate.{passesLook}
@@ -24,15 +25,15 @@ use Rattle.match_pairs.proofs.search_pairs.Tie as tie
 
 abbrev Inv-loop : tie.InvT-loop
 Inv-loop graph rule demands root last start slots head candidates next images₀ ok₀ first k₀ images ok k =
-    Left (graphOf graph) (ruleOf rule) root last first (candidates .slots) (candidates .count) k
-    × Rooted (graphOf graph) (ruleOf rule) root first images × Blank (ruleOf rule) images × (ok ≡ false)
+    Left (graphOf graph) (fixedOf rule) root last first (candidates .slots) (candidates .count) k
+    × Rooted (graphOf graph) (fixedOf rule) root first images × Blank (fixedOf rule) images × (ok ≡ false)
 
 abbrev μ-loop : tie.MeasureT-loop
 μ-loop graph rule demands root last start slots head candidates next images₀ ok₀ first k₀ images ok k = candidates .count - k
 
 abbrev Inv-search : tie.InvT-search
 Inv-search graph rule demands root last start slots head candidates next images₀ ok₀ first₀ images ok first =
-    AtCandidate (graphOf graph) (ruleOf rule) root start (headIn head) slots first × Blank (ruleOf rule) images × (ok ≡ false)
+    AtCandidate (graphOf graph) (fixedOf rule) root start (headIn head) slots first × Blank (fixedOf rule) images × (ok ≡ false)
 
 abbrev μ-search : tie.MeasureT-search
 μ-search graph rule demands root last start slots head candidates next images₀ ok₀ first₀ images ok first = slots - first
@@ -55,7 +56,7 @@ abbrev g : Counted → Graph
 g k = graphOf (graphBlock k)
 
 abbrev r : Counted → Rule
-r k = ruleOf (ruleBlock k)
+r k = fixedOf (ruleBlock k)
 
 -- the first output, and the second
 abbrev o : Counted → ℕ
@@ -68,10 +69,10 @@ all-slots : (k : Counted) → k .slot-count .result ≡ slotCount (graphBlock k)
 all-slots k = k .slot-count .ensures .0
 
 inside : (k : Counted) → o k < length (r k .source)
-inside k = first-inside (graphBlock k) (ruleBlock k) (start k .pre .sound) (o k) (q k ∷ []) (start k .pre .listed)
+inside k = first-inside (graphBlock k) (ruleBlock k) (start k .pre .working) (o k) (q k ∷ []) (start k .pre .listed)
 
 within : (k : Counted) → q k < length (r k .source)
-within k = second-inside (graphBlock k) (ruleBlock k) (start k .pre .sound) (o k) (q k) (start k .pre .listed)
+within k = second-inside (graphBlock k) (ruleBlock k) (start k .pre .working) (o k) (q k) (start k .pre .listed)
 
 slot-count-requires : tie.Need-slot-count-requires Inv-loop μ-loop Inv-search μ-search
 slot-count-requires c κs = let s = c .before .before in omega (arith, s .pre .setting .readable .whole .size)
@@ -113,7 +114,7 @@ returns c =
     let t = c .before in
     let l = t .before in
     let k = counted l in
-    nothing-found (graphBlock k) (ruleBlock k) (start k .pre .sound) (start k .args .start)
+    nothing-found (graphBlock k) (ruleBlock k) (start k .pre .working) (start k .args .start)
     (λ whole from.
     let left = left-all (g k) (r k) (o k) (q k) (imageOf whole (o k)) (headIn (l .before .pattern-head2 .result))
     (l .before .pattern-head2 .ensures) (listed l) (within k) whole (from .isMatch) refl in
@@ -160,12 +161,12 @@ match-candidate-requires c κs =
       setting = s .pre .setting;
       vertex = omega (arith, inside k, length-source (ruleBlock k));
       slot = omega (arith, c .before .search-test .taken, all-slots k);
-      candidate = first-candidate (graphBlock k) (ruleBlock k) (s .pre .sound) (o k) (q k ∷ []) (s .pre .listed)
+      candidate = first-candidate (graphBlock k) (ruleBlock k) (s .pre .working) (o k) (q k ∷ []) (s .pre .listed)
           (headIn (head l .pattern-head .result)) (head l .pattern-head .ensures) (a .search .first)
           (a .search .inv .0 .looked (c .before .search-test .taken));
       fresh = omega arith;
       partial = nothing-mapped (g k) (r k) (a .search .images) (a .search .inv .1 .size);
-      order = first-in-order (graphBlock k) (ruleBlock k) (s .pre .sound) (o k) (q k ∷ []) (s .pre .listed);
+      order = first-in-order (graphBlock k) (ruleBlock k) (s .pre .working) (o k) (q k ∷ []) (s .pre .listed);
     }
 
 -- ---- the second output's image
@@ -258,12 +259,12 @@ match-candidate-requires-2 c κs =
       setting = s .pre .setting;
       vertex = omega (arith, within k, length-source (ruleBlock k));
       slot = omega (arith, e, listed l .below (b .loop .k) taken, length-slots (graphBlock k));
-      candidate = second-candidate (graphBlock k) (ruleBlock k) (s .pre .sound) (o k) (q k) (s .pre .listed)
+      candidate = second-candidate (graphBlock k) (ruleBlock k) (s .pre .working) (o k) (q k) (s .pre .listed)
           (headIn (l .before .pattern-head2 .result)) (l .before .pattern-head2 .ensures) (w .widened .result)
           (rw e (listed l .holds (b .loop .k) taken));
-      fresh = omega (arith, second-later (graphBlock k) (ruleBlock k) (s .pre .sound) (o k) (q k) (s .pre .listed));
+      fresh = omega (arith, second-later (graphBlock k) (ruleBlock k) (s .pre .working) (o k) (q k) (s .pre .listed));
       partial = b .loop .inv .1 .partial;
-      order = second-in-order (graphBlock k) (ruleBlock k) (s .pre .sound) (o k) (q k) (s .pre .listed);
+      order = second-in-order (graphBlock k) (ruleBlock k) (s .pre .working) (o k) (q k) (s .pre .listed);
     }
 
 -- ---- the next first image
@@ -311,8 +312,8 @@ returns-2 c =
     let a = c .before in
     let k = counted (ready a) in
     let s = start k in
-    nothing-found (graphBlock k) (ruleBlock k) (s .pre .sound) (s .args .start)
-    (all-passed (graphBlock k) (ruleBlock k) (s .pre .sound) (o k) (q k ∷ []) (s .pre .listed) (s .args .start) (a .search .first)
+    nothing-found (graphBlock k) (ruleBlock k) (s .pre .working) (s .args .start)
+    (all-passed (graphBlock k) (ruleBlock k) (s .pre .working) (o k) (q k ∷ []) (s .pre .listed) (s .args .start) (a .search .first)
     (a .search .inv .0 .passed) (omega (arith, c .search-test .left, all-slots k))) (a .search .inv .2)
 
 returns-3 : tie.Need-returns-3 Inv-loop μ-loop Inv-search μ-search
@@ -323,7 +324,7 @@ returns-3 c =
     let l = ready a in
     let k = counted l in
     let step = stepped w in
-    two-found (graphBlock k) (ruleBlock k) (start k .pre .sound) (o k) (q k) (start k .pre .listed) (start k .args .start)
+    two-found (graphBlock k) (ruleBlock k) (start k .pre .working) (o k) (q k) (start k .pre .listed) (start k .args .start)
     (a .search .first) (getD (l .all-candidates .result .slots) (b .loop .k) 0) (a .search .inv .0 .passed)
     (left-least (g k) (r k) (o k) (q k) (a .search .first) (headIn (l .before .pattern-head2 .result)) (l .before .pattern-head2 .ensures)
     (listed l) (b .loop .k) (b .loop .inv .0) (w .before .before .before .before .loop-test .taken))

@@ -5,10 +5,11 @@ use Prim.Native.Nat.{ℕ, _<_}
 use native.Mathlib.Omega.{arith}
 use borrow.Author.Needs.{needs}
 use lib.Dec.{ltb}
-use Rattle.definitions.specs.Rule.{sideLimit, ruleOf}
+use Rattle.definitions.specs.Rule.{sideCapacity}
 use Rattle.definitions.specs.Match.{placesOf}
-use Rattle.laws.proofs.Rule.{few-sources}
-use Rattle.rule_check.proofs.Readable.{rule-readable, rule-layered}
+use Rattle.rule_fields.specs.Fixed.{fixedOf}
+use Rattle.rule_fields.proofs.Fixed.{length-source}
+use Rattle.rule_sound.proofs.Working.{rule-layered}
 use Rattle.match_readers.proofs.Laws.{by-count}
 use Rattle.match_readers.proofs.named_elsewhere.Statement.{statement}
 use Rattle.match_readers.proofs.named_elsewhere.Tie as tie
@@ -16,12 +17,11 @@ use Rattle.match_readers.proofs.named_elsewhere.Tie as tie
 count-places-requires : tie.Need-count-places-requires
 count-places-requires c κs =
     let s = c .before in
-    let block = s .args .rule .now in
-    record { readable = rule-readable block (s .pre .0); layered = rule-layered block (s .pre .0) }
+    record { readable = s .pre .0 .readable; layered = rule-layered (s .args .rule .now) (s .pre .0) }
 
 -- j is a place of the array
-few : (s : tie.Start) → s .args .j < sideLimit
-few s = omega (arith, s .pre .1, few-sources (s .args .rule .now) sideLimit (s .pre .0 .header))
+few : (s : tie.Start) → s .args .j < sideCapacity
+few s = omega (arith, s .pre .1, s .pre .0 .readable .whole .source)
 
 mul-widened : tie.Need-mul-widened
 mul-widened c = omega (arith, few (c .before .before))
@@ -42,13 +42,14 @@ returns c =
     let s = p .before .before in
     let block = s .args .rule .now in
     let j = s .args .j in
-    let own : w .widened .result ≡ placesOf (ruleOf block) j = w .widened .ensures ∙ p .count-places .ensures .at j in
-    let above : c .exceeds .result ≡ ltb (placesOf (ruleOf block) j) (s .args .count) =
+    let own : w .widened .result ≡ placesOf (fixedOf block) j = w .widened .ensures ∙ p .count-places .ensures .at j in
+    let above : c .exceeds .result ≡ ltb (placesOf (fixedOf block) j) (s .args .count) =
     c .exceeds .ensures ∙ ap (λ (n : ℕ). ltb n (s .args .count)) own in
     record {
       above = above;
       means = λ g images m e.
-          above ∙ ap (ltb (placesOf (ruleOf block) j)) (sym e) ∙ by-count block (s .pre .0) g images m j (s .pre .1);
+          above ∙ ap (ltb (placesOf (fixedOf block) j)) (sym e) ∙ by-count sideCapacity (fixedOf block) (s .pre .0 .sound) g images m j
+          (rw (length-source block) (s .pre .1));
     }
 
 pub named-elsewhere-spec : {M : Type 1} → statement M

@@ -11,9 +11,10 @@ use borrow.Fn.Kinds.{In}
 use borrow.Fn.PlainCycle.{Measures, is, falls, and}
 use lib.ListN.{length, getD}
 use Rattle.definitions.specs.Graph.{slotCount, graphOf, inputsOf}
-use Rattle.definitions.specs.Rule.{sideCapacity, ruleOf, sourceInputs}
+use Rattle.definitions.specs.Rule.{sideCapacity, sourceInputs}
+use Rattle.rule_fields.specs.Fixed.{fixedOf}
 use Rattle.laws.proofs.Lists.{true-not-false}
-use Rattle.laws.proofs.Rule.{length-source}
+use Rattle.rule_fields.proofs.Fixed.{length-source}
 use Rattle.rule_order.specs.InOrder.{visitedAfter}
 use Rattle.rule_order.proofs.InOrder.{in-order-inputs, in-order-here}
 use Rattle.match_look.specs.Candidate.{isCandidate}
@@ -123,7 +124,7 @@ match-vertex-calls t = (
 
 -- where there is an input left
 left : (t : ℕ) (c : match-inputs-lts.Else1 (match-inputs-calls t) (match-inputs-at t) match-inputs.Post)
-    → let a = c .before .before .before .before .args in a .i < length (sourceInputs (ruleOf (a .rule .now)) (a .j))
+    → let a = c .before .before .before .before .args in a .i < length (sourceInputs (fixedOf (a .rule .now)) (a .j))
 left t c = omega (arith, c .before .source-input-count .ensures .0, c .if1 .left, c .before .before .before .before .pre .1 .place)
 
 -- it is lower than its vertex
@@ -139,7 +140,7 @@ also : (t : ℕ) (c : match-inputs-lts.Else1 (match-inputs-calls t) (match-input
     → let a = c .before .before .before .before .args in a .i < length (inputsOf (graphOf (a .graph .now)) (a .v))
 also t c =
     let s = c .before .before .before .before in
-    let r = ruleOf (s .args .rule .now) in
+    let r = fixedOf (s .args .rule .now) in
     let inside : s .args .j < length (r .source) = rw (length-source (s .args .rule .now)) (s .pre .1 .vertex) in
     omega (
       arith,
@@ -169,7 +170,7 @@ match-inputs-returns : (t : ℕ) → match-inputs-lts.Need-returns (match-inputs
 match-inputs-returns t c =
     let d = c .before in
     let s = d .before .before .before in
-    inputs-done (graphOf (s .args .graph .now)) (ruleOf (s .args .rule .now)) (s .args .j) (s .args .v) (s .args .i)
+    inputs-done (graphOf (s .args .graph .now)) (fixedOf (s .args .rule .now)) (s .args .j) (s .args .v) (s .args .i)
     (omega (arith, d .source-input-count .ensures .0, c .if1 .taken)) (s .pre .1 .partial)
 
 match-inputs-source-input-requires : (t : ℕ)
@@ -191,7 +192,7 @@ match-inputs-match-vertex-requires t c κs =
     let e = n .before in
     let s = e .before .before .before .before .before in
     let down = lower t e in
-    let order = input-in-order (graphOf (s .args .graph .now)) (ruleOf (s .args .rule .now)) (s .args .j) (s .args .v) (s .args .i)
+    let order = input-in-order (graphOf (s .args .graph .now)) (fixedOf (s .args .rule .now)) (s .args .j) (s .args .v) (s .args .i)
     (e .source-input .result) (n .input-at .result) (left t (e .before)) (e .source-input .ensures .0) (n .input-at .ensures .0)
     (s .args .next) (s .pre .1 .order) in
     let falls = few t (e .before) in (
@@ -211,7 +212,7 @@ match-inputs-returns-2 t c =
     let n = d .before .before in
     let e = n .before in
     let s = e .before .before .before .before .before in
-    input-fails (graphOf (s .args .graph .now)) (ruleOf (s .args .rule .now)) (s .args .j) (s .args .v) (s .args .i)
+    input-fails (graphOf (s .args .graph .now)) (fixedOf (s .args .rule .now)) (s .args .j) (s .args .v) (s .args .i)
     (e .source-input .result) (n .input-at .result) (left t (e .before)) (e .source-input .ensures .0) (n .input-at .ensures .0)
     (d .match-vertex .ensures .step) (not-true _ (c .if2 .taken))
 
@@ -244,7 +245,7 @@ match-inputs-match-inputs-requires t c κs =
     let n = d .before .before in
     let e = n .before in
     let s = e .before .before .before .before .before in
-    let order = others-in-order (graphOf (s .args .graph .now)) (ruleOf (s .args .rule .now)) (s .args .j) (s .args .v) (s .args .i)
+    let order = others-in-order (graphOf (s .args .graph .now)) (fixedOf (s .args .rule .now)) (s .args .j) (s .args .v) (s .args .i)
     (e .source-input .result) (n .input-at .result) (left t (e .before)) (e .source-input .ensures .0) (n .input-at .ensures .0)
     (s .args .next) (x .greater .result) (s .pre .1 .order) (reached t x) in
     let made = d .match-vertex .ensures .step .partial (not-false _ (x .before .if2 .left)) in
@@ -269,7 +270,7 @@ match-inputs-returns-3 t c =
     let n = d .before .before in
     let e = n .before in
     let s = e .before .before .before .before .before in
-    input-passes (graphOf (s .args .graph .now)) (ruleOf (s .args .rule .now)) (s .args .j) (s .args .v) (s .args .i)
+    input-passes (graphOf (s .args .graph .now)) (fixedOf (s .args .rule .now)) (s .args .j) (s .args .v) (s .args .i)
     (e .source-input .result) (n .input-at .result) (left t (e .before)) (e .source-input .ensures .0) (n .input-at .ensures .0)
     (reached t x) (d .match-vertex .ensures .step) (not-false _ (x .before .if2 .left)) (c .match-inputs .ensures)
 
@@ -278,23 +279,23 @@ match-inputs-returns-3 t c =
 abbrev CandidateStart : ℕ → Type 0
 CandidateStart t = match-candidate-lts.Start (match-candidate-calls t) (match-candidate-at t) match-candidate.Post
 
-well : (t : ℕ) (s : CandidateStart t) → Formed (ruleOf (s .args .rule .now))
+well : (t : ℕ) (s : CandidateStart t) → Formed (fixedOf (s .args .rule .now))
 well t s = formed (s .args .rule .now) (s .pre .1 .setting .matchable)
 
-inside : (t : ℕ) (s : CandidateStart t) → s .args .j < length (ruleOf (s .args .rule .now) .source)
+inside : (t : ℕ) (s : CandidateStart t) → s .args .j < length (fixedOf (s .args .rule .now) .source)
 inside t s = rw (length-source (s .args .rule .now)) (s .pre .1 .vertex)
 
 -- once the inputs are matched, the vertex itself is the next
-next-is : (t : ℕ) (s : CandidateStart t) → visitedAfter (s .args .next) (sourceInputs (ruleOf (s .args .rule .now)) (s .args .j)) ≡ s .args .j
+next-is : (t : ℕ) (s : CandidateStart t) → visitedAfter (s .args .next) (sourceInputs (fixedOf (s .args .rule .now)) (s .args .j)) ≡ s .args .j
 next-is t s =
-    in-order-here (ruleOf (s .args .rule .now)) (s .args .next) (s .args .j) (well t s .lower (s .args .j)) (s .pre .1 .order)
+    in-order-here (fixedOf (s .args .rule .now)) (s .args .next) (s .args .j) (well t s .lower (s .args .j)) (s .pre .1 .order)
     (s .pre .1 .fresh)
 
 match-candidate-match-inputs-requires : (t : ℕ)
     → match-candidate-lts.Need-match-inputs-requires (match-candidate-calls t) (match-candidate-at t) match-candidate.Post
 match-candidate-match-inputs-requires t c κs =
     let s = c .before .before .before in
-    let order = in-order-inputs (ruleOf (s .args .rule .now)) (s .args .next) (s .args .j) (well t s .lower (s .args .j))
+    let order = in-order-inputs (fixedOf (s .args .rule .now)) (s .args .next) (s .args .j) (well t s .lower (s .args .j))
     (s .pre .1 .order) (s .pre .1 .fresh) in (
       omega arith,
       record {
@@ -313,7 +314,7 @@ match-candidate-returns : (t : ℕ)
 match-candidate-returns t c =
     let d = c .before in
     let s = d .before .before .before .before in
-    inputs-fail (graphOf (s .args .graph .now)) (ruleOf (s .args .rule .now)) (well t s) (s .args .j) (s .args .v) (inside t s)
+    inputs-fail (graphOf (s .args .graph .now)) (fixedOf (s .args .rule .now)) (well t s) (s .args .j) (s .args .v) (inside t s)
     (d .match-inputs .ensures) (not-true _ (c .if1 .taken))
 
 match-candidate-settle-requires : (t : ℕ)
@@ -341,7 +342,7 @@ match-candidate-returns-2 t c =
     let b = c .before .before in
     let d = b .before in
     let s = d .before .before .before .before in
-    inputs-pass (graphOf (s .args .graph .now)) (ruleOf (s .args .rule .now)) (well t s) (s .args .j) (s .args .v) (inside t s)
+    inputs-pass (graphOf (s .args .graph .now)) (fixedOf (s .args .rule .now)) (well t s) (s .args .j) (s .args .v) (inside t s)
     (d .match-inputs .ensures) (not-false _ (b .if1 .left)) (next-is t s) (s .pre .1 .fresh) (c .settle .ensures)
 
 -- ---- match_vertex
@@ -355,17 +356,17 @@ place t s = omega (arith, s .pre .1 .vertex, s .pre .1 .setting .matchable .read
 -- whether v suits is whether it is a candidate for j
 suited : (t : ℕ) (c : match-vertex-lts.After-suits (match-vertex-calls t) (match-vertex-at t) match-vertex.Post)
     → let a = c .before .before .before .before .before .before .args in
-    c .suits .result ≡ isCandidate (graphOf (a .graph .now)) (ruleOf (a .rule .now)) (a .j) (a .v)
+    c .suits .result ≡ isCandidate (graphOf (a .graph .now)) (fixedOf (a .rule .now)) (a .j) (a .v)
 suited t c =
     let s = c .before .before .before .before .before .before in
-    c .suits .ensures ∙ candidate-suits (graphOf (s .args .graph .now)) (ruleOf (s .args .rule .now)) (s .args .j) (s .args .v)
+    c .suits .ensures ∙ candidate-suits (graphOf (s .args .graph .now)) (fixedOf (s .args .rule .now)) (s .args .j) (s .args .v)
     (headIn (c .before .before .pattern-head .result)) (getD (s .args .demands .now) (s .args .j) 0)
     (c .before .before .pattern-head .ensures) (s .pre .1 .setting .demands .1 (s .args .j) (s .pre .1 .vertex))
 
 -- where it does, the look said yes
 candidate : (t : ℕ) (c : match-vertex-lts.Else2 (match-vertex-calls t) (match-vertex-at t) match-vertex.Post)
     → let a = c .before .before .before .before .before .before .before .args in
-    isCandidate (graphOf (a .graph .now)) (ruleOf (a .rule .now)) (a .j) (a .v) ≡ true
+    isCandidate (graphOf (a .graph .now)) (fixedOf (a .rule .now)) (a .j) (a .v) ≡ true
 candidate t c = sym (suited t (c .before)) ∙ not-false _ (c .if2 .left)
 
 match-vertex-is-image-requires : (t : ℕ)
@@ -383,7 +384,7 @@ match-vertex-returns t c =
     let j = s .args .j in
     record {
       step = rw (c .is-image .ensures)
-          (mapped (graphOf (s .args .graph .now)) (ruleOf (s .args .rule .now)) (s .args .next) images p j (s .args .v) (getD images j 0)
+          (mapped (graphOf (s .args .graph .now)) (fixedOf (s .args .rule .now)) (s .args .next) images p j (s .args .v) (getD images j 0)
           (image-at images j (omega (arith, p .size, place t s))) (d .if1 .taken));
       afterNo = λ h f. absurd (omega (arith, d .if1 .taken));
     }
@@ -413,7 +414,7 @@ match-vertex-returns-2 t c =
     let d = c .before in
     let s = d .before .before .before .before .before .before in
     record {
-      step = no-candidate (graphOf (s .args .graph .now)) (ruleOf (s .args .rule .now))
+      step = no-candidate (graphOf (s .args .graph .now)) (fixedOf (s .args .rule .now))
           (formed (s .args .rule .now) (s .pre .1 .setting .matchable)) (s .args .j) (s .args .v)
           (rw (length-source (s .args .rule .now)) (s .pre .1 .vertex)) (s .pre .1 .partial .size)
           (sym (suited t d) ∙ not-true _ (c .if2 .taken));
@@ -444,7 +445,7 @@ match-vertex-returns-3 t c =
     record {
       step = c .match-candidate .ensures;
       afterNo = λ h f. absurd (true-not-false
-          (candidate-looked (graphOf (s .args .graph .now)) (ruleOf (s .args .rule .now)) (s .args .j) (s .args .v) (candidate t b)) f);
+          (candidate-looked (graphOf (s .args .graph .now)) (fixedOf (s .args .rule .now)) (s .args .j) (s .args .v) (candidate t b)) f);
     }
 
 pub +match-candidate+match-inputs+match-vertex-spec : {M : Type 1} → statement M

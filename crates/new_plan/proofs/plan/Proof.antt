@@ -9,13 +9,12 @@ use native.Mathlib.Omega.{arith}
 use Rattle.definitions.specs.declared.Reply.the-variants.{Done}
 use Rattle.definitions.specs.Reply.{noResult, noRoom, newCycle, refusal}
 use Rattle.definitions.specs.Graph.{graphVersion, Graph, graphOf, hasCycle}
-use Rattle.definitions.specs.Rule.{sideLimit, targetCount, ruleOf}
+use Rattle.definitions.specs.Rule.{targetCount}
 use Rattle.definitions.specs.Rewriting.{freeSlots}
+use Rattle.rule_fields.specs.Fixed.{fixedOf}
 use Rattle.laws.proofs.Graph.{length-slots}
-use Rattle.laws.proofs.Rule.{some-rule-outputs}
 use Rattle.graph_check.proofs.Readable.{graph-readable}
-use Rattle.rule_check.proofs.Readable.{rule-readable}
-use Rattle.attributes.proofs.Sound.{rule-evaluable}
+use Rattle.rule_sound.proofs.Working.{output-counts}
 use Rattle.encoding.specs.Tables.{Table}
 use Rattle.encoding.proofs.Blocks.{block-readable, block-closed, block-cycle, holdable}
 use Rattle.graph_fields.specs.Layout.{ReadableGraph, Closed}
@@ -49,8 +48,8 @@ all-fit-requires c κs =
     let s = c .before .before .before in
     record {
       table = graph-readable (graph s) (s .pre .0 .soundGraph);
-      patterns = rule-readable (rule s) (s .pre .0 .soundRule);
-      evaluable = rule-evaluable (rule s) (s .pre .0 .soundRule);
+      patterns = s .pre .0 .working .readable;
+      evaluable = s .pre .0 .working .evaluable;
       imageSize = s .pre .0 .size;
     }
 
@@ -93,7 +92,7 @@ lowest-free-requires c κs =
 target-count-requires : tie.Need-target-count-requires
 target-count-requires c κs =
     let s = c .before .before .before .before .before .before .before .before .before .before in
-    omega (arith, rule-readable (rule s) (s .pre .0 .soundRule) .whole .size)
+    omega (arith, s .pre .0 .working .readable .whole .size)
 
 -- past reply 5, with the free slots listed
 module _ (c : tie.After-lowest-free) where
@@ -106,14 +105,14 @@ module _ (c : tie.After-lowest-free) where
       let passed = c .before .before .before .before in
       fit-found _ _ (passed .before .before .all-fit .ensures) (passed .enum-told2 .given .1)
 
-  places : Lowest (freeSlots (graphOf (graph begun)) (ruleOf (rule begun)) (images begun)) (c .lowest-free .result .count)
+  places : Lowest (freeSlots (graphOf (graph begun)) (fixedOf (rule begun)) (images begun)) (c .lowest-free .result .count)
       (c .lowest-free .result .slots)
   places =
       let marks = c .before .before .before .find-free in
       let slots = c .before .slot-count .ensures .0 ∙ sym (length-slots (graph begun)) in
       subst (λ (free : List ℕ). Lowest free (c .lowest-free .result .count) (c .lowest-free .result .slots))
       (ap (marked (marks .result)) slots
-      ∙ marked-free (graphOf (graph begun)) (ruleOf (rule begun)) (images begun) (marks .result)
+      ∙ marked-free (graphOf (graph begun)) (fixedOf (rule begun)) (images begun) (marks .result)
       (rw (← length-slots (graph begun)) at (marks .ensures)))
       (c .lowest-free .ensures)
 
@@ -137,7 +136,7 @@ write-table-requires c κs =
       prepared (graph s) (rule s) (images s) (s .pre .0) (fit l) (l .lowest-free .result .count)
           (l .lowest-free .result .slots) (places l),
       (
-        some-rule-outputs (rule s) sideLimit (s .pre .0 .soundRule .header),
+        output-counts (rule s) (s .pre .0 .working) .0,
         (l .before .before .before .find-free .ensures, s .pre .1),
       ),
     )

@@ -8,8 +8,8 @@ use borrow.Author.Needs.{needs}
 use borrow.Author.Tests.{not-true, not-false}
 use lib.IntN.{ℤ}
 use Rattle.definitions.specs.Graph.{graphOf}
-use Rattle.definitions.specs.Rule.{ruleOf}
 use Rattle.definitions.specs.Rewriting.{stays}
+use Rattle.rule_fields.specs.Fixed.{fixedOf}
 use Rattle.new_vertices.specs.Slots.{valuesOf, fitResults}
 use Rattle.new_records.proofs.Records.{stands-staying, stands-target, stands-empty}
 use Rattle.new_records.proofs.new_record.Statement.{statement}
@@ -19,7 +19,7 @@ abbrev values : tie.Start → List (List ℤ)
 values s = valuesOf (fitResults (s .args .graph .now) (s .args .rule .now) (s .args .images .now))
 
 abbrev staysAt : tie.Start → Bool
-staysAt s = stays (graphOf (s .args .graph .now)) (ruleOf (s .args .rule .now)) (s .args .images .now) (s .args .k)
+staysAt s = stays (graphOf (s .args .graph .now)) (fixedOf (s .args .rule .now)) (s .args .images .now) (s .args .k)
 
 -- the slot that is not free holds a vertex that stays,
 kept : (c : tie.Then1) → staysAt (c .before .before .before) ≡ true

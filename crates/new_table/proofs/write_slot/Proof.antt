@@ -6,8 +6,8 @@ use Prim.Native.Nat.{ℕ, _<_}
 use native.Mathlib.Omega.{arith}
 use lib.ListN.{length, take, replicate}
 use Rattle.definitions.specs.Graph.{tailBytes, recordAt, graphOf, slotBlock}
-use Rattle.definitions.specs.Rule.{ruleOf}
 use Rattle.definitions.specs.Rewriting.{newSlot}
+use Rattle.rule_fields.specs.Fixed.{fixedOf}
 use Rattle.laws.proofs.Rewriting.{new-slot-at}
 use Rattle.laws.proofs.Graph.{length-slots}
 use Rattle.encoding.proofs.Tails.{zero-tail}
@@ -37,7 +37,7 @@ returns c =
     let n = w .before .before .before in
     let s = n .before .before .before .before in
     let g = graphOf (s .args .graph .now) in
-    let r = ruleOf (s .args .rule .now) in
+    let r = fixedOf (s .args .rule .now) in
     let images = s .args .images .now in
     let k = s .args .k in
     let values = valuesOf (fitResults (s .args .graph .now) (s .args .rule .now) images) in

@@ -10,8 +10,8 @@ use lib.ListN.{length, getD, take}
 use lib.Seq.{take-all}
 use Rattle.definitions.specs.Lists.{filter, range, tabulate, concatMap}
 use Rattle.definitions.specs.Graph.{headerBytes, slotBytes, slotCount, graphOf, recordBlock, recordsBlock}
-use Rattle.definitions.specs.Rule.{ruleOf}
 use Rattle.definitions.specs.Rewriting.{stays}
+use Rattle.rule_fields.specs.Fixed.{fixedOf}
 use Rattle.laws.proofs.Lists.{bit}
 use Rattle.laws.proofs.Filtered.{filtered-count}
 use Rattle.laws.proofs.Pieces.{pieces-more}
@@ -25,7 +25,7 @@ use Rattle.new_table.proofs.write_slots.Tie as tie
 
 -- how many slots below k are free after the removal
 abbrev freeBelow : List ℕ → List ℕ → List ℕ → ℕ → ℕ
-freeBelow graph rule images k = length (filter (λ i. not (stays (graphOf graph) (ruleOf rule) images i)) (range 0 k))
+freeBelow graph rule images k = length (filter (λ i. not (stays (graphOf graph) (fixedOf rule) images i)) (range 0 k))
 
 -- the first k slots of the new table, as bytes
 abbrev slotsBelow : List ℕ → List ℕ → List ℕ → ℕ → List ℕ
@@ -94,7 +94,7 @@ loop-again c =
     let inside : k < slotCount graph = omega (arith, l .before .slot-count .ensures .0) in
     let isFree = getD (s .args .free .now) k false in
     let more : freeBelow graph rule images (k + 1) ≡ freeBelow graph rule images k + cond isFree 1 0 =
-    rw (s .pre .1 .1 .0 .each k inside, add-one) (filtered-count (λ i. not (stays (graphOf graph) (ruleOf rule) images i)) k) in
+    rw (s .pre .1 .1 .0 .each k inside, add-one) (filtered-count (λ i. not (stays (graphOf graph) (fixedOf rule) images i)) k) in
     let made = recordBlock (λ i. 0) (newTable graph rule images) in (
       omega arith,
       c .before .before .table .given ∙ l .loop .inv .1,
@@ -123,7 +123,7 @@ returns c =
     let images = s .args .images .now in
     let all : l .loop .k ≡ length (newTable graph rule images .slots) =
     last ∙ l .before .slot-count .ensures .0 ∙ sym (length-slots graph)
-    ∙ sym (new-length (graphOf graph) (ruleOf rule) images (valuesOf (fitResults graph rule images))) in
+    ∙ sym (new-length (graphOf graph) (fixedOf rule) images (valuesOf (fitResults graph rule images))) in
     sym (take-all (headerBytes + slotBytes * l .loop .k) (l .loop .table) (omega (arith, l .loop .inv .1)))
     ∙ l .loop .inv .4
     ∙ ap (λ n. take headerBytes (s .args .table .now) ++ slotsBelow graph rule images n) all

@@ -7,8 +7,8 @@ use native.Mathlib.Omega.{arith}
 use lib.ListN.{length, length-map}
 use Rattle.definitions.specs.Lists.{padded}
 use Rattle.definitions.specs.Graph.{headerBytes, outputLimit, unusedPlace, graphVersion, slotCount, outputCount, graphOf, recordsBlock, headerBlock, blockAs}
-use Rattle.definitions.specs.Rule.{ruleOf}
 use Rattle.definitions.specs.Rewriting.{redirect, newSlot, newGraph}
+use Rattle.rule_fields.specs.Fixed.{fixedOf}
 use Rattle.laws.proofs.Lists.{length-tabulate, map-same}
 use Rattle.laws.proofs.Parts.{part-more}
 use Rattle.laws.proofs.Graph.{length-slots, length-outputs}
@@ -31,14 +31,14 @@ new-header : (graph rule images : List ℕ) (way : Redirection) → Redirects gr
 unfolding newTable newGraph
 new-header graph rule images way ways =
     let outputs = graphOf graph .outputs in
-    let after = map (redirect (graphOf graph) (ruleOf rule) images) outputs in
-    let same : map (moved way) outputs ≡ after = map-same (moved way) (redirect (graphOf graph) (ruleOf rule) images) outputs (λ v m. ways v) in
+    let after = map (redirect (graphOf graph) (fixedOf rule) images) outputs in
+    let same : map (moved way) outputs ≡ after = map-same (moved way) (redirect (graphOf graph) (fixedOf rule) images) outputs (λ v m. ways v) in
     let count : outputCount graph ≡ length after =
-    sym (length-outputs graph) ∙ sym (length-map outputs (redirect (graphOf graph) (ruleOf rule) images)) in
+    sym (length-outputs graph) ∙ sym (length-map outputs (redirect (graphOf graph) (fixedOf rule) images)) in
     let slots : slotCount graph ≡ length (newTable graph rule images .slots) =
     sym (length-slots graph)
     ∙ sym (length-tabulate (length (graphOf graph .slots))
-    (newSlot (graphOf graph) (ruleOf rule) images (valuesOf (fitResults graph rule images)))) in
+    (newSlot (graphOf graph) (fixedOf rule) images (valuesOf (fitResults graph rule images)))) in
     ap (λ n. headerWith n (outputCount graph) (padded outputLimit unusedPlace (map (moved way) outputs))) slots
     ∙ ap₂ (λ n l. headerWith (length (newTable graph rule images .slots)) n (padded outputLimit unusedPlace l)) count same
     ∙ header-bytes (length (newTable graph rule images .slots)) after

@@ -5,8 +5,9 @@ use native.Mathlib.Omega.{arith}
 use borrow.Author.Needs.{needs}
 use lib.ListN.{length-map}
 use Rattle.definitions.specs.Graph.{graphOf}
-use Rattle.definitions.specs.Rule.{ruleOf, targetOf}
+use Rattle.definitions.specs.Rule.{targetOf}
 use Rattle.definitions.specs.Rewriting.{resolve, targetSlot}
+use Rattle.rule_fields.specs.Fixed.{fixedOf}
 use Rattle.new_vertices.proofs.Records.{word-count, words-same, target-places}
 use Rattle.new_vertices.proofs.target_record.Statement.{statement}
 use Rattle.new_vertices.proofs.target_record.Tie as tie
@@ -68,7 +69,7 @@ returns c =
       kind = k .target-kind .ensures .0;
       operator = o .target-operator .ensures .0;
       inputCount = n .target-input-count .ensures .0
-          ∙ sym (length-map (targetOf (ruleOf rule) t .inputs) (resolve (graphOf graph) (ruleOf rule) images));
+          ∙ sym (length-map (targetOf (fixedOf rule) t .inputs) (resolve (graphOf graph) (fixedOf rule) images));
       attributeCount = d .target-attribute-count .ensures .0 ∙ word-count graph rule images t (p .known) (s .pre .1);
       inputs = target-places graph rule images (s .args .places .now) t p (s .pre .1) (e .target-inputs .ensures);
       attributes = words-same graph rule images t (p .known) (s .pre .1) _ _ (f .vertex-words .ensures .given);

@@ -3,7 +3,7 @@
 use mathlib.Core.Path.{_≡_, sym, ap, _∙_}
 use mathlib.Core.Bool.{true}
 use mathlib.Core.List.{List}
-use Prim.Native.Nat.{ℕ, _<_}
+use Prim.Native.Nat.{ℕ, _<_, _≤_}
 use native.Mathlib.Omega.{arith}
 use borrow.Author.Needs.{needs}
 use borrow.Author.Tests.{not-true, not-false}
@@ -16,7 +16,10 @@ use Rattle.definitions.specs.ReadElsewhere.{isMatchMap, isInner, elsewhereAnswe
 use Rattle.laws.proofs.Rule.{few-sources}
 use Rattle.laws.proofs.Operations.{asked-no-match, asked-no-vertex, asked-answer}
 use Rattle.graph_check.proofs.Readable.{graph-readable}
-use Rattle.rule_check.proofs.Readable.{rule-readable}
+use Rattle.rule_fields.specs.Fixed.{fixedOf}
+use Rattle.rule_nodes.specs.Working.{WorkingRule}
+use Rattle.rule_check.proofs.Readable.{rule-lent, rule-same, working}
+use Rattle.match_map.proofs.Laws.{lent-map}
 use Rattle.read_elsewhere.proofs.Laws.{asked-match, asked-vertex, asked-image, asked-slot}
 use Rattle.read_elsewhere.proofs.answer.Statement.{statement}
 use Rattle.read_elsewhere.proofs.answer.Tie as tie
@@ -41,11 +44,38 @@ map i = start i .args .map .now
 abbrev vertex : Tested → ℕ
 vertex i = start i .args .vertex
 
+-- the rule is worked on as it is lent
+module _ (s : tie.Start) where
+  abbrev block : List ℕ
+  block = s .args .rule .now
+
+  works : WorkingRule block
+  works = working block (s .pre .1 .0)
+
+  same : fixedOf block ≡ ruleOf block
+  same = rule-same block (s .pre .1 .0)
+
+  few-vertices : sourceCount block ≤ sideLimit
+  few-vertices = few-sources block sideLimit (s .pre .1 .0 .header)
+
 is-match-requires : tie.Need-is-match-requires
-is-match-requires c κs = search needs
+is-match-requires c κs =
+    let s = c .before .before .before in (
+      s .pre .0,
+      (works s, record { enough = omega (arith, few-vertices s, s .pre .1 .1); few = omega (arith, s .pre .1 .1) }),
+    )
+
+-- what is tested is whether the map is a match of the block's rule
+tested-map : (i : Tested) → i .before .is-match .result ≡ isMatchMap (graph i) (rule i) (map i)
+tested-map i =
+    let s = start i in
+    i .before .is-match .ensures ∙ lent-map (graph i) (rule i) (map i) (rule-lent (rule i) (s .pre .1 .0)) (s .pre .1 .1)
+
+tested-inner : (i : Tested) → i .is-inner .result ≡ isInner (ruleOf (rule i)) (vertex i)
+tested-inner i = rw (same (start i)) at (i .is-inner .ensures)
 
 is-inner-requires : tie.Need-is-inner-requires
-is-inner-requires c κs = let s = c .before .before .before .before in rule-readable (s .args .rule .now) (s .pre .1 .0) .whole
+is-inner-requires c κs = let s = c .before .before .before .before in works s .readable .whole
 
 refuse-requires : tie.Need-refuse-requires
 refuse-requires c κs = search needs
@@ -55,7 +85,7 @@ returns c =
     let t = c .before in
     let i = t .before in
     c .refuse .ensures
-    ∙ sym (asked-no-match (graph i) (rule i) (map i) (vertex i) (sym (i .before .is-match .ensures) ∙ not-true _ (t .if1 .taken)))
+    ∙ sym (asked-no-match (graph i) (rule i) (map i) (vertex i) (sym (tested-map i) ∙ not-true _ (t .if1 .taken)))
 
 -- ---- the map is a match
 
@@ -63,7 +93,7 @@ abbrev Matched : Type 0
 Matched = tie.Else1
 
 matches : (e : Matched) → isMatchMap (graph (e .before)) (rule (e .before)) (map (e .before)) ≡ true
-matches e = sym (e .before .before .is-match .ensures) ∙ not-false _ (e .if1 .left)
+matches e = sym (tested-map (e .before)) ∙ not-false _ (e .if1 .left)
 
 refuse-requires-2 : tie.Need-refuse-requires-2
 refuse-requires-2 c κs = search needs
@@ -74,7 +104,7 @@ returns-2 c =
     let e = t .before in
     let i = e .before in
     c .refuse2 .ensures
-    ∙ sym (asked-no-vertex (graph i) (rule i) (map i) (vertex i) (matches e) (sym (i .is-inner .ensures) ∙ not-true _ (t .if2 .taken)))
+    ∙ sym (asked-no-vertex (graph i) (rule i) (map i) (vertex i) (matches e) (sym (tested-inner i) ∙ not-true _ (t .if2 .taken)))
 
 -- ---- and the vertex may be asked about
 
@@ -85,13 +115,13 @@ abbrev tested : Good → Tested
 tested a = a .before .before
 
 inner : (a : Good) → isInner (ruleOf (rule (tested a))) (vertex (tested a)) ≡ true
-inner a = sym (tested a .is-inner .ensures) ∙ not-false _ (a .if2 .left)
+inner a = sym (tested-inner (tested a)) ∙ not-false _ (a .if2 .left)
 
 inside : (a : Good) → vertex (tested a) < sourceCount (rule (tested a))
 inside a = let i = tested a in asked-vertex (graph i) (rule i) (map i) (vertex i) (inner a)
 
 few : (a : Good) → vertex (tested a) < sideLimit
-few a = let i = tested a in omega (arith, inside a, few-sources (rule i) sideLimit (start i .pre .1 .0 .header))
+few a = let i = tested a in omega (arith, inside a, few-vertices (start i))
 
 mul-u16-at : tie.Need-mul-u16-at
 mul-u16-at c = omega (arith, few c)
@@ -112,7 +142,7 @@ stored-count-requires : tie.Need-stored-count-requires
 stored-count-requires c κs = let i = tested (c .before) in (graph-readable (graph i) (start i .pre .0) .whole, slot c)
 
 named-elsewhere-requires : tie.Need-named-elsewhere-requires
-named-elsewhere-requires c κs = let a = c .before .before in (start (tested a) .pre .1 .0, inside a)
+named-elsewhere-requires c κs = let a = c .before .before in (works (start (tested a)), inside a)
 
 answer-with-requires : tie.Need-answer-with-requires
 answer-with-requires c κs = search needs
@@ -132,7 +162,7 @@ returns-3 c =
     let count : trueCount g (imageOf images (vertex i)) ≡ k .stored-count .result =
     ap (trueCount g) image ∙ sym (start i .pre .0 .counts (u .u16-at .result) (slot u)) ∙ sym (k .stored-count .ensures .0) in
     c .answer-with .ensures
-    ∙ ap answered (n .named-elsewhere .ensures .means g images (is a) count)
+    ∙ ap answered (rw (same (start i)) at (n .named-elsewhere .ensures .means g images (rw (same (start i)) (is a)) count))
     ∙ sym (asked-answer (graph i) (rule i) (map i) (vertex i) (matches (a .before)) (inner a))
 
 pub answer-spec : {M : Type 1} → statement M

@@ -6,9 +6,9 @@ use native.Mathlib.Omega.{arith}
 use borrow.Author.Needs.{needs}
 use borrow.Author.Tests.{lt-ltb, le-ltb}
 use lib.ListN.{length}
-use Rattle.definitions.specs.Rule.{ruleOf}
 use Rattle.definitions.specs.ReadElsewhere.{isInner}
-use Rattle.laws.proofs.Rule.{length-source}
+use Rattle.rule_fields.specs.Fixed.{fixedOf}
+use Rattle.rule_fields.proofs.Fixed.{length-source}
 use Rattle.read_elsewhere.proofs.is_inner.Statement.{statement}
 use Rattle.read_elsewhere.proofs.is_inner.Tie as tie
 
@@ -21,7 +21,7 @@ returns c =
     let n = c .before in
     let s = n .before .before in
     let block = s .args .rule .now in
-    simp (le-ltb (s .args .vertex) (length (ruleOf block .source)) (omega (arith, length-source block, n .source-count .ensures .0, c .if1 .taken)))
+    simp (le-ltb (s .args .vertex) (length (fixedOf block .source)) (omega (arith, length-source block, n .source-count .ensures .0, c .if1 .taken)))
 
 is-rule-input-requires : tie.Need-is-rule-input-requires
 is-rule-input-requires c κs = search needs
@@ -33,7 +33,7 @@ returns-2 c =
     let n = e .before in
     let s = n .before .before in
     let block = s .args .rule .now in
-    simp (lt-ltb (s .args .vertex) (length (ruleOf block .source)) (omega (arith, length-source block, n .source-count .ensures .0, e .if1 .left)))
+    simp (lt-ltb (s .args .vertex) (length (fixedOf block .source)) (omega (arith, length-source block, n .source-count .ensures .0, e .if1 .left)))
     (ap not (c .is-rule-input .ensures))
 
 pub is-inner-spec : {M : Type 1} → statement M

@@ -38,7 +38,7 @@ answer-requires : tie.Need-answer-requires
 answer-requires c κs =
     let a = start c .args in
     let blocks = blocks-done (a .graph .now) (a .rule .now) (a .map .now) (good c) in
-    (blocks .1, (blocks .2, blocks .0))
+    (blocks .soundGraph, (blocks .soundRule, blocks .mapSize))
 
 returns-2 : tie.Need-returns-2
 returns-2 c =

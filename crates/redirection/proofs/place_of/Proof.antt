@@ -14,7 +14,7 @@ element-copy-out-result c = search needs
 returns : tie.Need-returns
 returns c =
     let s = c .before .before in
-    resolve-given (s .args .images .now) (s .args .places .now) (s .args .p) (c .before .if1 .taken) (s .pre .0 .imageSize)
+    resolve-given (s .args .images .now) (s .args .places .now) (s .args .split) (s .args .p) (s .pre .1 .0) (c .before .if1 .taken) (s .pre .0 .imageSize)
 
 mul-result-2 : tie.Need-mul-result-2
 mul-result-2 c = search needs
@@ -25,7 +25,7 @@ element-copy-out-result-2 c = search needs
 returns-2 : tie.Need-returns-2
 returns-2 c =
     let s = c .before .before in
-    resolve-made (s .args .images .now) (s .args .places .now) (s .args .p) (c .before .if1 .left) (s .pre .1) (s .pre .0 .placeSize)
+    resolve-made (s .args .images .now) (s .args .places .now) (s .args .split) (s .args .p) (c .before .if1 .left) (s .pre .1 .1) (s .pre .0 .placeSize)
 
 pub place-of-spec : {M : Type 1} → statement M
 place-of-spec =

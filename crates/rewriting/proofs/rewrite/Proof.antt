@@ -5,13 +5,14 @@ use mathlib.Core.Path.{_≡_, sym, ap, ap₂, _∙_}
 use mathlib.Core.Bool.{true}
 use mathlib.Core.List.{List}
 use Prim.Native.Nat.{ℕ}
+use native.Mathlib.Omega.{arith}
 use borrow.Author.Tests.{not-true, not-false}
-use lib.ListN.{take}
+use lib.ListN.{take, length-take}
 use Rattle.definitions.specs.declared.Reply.the-variants.{Done, Refused}
 use Rattle.definitions.specs.Reply.{done}
 use Rattle.definitions.specs.Rule.{sourceCount}
-use Rattle.definitions.specs.Operations.{outcome, blocksReply}
-use Rattle.blocks.proofs.Laws.{map-bytes, blocks-done}
+use Rattle.definitions.specs.Operations.{mapPlaces, outcome, blocksReply}
+use Rattle.blocks.proofs.Laws.{map-bytes, GoodBlocks, blocks-done}
 use Rattle.rewriting.proofs.Outcome.{blocks-refused, nothing-found, turned-down, table-left, matched}
 use borrow.Author.Needs.{needs}
 use Rattle.rewriting.proofs.rewrite.Statement.{statement}
@@ -33,6 +34,9 @@ module _ (c : tie.After-enum-told) where
 
   good : blocksReply graph rule map ≡ Done (c .enum-told .given .0 .0)
   good = sym (c .before .before .check-blocks .ensures) ∙ c .enum-told .given .1
+
+  goods : GoodBlocks graph rule map
+  goods = blocks-done graph rule map good
 
 check-blocks-requires : tie.Need-check-blocks-requires
 check-blocks-requires c κs = search needs
@@ -58,7 +62,7 @@ enum-told : tie.Need-enum-told
 enum-told c = search needs
 
 least-match-requires : tie.Need-least-match-requires
-least-match-requires c κs = let b = c .before in let g = blocks-done (graph b) (rule b) (map b) (good b) in (g .1, g .2)
+least-match-requires c κs = let b = c .before in (goods b .soundGraph, goods b .working)
 
 refuse-requires : tie.Need-refuse-requires
 refuse-requires c κs = search needs
@@ -75,7 +79,7 @@ returns-2 c =
     let l = t .before .before in
     let b = l .before .before in
     ap (λ r. outcome r (graph b) (map b)) (c .refuse .ensures)
-    ∙ nothing-found (graph b) (rule b) (start b .args .start) (map b) (good b) (l .least-match .ensures .none (not-true _ (t .if1 .taken)))
+    ∙ nothing-found (graph b) (rule b) (start b .args .start) (map b) (good b) (rw (goods b .same) at (l .least-match .ensures .none (not-true _ (t .if1 .taken))))
 
 -- a match was found
 module _ (c : tie.Else1) where
@@ -98,8 +102,7 @@ replace-requires : tie.Need-replace-requires
 replace-requires c κs =
     let e = c .before .before .before in
     let b = begun e in
-    let sound = blocks-done (graph b) (rule b) (map b) (good b) in
-    matched (graph b) (rule b) (start b .args .start) (searched e .least-match .result .ok) (images e) (sound .1) (sound .2)
+    matched (graph b) (rule b) (start b .args .start) (searched e .least-match .result .ok) (images e) (goods b .soundGraph) (goods b .working)
     (searched e .least-match .ensures) (success e)
 
 enum-known-refusal-2 : tie.Need-enum-known-refusal-2
@@ -120,17 +123,28 @@ returns-3 c =
     let why = r .refusal2 .given .0 .0 in
     let left = p .replace .ensures .refused why (r .refusal2 .given .1) in
     ap (λ g. outcome (Refused why) g (map b)) (left .1)
-    ∙ turned-down (graph b) (rule b) (start b .args .start) (map b) (good b) (found e) (searched e .least-match .ensures .found (success e))
-    why (left .0)
+    ∙ turned-down (graph b) (rule b) (start b .args .start) (map b) (good b) (found e) (rw (goods b .same) at (searched e .least-match .ensures .found (success e)))
+    why (rw (goods b .same) at (left .0))
 
 enum-told-2 : tie.Need-enum-told-2
 enum-told-2 c = search needs
 
+sub-write-map : tie.Need-sub-write-map
+sub-write-map c = search needs
+
+part-write-map-start : tie.Need-part-write-map-start
+part-write-map-start c = search needs
+
+part-write-map-end : tie.Need-part-write-map-end
+part-write-map-end c =
+    let e = c .before .before .before .before .before .before .before .before .before .before in
+    omega (arith, searched e .least-match .ensures .size (success e))
+
 write-map-requires : tie.Need-write-map-requires
 write-map-requires c κs =
-    let e = c .before .before .before .before .before .before .before .before .before .before in
+    let e = c .before .before .before .before .before .before .before .before .before .before .before in
     let b = begun e in
-    (blocks-done (graph b) (rule b) (map b) (good b) .0, search (needs, searched e .least-match .ensures .size (success e)))
+    omega (arith, goods b .mapSize, length-take mapPlaces (images e), searched e .least-match .ensures .size (success e))
 
 same-length-7 : tie.Need-same-length-7
 same-length-7 c = search needs
@@ -141,7 +155,7 @@ same-length-8 c = search needs
 returns-4 : tie.Need-returns-4
 returns-4 c =
     let w = c .before .before in
-    let z = w .before .before .before in
+    let z = w .before .before .before .before in
     let p = z .before .before .before .before in
     let e = p .before .before .before .before in
     let b = begun e in
@@ -149,8 +163,8 @@ returns-4 c =
     let left = p .replace .ensures .done _ (z .enum-told2 .given .1) in
     ap₂ (outcome done) (left .2)
     (w .write-map .ensures
-    ∙ map-bytes (sourceCount (rule b)) (images e) (finds .size (success e)) (finds .small (success e)) (finds .rest (success e)))
-    ∙ table-left (graph b) (rule b) (start b .args .start) (map b) (good b) (found e) (finds .found (success e)) (left .0) (left .1)
+    ∙ map-bytes (sourceCount (rule b)) (images e) (omega (arith, finds .size (success e))) (goods b .few) (finds .rest (success e)))
+    ∙ table-left (graph b) (rule b) (start b .args .start) (map b) (good b) (found e) (rw (goods b .same) at (finds .found (success e))) (left .0) (rw (goods b .same) at (left .1))
 
 pub rewrite-spec : {M : Type 1} → statement M
 rewrite-spec =
@@ -173,6 +187,9 @@ rewrite-spec =
     same-length-6
     returns-3
     enum-told-2
+    sub-write-map
+    part-write-map-start
+    part-write-map-end
     write-map-requires
     same-length-7
     same-length-8

@@ -36,10 +36,10 @@ node-top-requires c κs =
     (s .pre .0, (omega arith, all-fit (s .args .rule .now) (s .pre .1) (h .loop .k) (omega arith)))
 
 mul-tops : tie.Need-mul-tops Inv-loop μ-loop
-mul-tops c = omega (arith, start c .pre .0 .nodes)
+mul-tops c = omega (arith, start c .pre .0 .fewNodes)
 
 array-write-tops : tie.Need-array-write-tops Inv-loop μ-loop
-array-write-tops c = omega (arith, start c .pre .0 .nodes)
+array-write-tops c = omega (arith, start c .pre .0 .fewNodes)
 
 add-k : tie.Need-add-k Inv-loop μ-loop
 add-k c = omega arith
@@ -53,7 +53,7 @@ loop-again c =
     let s = start c in (
       omega arith,
       tops-more (s .args .rule .now) (h .loop .k) (h .loop .tops) (h .loop .inv .1) (c .node-top .result)
-          (omega (arith, s .pre .0 .nodes)) (c .node-top .ensures),
+          (omega (arith, s .pre .0 .fewNodes)) (c .node-top .ensures),
     )
 
 returns : tie.Need-returns Inv-loop μ-loop

@@ -37,7 +37,7 @@ vertex-uses-fit-requires : tie.Need-vertex-uses-fit-requires Inv-loop μ-loop
 vertex-uses-fit-requires c κs =
     let t = c .before .before .before in
     let s = t .before .before .before .before in
-    (s .pre .0, (omega arith, t .access-tops .ensures))
+    (s .pre .0, (s .pre .1 .0, (omega arith, t .access-tops .ensures)))
 
 returns : tie.Need-returns Inv-loop μ-loop
 returns c =

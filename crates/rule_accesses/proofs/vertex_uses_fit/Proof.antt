@@ -30,7 +30,7 @@ count s = byteAt (s .args .rule .now) (vertexAt (s .args .v) + 3)
 few : (c : tie.In-loop Inv-loop μ-loop) → c .before .loop .i < 6
 few c =
     let s = start c in
-    omega (arith, s .pre .0 .attributes (s .args .v) (s .pre .1 .0), c .loop-test .taken, c .before .before .byte-at .ensures .0)
+    omega (arith, s .pre .0 .attributes (s .args .v) (s .pre .1 .1 .0), c .loop-test .taken, c .before .before .byte-at .ensures .0)
 
 fits-read : (f : tie.After-use-fits Inv-loop μ-loop)
     → fits (start (f .before .before)) (f .before .before .before .loop .i) ≡ f .use-fits .result
@@ -64,7 +64,7 @@ byte-at-requires-2 : tie.Need-byte-at-requires-2 Inv-loop μ-loop
 byte-at-requires-2 c κs = omega (arith, start c .pre .0 .whole .size, few c)
 
 use-fits-requires : tie.Need-use-fits-requires Inv-loop μ-loop
-use-fits-requires c κs = let s = start (c .before) in (s .pre .0 .whole, s .pre .1 .1)
+use-fits-requires c κs = let s = start (c .before) in (s .pre .1 .0, s .pre .1 .1 .1)
 
 returns : tie.Need-returns Inv-loop μ-loop
 unfolding badUse

@@ -7,14 +7,15 @@ use Prim.Native.Nat.{ℕ, _-_}
 use native.Mathlib.Omega.{arith}
 use lib.ListN.{drop, getD}
 use Rattle.definitions.specs.Lists.{any}
-use Rattle.definitions.specs.Rule.{ruleOf, sourceInputs}
+use Rattle.definitions.specs.Rule.{sourceInputs}
+use Rattle.rule_fields.specs.Fixed.{fixedOf}
 use Rattle.laws.proofs.Walks.{any-found, any-turn, any-ends}
 use Rattle.rule_connection.proofs.has_marked_input.Statement.{statement}
 use Rattle.rule_connection.proofs.has_marked_input.Tie as tie
 
 abbrev Inv-loop : tie.InvT-loop
 Inv-loop rule w found count i₀ i =
-    let xs = sourceInputs (ruleOf rule) w in
+    let xs = sourceInputs (fixedOf rule) w in
     any (λ u. getD found u false) xs ≡ any (λ u. getD found u false) (drop i xs)
 
 abbrev μ-loop : tie.MeasureT-loop
@@ -40,7 +41,7 @@ returns c =
     let d = c .before .before in
     let h = d .before .before in
     let a = h .before .before .before .args in
-    sym (any-found (λ u. getD (a .found .now) u false) (sourceInputs (ruleOf (a .rule .now)) (a .w)) (h .loop .i) 255 (h .loop .inv) (omega arith)
+    sym (any-found (λ u. getD (a .found .now) u false) (sourceInputs (fixedOf (a .rule .now)) (a .w)) (h .loop .i) 255 (h .loop .inv) (omega arith)
     (ap (λ (u : ℕ). getD (a .found .now) u false) (sym (d .source-input .ensures .0)) ∙ c .if1 .taken))
 
 add-i : tie.Need-add-i Inv-loop μ-loop
@@ -54,14 +55,14 @@ loop-again c =
     let d = c .before .before in
     let h = d .before .before in
     let a = h .before .before .before .args in
-    any-turn (λ u. getD (a .found .now) u false) (sourceInputs (ruleOf (a .rule .now)) (a .w)) (h .loop .i) 255 (h .loop .inv) (omega arith)
+    any-turn (λ u. getD (a .found .now) u false) (sourceInputs (fixedOf (a .rule .now)) (a .w)) (h .loop .i) 255 (h .loop .inv) (omega arith)
     (ap (λ (u : ℕ). getD (a .found .now) u false) (sym (d .source-input .ensures .0)) ∙ c .if1 .left)
 
 returns-2 : tie.Need-returns-2 Inv-loop μ-loop
 returns-2 c =
     let h = c .before in
     let a = h .before .before .before .args in
-    sym (any-ends (λ u. getD (a .found .now) u false) (sourceInputs (ruleOf (a .rule .now)) (a .w)) (h .loop .i) (h .loop .inv) (omega arith))
+    sym (any-ends (λ u. getD (a .found .now) u false) (sourceInputs (fixedOf (a .rule .now)) (a .w)) (h .loop .i) (h .loop .inv) (omega arith))
 
 pub has-marked-input-spec : {M : Type 1} → statement M
 has-marked-input-spec =

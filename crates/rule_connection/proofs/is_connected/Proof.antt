@@ -7,14 +7,15 @@ use Prim.Native.Nat.{_-_, _≤_}
 use native.Mathlib.Omega.{arith}
 use lib.ListN.{length}
 use Rattle.definitions.specs.Lists.{anyBelow, all}
-use Rattle.definitions.specs.Rule.{ruleOf, reaches, connected}
-use Rattle.laws.proofs.Rule.{length-source}
+use Rattle.definitions.specs.Rule.{reaches, connected}
+use Rattle.rule_fields.specs.Fixed.{fixedOf}
+use Rattle.rule_fields.proofs.Fixed.{length-source}
 use Rattle.laws.proofs.Lists.{anyBelow-step, anyBelow-found}
 use Rattle.rule_connection.proofs.is_connected.Statement.{statement}
 use Rattle.rule_connection.proofs.is_connected.Tie as tie
 
 abbrev Inv-loop : tie.InvT-loop
-Inv-loop rule count v₀ v = (v ≤ count) × (anyBelow (λ u. all (reaches (ruleOf rule) u) (ruleOf rule .sourceOutputs)) v ≡ false)
+Inv-loop rule count v₀ v = (v ≤ count) × (anyBelow (λ u. all (reaches (fixedOf rule) u) (fixedOf rule .sourceOutputs)) v ≡ false)
 
 abbrev μ-loop : tie.MeasureT-loop
 μ-loop rule count v₀ v = count - v
@@ -34,7 +35,7 @@ unfolding connected
 returns c =
     let h = c .before .before .before in
     let a = h .before .before .before .args in
-    let r = ruleOf (a .rule .now) in
+    let r = fixedOf (a .rule .now) in
     sym (anyBelow-found (λ u. all (reaches r u) (r .sourceOutputs)) (length (r .source)) (h .loop .v)
     (omega (arith, length-source (a .rule .now))) (sym (c .before .reaches-outputs .ensures) ∙ c .if1 .taken))
 
@@ -48,7 +49,7 @@ loop-again : tie.Need-loop-again Inv-loop μ-loop
 loop-again c =
     let h = c .before .before .before in
     let a = h .before .before .before .args in
-    let r = ruleOf (a .rule .now) in (
+    let r = fixedOf (a .rule .now) in (
       omega arith,
       anyBelow-step (λ u. all (reaches r u) (r .sourceOutputs)) (h .loop .v) (h .loop .inv .1)
           (sym (c .before .reaches-outputs .ensures) ∙ c .if1 .left),
@@ -59,7 +60,7 @@ unfolding connected
 returns-2 c =
     let h = c .before in
     let a = h .before .before .before .args in
-    let r = ruleOf (a .rule .now) in
+    let r = fixedOf (a .rule .now) in
     let all-seen : length (r .source) ≡ h .loop .v = omega (arith, length-source (a .rule .now)) in
     sym (rw all-seen (h .loop .inv .1))
 

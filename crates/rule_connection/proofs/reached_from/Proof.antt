@@ -8,15 +8,16 @@ use Prim.Native.Nat.{_-_, _≤_}
 use native.Mathlib.Omega.{arith}
 use lib.ListN.{replicate}
 use Rattle.definitions.specs.Lists.{build}
-use Rattle.definitions.specs.Rule.{sideCapacity, ruleOf}
-use Rattle.laws.proofs.Rule.{length-source}
+use Rattle.definitions.specs.Rule.{sideCapacity}
+use Rattle.rule_fields.specs.Fixed.{fixedOf}
+use Rattle.rule_fields.proofs.Fixed.{length-source}
 use Rattle.rule_connection.specs.Reached.{reachedNext}
 use Rattle.rule_connection.proofs.Laws.{reached-more, reached-all}
 use Rattle.rule_connection.proofs.reached_from.Statement.{statement}
 use Rattle.rule_connection.proofs.reached_from.Tie as tie
 
 abbrev Inv-loop : tie.InvT-loop
-Inv-loop rule v count found₀ w₀ found w = (w ≤ count) × (found ≡ build (reachedNext (ruleOf rule) v) w ++ replicate (sideCapacity - w) false)
+Inv-loop rule v count found₀ w₀ found w = (w ≤ count) × (found ≡ build (reachedNext (fixedOf rule) v) w ++ replicate (sideCapacity - w) false)
 
 abbrev μ-loop : tie.MeasureT-loop
 μ-loop rule v count found₀ w₀ found w = count - w
@@ -47,7 +48,7 @@ loop-again c =
     let h = c .before .before .before in
     let s = h .before .before .before in (
       omega arith,
-      reached-more (ruleOf (s .args .rule .now)) (s .args .v) (h .loop .w) (h .loop .found) (h .loop .inv .1) (c .reaches-next .result)
+      reached-more (fixedOf (s .args .rule .now)) (s .args .v) (h .loop .w) (h .loop .found) (h .loop .inv .1) (c .reaches-next .result)
           (omega (arith, s .pre .readable .whole .source)) (c .reaches-next .ensures),
     )
 
@@ -55,7 +56,7 @@ returns : tie.Need-returns Inv-loop μ-loop
 returns c =
     let h = c .before in
     let s = h .before .before .before in
-    (λ w l. reached-all (ruleOf (s .args .rule .now)) (s .args .v) (h .loop .w) (h .loop .found) (h .loop .inv .1)
+    (λ w l. reached-all (fixedOf (s .args .rule .now)) (s .args .v) (h .loop .w) (h .loop .found) (h .loop .inv .1)
     (omega (arith, length-source (s .args .rule .now))) w)
 
 pub reached-from-spec : {M : Type 1} → statement M

@@ -6,16 +6,17 @@ use Prim.Native.Nat.{_-_}
 use native.Mathlib.Omega.{arith}
 use lib.ListN.{drop}
 use Rattle.definitions.specs.Lists.{all}
-use Rattle.definitions.specs.Rule.{ruleOf, reaches}
-use Rattle.laws.proofs.Rule.{length-source-outputs}
+use Rattle.definitions.specs.Rule.{reaches}
+use Rattle.rule_fields.specs.Fixed.{fixedOf}
+use Rattle.rule_fields.proofs.Fixed.{length-source-outputs}
 use Rattle.laws.proofs.Walks.{all-failed, all-turn, all-ends}
 use Rattle.rule_connection.proofs.reaches_outputs.Statement.{statement}
 use Rattle.rule_connection.proofs.reaches_outputs.Tie as tie
 
 abbrev Inv-loop : tie.InvT-loop
 Inv-loop rule v count found i₀ i =
-    let xs = ruleOf rule .sourceOutputs in
-    all (reaches (ruleOf rule) v) xs ≡ all (reaches (ruleOf rule) v) (drop i xs)
+    let xs = fixedOf rule .sourceOutputs in
+    all (reaches (fixedOf rule) v) xs ≡ all (reaches (fixedOf rule) v) (drop i xs)
 
 abbrev μ-loop : tie.MeasureT-loop
 μ-loop rule v count found i₀ i = count - i
@@ -49,7 +50,7 @@ loop-again c =
     let d = c .before in
     let h = d .before .before in
     let s = h .before .before .before .before in
-    let r = ruleOf (s .args .rule .now) in
+    let r = fixedOf (s .args .rule .now) in
     all-turn (reaches r (s .args .v)) (r .sourceOutputs) (h .loop .i) 255 (h .loop .inv)
     (omega (arith, length-source-outputs (s .args .rule .now)))
     (ap (reaches r (s .args .v)) (sym (d .source-output .ensures .0)) ∙ sym (h .before .reached-from .ensures (d .source-output .result)
@@ -60,7 +61,7 @@ returns c =
     let d = c .before in
     let h = d .before .before in
     let s = h .before .before .before .before in
-    let r = ruleOf (s .args .rule .now) in
+    let r = fixedOf (s .args .rule .now) in
     sym (all-failed (reaches r (s .args .v)) (r .sourceOutputs) (h .loop .i) 255 (h .loop .inv)
     (omega (arith, length-source-outputs (s .args .rule .now)))
     (ap (reaches r (s .args .v)) (sym (d .source-output .ensures .0)) ∙ sym (h .before .reached-from .ensures (d .source-output .result)
@@ -70,7 +71,7 @@ returns-2 : tie.Need-returns-2 Inv-loop μ-loop
 returns-2 c =
     let h = c .before in
     let s = h .before .before .before .before in
-    let r = ruleOf (s .args .rule .now) in
+    let r = fixedOf (s .args .rule .now) in
     sym (all-ends (reaches r (s .args .v)) (r .sourceOutputs) (h .loop .i) (h .loop .inv) (omega (arith, length-source-outputs (s .args .rule .now))))
 
 pub reaches-outputs-spec : {M : Type 1} → statement M

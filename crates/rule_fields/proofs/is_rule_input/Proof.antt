@@ -3,7 +3,7 @@
 use native.Mathlib.Omega.{arith}
 use borrow.Author.Tests.{lt-ltb, le-ltb, eq-eqb, ne-eqb}
 use Rattle.definitions.specs.Rule.{sourceCount, inputKind, isRuleInput}
-use Rattle.laws.proofs.Rule.{length-source}
+use Rattle.rule_fields.proofs.Fixed.{length-source}
 use borrow.Author.Needs.{needs}
 use Rattle.rule_fields.proofs.is_rule_input.Statement.{statement}
 use Rattle.rule_fields.proofs.is_rule_input.Tie as tie

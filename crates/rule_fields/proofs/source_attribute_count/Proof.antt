@@ -2,7 +2,7 @@
 -- Assumes nothing.
 use mathlib.Core.Path.{_∙_, sym}
 use native.Mathlib.Omega.{arith}
-use Rattle.laws.proofs.Rule.{source-attributes-at}
+use Rattle.rule_fields.proofs.Fixed.{source-attributes-at}
 use borrow.Author.Needs.{needs}
 use Rattle.rule_fields.proofs.source_attribute_count.Statement.{statement}
 use Rattle.rule_fields.proofs.source_attribute_count.Tie as tie

@@ -6,7 +6,7 @@ use native.Mathlib.Omega.{arith}
 use Rattle.definitions.specs.Fields.{byteAt}
 use Rattle.definitions.specs.Graph.{inputLimit}
 use Rattle.definitions.specs.Rule.{vertexAt}
-use Rattle.laws.proofs.Rule.{source-count-at, source-input-at}
+use Rattle.rule_fields.proofs.Fixed.{source-count-at, source-input-at}
 use Rattle.rule_fields.proofs.source_input.Statement.{statement}
 use Rattle.rule_fields.proofs.source_input.Tie as tie
 

@@ -2,7 +2,7 @@
 -- Assumes nothing.
 use mathlib.Core.Path.{_∙_, sym}
 use native.Mathlib.Nat.{add-zero}
-use Rattle.laws.proofs.Rule.{source-kind-at}
+use Rattle.rule_fields.proofs.Fixed.{source-kind-at}
 use borrow.Author.Needs.{needs}
 use Rattle.rule_fields.proofs.source_kind.Statement.{statement}
 use Rattle.rule_fields.proofs.source_kind.Tie as tie

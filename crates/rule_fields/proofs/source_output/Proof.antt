@@ -2,7 +2,7 @@
 -- Assumes nothing.
 use mathlib.Core.Path.{_∙_, sym}
 use native.Mathlib.Omega.{arith}
-use Rattle.laws.proofs.Rule.{source-output-of}
+use Rattle.rule_fields.proofs.Fixed.{source-output-of}
 use borrow.Author.Needs.{needs}
 use Rattle.rule_fields.proofs.source_output.Statement.{statement}
 use Rattle.rule_fields.proofs.source_output.Tie as tie

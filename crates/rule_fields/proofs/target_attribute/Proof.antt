@@ -1,33 +1,40 @@
--- The node of an attribute stands in its byte of the record.
+-- The attribute is the expression of its node.
 -- Assumes nothing.
-use mathlib.Core.Path.{_≡_, _∙_, sym, ap}
-use Prim.Native.Nat.{_+_, _<_}
+use mathlib.Core.Path.{_≡_, sym, ap, _∙_}
+use Prim.Native.Nat.{ℕ, _+_}
 use native.Mathlib.Omega.{arith}
-use Rattle.definitions.specs.Fields.{byteAt}
-use Rattle.definitions.specs.Graph.{attributeLimit}
-use Rattle.definitions.specs.Rule.{sourceCount, vertexAt, anything, expressionOf}
-use Rattle.laws.proofs.Rule.{target-attributes-at, target-attribute-at}
+use Rattle.definitions.specs.Rule.{sourceCount, anything}
+use Rattle.rule_fields.specs.Fixed.{expressionIn, attributeNode}
+use Rattle.rule_fields.proofs.Fixed.{target-attributes-at, target-attribute-at, attribute-expression}
+use borrow.Author.Needs.{needs}
 use Rattle.rule_fields.proofs.target_attribute.Statement.{statement}
 use Rattle.rule_fields.proofs.target_attribute.Tie as tie
 
--- the record has a place for it
-few : (s : tie.Start) → s .args .i < attributeLimit
-few s = omega (arith, s .pre .0 .attributes (sourceCount (s .args .rule .now) + s .args .t) (omega arith), target-attributes-at (s .args .rule .now) (s .args .t) (s .pre .1 .0))
+source-count-requires : tie.Need-source-count-requires
+source-count-requires c κs = search needs
 
-add-target-byte : tie.Need-add-target-byte
-add-target-byte c = omega (arith, few (c .before))
+add-vertex : tie.Need-add-vertex
+add-vertex c = search needs
 
-target-byte-requires : tie.Need-target-byte-requires
-target-byte-requires c κs = (c .before .pre .0 .whole, (c .before .pre .1 .0, omega (arith, few (c .before))))
+attribute-node-requires : tie.Need-attribute-node-requires
+attribute-node-requires c κs =
+    let s = c .before .before in
+    let block = s .args .rule .now in
+    let few = s .pre .0 .attributes (sourceCount block + s .args .t) (omega arith) in
+    (s .pre .0 .whole, (omega (arith, c .source-count .ensures .0), omega (arith, few, target-attributes-at block (s .args .t) (s .pre .1 .0))))
 
 returns : tie.Need-returns
 returns c =
-    let s = c .before .before in
-    let node : c .target-byte .result ≡ byteAt (s .args .rule .now) (vertexAt (sourceCount (s .args .rule .now) + s .args .t) + 10 + s .args .i) =
-    c .target-byte .ensures .0 ∙ ap (byteAt (s .args .rule .now)) (omega arith) in (
-      ap (expressionOf (s .args .rule .now)) node ∙ sym (target-attribute-at (s .args .rule .now) (s .args .t) (s .args .i) anything (s .pre .1 .0) (s .pre .1 .1)),
+    let s = c .before .before .before in
+    let block = s .args .rule .now in
+    let node : c .attribute-node .result ≡ attributeNode block (sourceCount block + s .args .t) (s .args .i) =
+    c .attribute-node .ensures ∙ ap (λ (v : ℕ). attributeNode block (v + s .args .t) (s .args .i)) (c .before .source-count .ensures .0) in (
+      ap (expressionIn block) node
+          ∙ attribute-expression block (sourceCount block + s .args .t) (s .args .i)
+          ∙ sym (target-attribute-at block (s .args .t) (s .args .i) anything (s .pre .1 .0) (s .pre .1 .1)),
       node,
     )
 
 pub target-attribute-spec : {M : Type 1} → statement M
-target-attribute-spec = tie.close (tie.spec add-target-byte target-byte-requires returns)
+target-attribute-spec =
+    tie.close (tie.spec source-count-requires add-vertex attribute-node-requires returns)

@@ -4,7 +4,7 @@ use mathlib.Core.Path.{_∙_, sym}
 use Prim.Native.Nat.{_+_}
 use native.Mathlib.Omega.{arith}
 use Rattle.definitions.specs.Rule.{sourceCount}
-use Rattle.laws.proofs.Rule.{target-attributes-at}
+use Rattle.rule_fields.proofs.Fixed.{target-attributes-at}
 use borrow.Author.Needs.{needs}
 use Rattle.rule_fields.proofs.target_attribute_count.Statement.{statement}
 use Rattle.rule_fields.proofs.target_attribute_count.Tie as tie

@@ -2,8 +2,9 @@
 -- Assumes nothing.
 use mathlib.Core.Path.{_∙_, sym, ap}
 use native.Mathlib.Omega.{arith}
-use Rattle.definitions.specs.Rule.{made, originOf}
-use Rattle.laws.proofs.Rule.{target-output-of}
+use Rattle.definitions.specs.Rule.{made}
+use Rattle.rule_fields.proofs.Fixed.{target-output-of}
+use Rattle.rule_fields.specs.Fixed.{originIn}
 use borrow.Author.Needs.{needs}
 use Rattle.rule_fields.proofs.target_output.Statement.{statement}
 use Rattle.rule_fields.proofs.target_output.Tie as tie
@@ -17,7 +18,7 @@ byte-at-requires c κs = search needs
 returns : tie.Need-returns
 returns c =
     let s = c .before .before in
-    (ap originOf (c .byte-at .ensures .0) ∙ sym (target-output-of (s .args .rule .now) (s .args .i) (made 255) (s .pre .1)), omega arith)
+    (ap (originIn (s .args .rule .now)) (c .byte-at .ensures .0) ∙ sym (target-output-of (s .args .rule .now) (s .args .i) (made 255) (s .pre .1)), omega arith)
 
 pub target-output-spec : {M : Type 1} → statement M
 target-output-spec = tie.close (tie.spec add-byte-at byte-at-requires returns)

@@ -2,7 +2,8 @@
 -- Assumes nothing.
 use mathlib.Core.Path.{sym, ap, _∙_}
 use native.Mathlib.Omega.{arith}
-use Rattle.definitions.specs.Rule.{ruleOf, named}
+use Rattle.definitions.specs.Rule.{named}
+use Rattle.rule_fields.specs.Fixed.{splitIn, fixedOf}
 use Rattle.rule_names.proofs.Laws.{given-place}
 use borrow.Author.Needs.{needs}
 use Rattle.rule_names.proofs.input_named.Statement.{statement}
@@ -18,7 +19,7 @@ returns : tie.Need-returns
 returns c =
     let s = c .before .before .before .before in
     simp (sym (c .before .before .is-rule-input .ensures) ∙ c .before .if1 .taken)
-    (s .pre .1 .1 (s .args .j) ∙ ap (named (ruleOf (s .args .rule .now))) (given-place (s .args .j) (omega (arith, s .pre .0 .source))))
+    (s .pre .1 .1 (s .args .j) ∙ ap (named (fixedOf (s .args .rule .now))) (given-place (splitIn (s .args .rule .now)) (s .args .j) (omega (arith, s .pre .0 .split))))
 
 returns-2 : tie.Need-returns-2
 returns-2 c = simp (sym (c .before .is-rule-input .ensures) ∙ c .if1 .left)

@@ -7,15 +7,15 @@ use Prim.Native.Nat.{_-_, _≤_}
 use native.Mathlib.Omega.{arith}
 use lib.ListN.{length}
 use Rattle.definitions.specs.Lists.{allBelow}
-use Rattle.definitions.specs.Rule.{ruleOf}
+use Rattle.rule_fields.specs.Fixed.{fixedOf}
 use Rattle.laws.proofs.Lists.{allBelow-step, allBelow-fails}
-use Rattle.laws.proofs.Rule.{length-source}
+use Rattle.rule_fields.proofs.Fixed.{length-source}
 use Rattle.rule_names.specs.Marks.{inputNamed}
 use Rattle.rule_names.proofs.inputs_named.Statement.{statement}
 use Rattle.rule_names.proofs.inputs_named.Tie as tie
 
 abbrev Inv-loop : tie.InvT-loop
-Inv-loop rule used count j₀ j = (j ≤ count) × (allBelow (inputNamed (ruleOf rule)) j ≡ true)
+Inv-loop rule used count j₀ j = (j ≤ count) × (allBelow (inputNamed (fixedOf rule)) j ≡ true)
 
 abbrev μ-loop : tie.MeasureT-loop
 μ-loop rule used count j₀ j = count - j
@@ -41,7 +41,7 @@ loop-less c = omega arith
 loop-again : tie.Need-loop-again Inv-loop μ-loop
 loop-again c =
     let h = c .before .before .before in
-    let r = ruleOf (h .before .before .before .args .rule .now) in (
+    let r = fixedOf (h .before .before .before .args .rule .now) in (
       omega arith,
       allBelow-step (inputNamed r) (h .loop .j) (h .loop .inv .1)
           (sym (c .before .input-named .ensures) ∙ c .if1 .taken),
@@ -51,7 +51,7 @@ returns : tie.Need-returns Inv-loop μ-loop
 returns c =
     let h = c .before .before .before in
     let a = h .before .before .before .args in
-    let r = ruleOf (a .rule .now) in
+    let r = fixedOf (a .rule .now) in
     sym (allBelow-fails (inputNamed r) (length (r .source)) (h .loop .j)
     (omega (arith, length-source (a .rule .now))) (sym (c .before .input-named .ensures) ∙ c .if1 .left))
 
@@ -59,7 +59,7 @@ returns-2 : tie.Need-returns-2 Inv-loop μ-loop
 returns-2 c =
     let h = c .before in
     let a = h .before .before .before .args in
-    let seen : length (ruleOf (a .rule .now) .source) ≡ h .loop .j = omega (arith, length-source (a .rule .now)) in
+    let seen : length (fixedOf (a .rule .now) .source) ≡ h .loop .j = omega (arith, length-source (a .rule .now)) in
     sym (rw seen (h .loop .inv .1))
 
 pub inputs-named-spec : {M : Type 1} → statement M

@@ -3,14 +3,15 @@
 use Prim.Native.Nat.{_-_}
 use native.Mathlib.Omega.{arith}
 use borrow.Author.Needs.{needs}
-use Rattle.definitions.specs.Rule.{ruleOf, made}
-use Rattle.laws.proofs.Rule.{length-target-outputs}
+use Rattle.definitions.specs.Rule.{made}
+use Rattle.rule_fields.specs.Fixed.{splitIn, fixedOf}
+use Rattle.rule_fields.proofs.Fixed.{length-target-outputs}
 use Rattle.rule_names.proofs.Laws.{Marking, marking-begins, marking-more, marking-ends}
 use Rattle.rule_names.proofs.mark_outputs.Statement.{statement}
 use Rattle.rule_names.proofs.mark_outputs.Tie as tie
 
 abbrev Inv-loop : tie.InvT-loop
-Inv-loop rule used₀ outputs i₀ used i = Marking (ruleOf rule .targetOutputs) i used₀ used
+Inv-loop rule used₀ outputs i₀ used i = Marking (splitIn rule) (fixedOf rule .targetOutputs) i used₀ used
 
 abbrev μ-loop : tie.MeasureT-loop
 μ-loop rule used₀ outputs i₀ used i = outputs - i
@@ -21,7 +22,7 @@ output-count-requires c κs = search needs
 loop-holds : tie.Need-loop-holds Inv-loop μ-loop
 loop-holds c =
     let s = c .before .before in
-    marking-begins (ruleOf (s .args .rule .now) .targetOutputs) (s .args .used .now) (s .pre .1)
+    marking-begins (splitIn (s .args .rule .now)) (fixedOf (s .args .rule .now) .targetOutputs) (s .args .used .now) (s .pre .1)
 
 target-output-requires : tie.Need-target-output-requires Inv-loop μ-loop
 target-output-requires c κs = search needs
@@ -39,14 +40,14 @@ loop-again : tie.Need-loop-again Inv-loop μ-loop
 loop-again c =
     let h = c .before .before in
     let block = h .before .before .before .args .rule .now in
-    marking-more (ruleOf block .targetOutputs) (h .loop .i) (h .loop .inv) (c .target-output .result) (made 255) (omega arith)
+    marking-more (splitIn block) (fixedOf block .targetOutputs) (h .loop .i) (h .loop .inv) (c .target-output .result) (made 255) (omega arith)
     (omega (arith, length-target-outputs block)) (c .target-output .ensures .0)
 
 returns : tie.Need-returns Inv-loop μ-loop
 returns c =
     let h = c .before in
     let block = h .before .before .before .args .rule .now in
-    marking-ends (ruleOf block .targetOutputs) (h .loop .i) (h .loop .inv) (omega (arith, length-target-outputs block))
+    marking-ends (splitIn block) (fixedOf block .targetOutputs) (h .loop .i) (h .loop .inv) (omega (arith, length-target-outputs block))
 
 pub mark-outputs-spec : {M : Type 1} → statement M
 mark-outputs-spec =

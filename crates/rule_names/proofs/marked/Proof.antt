@@ -3,14 +3,14 @@
 use Prim.Native.Nat.{_-_}
 use native.Mathlib.Omega.{arith}
 use borrow.Author.Needs.{needs}
-use Rattle.definitions.specs.Rule.{ruleOf}
-use Rattle.laws.proofs.Rule.{length-target}
+use Rattle.rule_fields.proofs.Fixed.{length-target}
 use Rattle.rule_names.proofs.Laws.{VerticesMarking, vertices-begin, vertices-more, all-marked}
 use Rattle.rule_names.proofs.marked.Statement.{statement}
 use Rattle.rule_names.proofs.marked.Tie as tie
+use Rattle.rule_fields.specs.Fixed.{splitIn, fixedOf}
 
 abbrev Inv-loop : tie.InvT-loop
-Inv-loop rule used₀ count t₀ used t = VerticesMarking (ruleOf rule) t used
+Inv-loop rule used₀ count t₀ used t = VerticesMarking (splitIn rule) (fixedOf rule) t used
 
 abbrev μ-loop : tie.MeasureT-loop
 μ-loop rule used₀ count t₀ used t = count - t
@@ -19,7 +19,7 @@ target-count-requires : tie.Need-target-count-requires Inv-loop μ-loop
 target-count-requires c κs = search needs
 
 loop-holds : tie.Need-loop-holds Inv-loop μ-loop
-loop-holds c = vertices-begin (ruleOf (c .before .before .args .rule .now))
+loop-holds c = vertices-begin (splitIn (c .before .before .args .rule .now)) (fixedOf (c .before .before .args .rule .now))
 
 mark-inputs-requires : tie.Need-mark-inputs-requires Inv-loop μ-loop
 mark-inputs-requires c κs = search needs
@@ -34,7 +34,7 @@ loop-again : tie.Need-loop-again Inv-loop μ-loop
 loop-again c =
     let h = c .before .before .before in
     let block = h .before .before .before .args .rule .now in
-    vertices-more (ruleOf block) (h .loop .t) (h .loop .inv) (omega (arith, length-target block)) (c .mark-inputs .ensures)
+    vertices-more (splitIn block) (fixedOf block) (h .loop .t) (h .loop .inv) (omega (arith, length-target block)) (c .mark-inputs .ensures)
 
 mark-outputs-requires : tie.Need-mark-outputs-requires Inv-loop μ-loop
 mark-outputs-requires c κs = search needs
@@ -43,7 +43,7 @@ returns : tie.Need-returns Inv-loop μ-loop
 returns c =
     let h = c .before .before .before in
     let block = h .before .before .before .args .rule .now in
-    all-marked (ruleOf block) (h .loop .t) (h .loop .inv) (omega (arith, length-target block)) (c .mark-outputs .ensures)
+    all-marked (splitIn block) (fixedOf block) (h .loop .t) (h .loop .inv) (omega (arith, length-target block)) (c .mark-outputs .ensures)
 
 pub marked-spec : {M : Type 1} → statement M
 marked-spec =

@@ -6,7 +6,8 @@ use borrow.Author.Tests.{not-true, not-false}
 use borrow.Fn.Kinds.{In}
 use borrow.Fn.PlainCycle.{Measures, is, falls, and}
 use lib.ListN.{length}
-use Rattle.definitions.specs.Rule.{ruleOf, sourceInputs}
+use Rattle.definitions.specs.Rule.{sourceInputs}
+use Rattle.rule_fields.specs.Fixed.{fixedOf}
 use Rattle.rule_order.proofs.Laws.{visited-before, inputs-wrong, not-next, is-next, inputs-done, input-wrong, input-passed}
 use Rattle.rule_order.proofs.visit.Reads as visit
 use Rattle.rule_order.proofs.visit.Kinds as visit-kinds
@@ -104,7 +105,7 @@ visit-returns-4 t c =
 
 -- where there is an input left, it is lower than its vertex
 left : (t : ℕ) (c : visit-inputs-lts.Else1 (visit-inputs-calls t) (visit-inputs-at t) visit-inputs.Post)
-    → let a = c .before .before .before .args in a .i < length (sourceInputs (ruleOf (a .rule .now)) (a .v))
+    → let a = c .before .before .before .args in a .i < length (sourceInputs (fixedOf (a .rule .now)) (a .v))
 left t c = omega arith
 
 lower : (t : ℕ) (c : visit-inputs-lts.After-source-input (visit-inputs-calls t) (visit-inputs-at t) visit-inputs.Post)

@@ -8,15 +8,15 @@ use borrow.Author.Tests.{eq-eqb, ne-eqb}
 use lib.Dec.{eqb}
 use lib.ListN.{drop, getD}
 use Rattle.definitions.specs.Lists.{any, member}
-use Rattle.definitions.specs.Rule.{ruleOf}
-use Rattle.laws.proofs.Rule.{length-source-outputs}
+use Rattle.rule_fields.specs.Fixed.{fixedOf}
+use Rattle.rule_fields.proofs.Fixed.{length-source-outputs}
 use Rattle.laws.proofs.Walks.{any-found, any-turn, any-ends, member-any}
 use Rattle.rule_outputs.proofs.comes_again.Statement.{statement}
 use Rattle.rule_outputs.proofs.comes_again.Tie as tie
 
 abbrev Inv-loop : tie.InvT-loop
 Inv-loop rule i count o k₀ k =
-    let xs = ruleOf rule .sourceOutputs in
+    let xs = fixedOf rule .sourceOutputs in
     member (getD xs i 255) (drop (i + 1) xs) ≡ any (eqb (getD xs i 255)) (drop k xs)
 
 abbrev μ-loop : tie.MeasureT-loop
@@ -34,7 +34,7 @@ add-k c = omega arith
 loop-holds : tie.Need-loop-holds Inv-loop μ-loop
 loop-holds c =
     let a = c .before .before .before .args in
-    let xs = ruleOf (a .rule .now) .sourceOutputs in
+    let xs = fixedOf (a .rule .now) .sourceOutputs in
     member-any (getD xs (a .i) 255) (drop (a .i + 1) xs)
 
 source-output-requires-2 : tie.Need-source-output-requires-2 Inv-loop μ-loop
@@ -44,7 +44,7 @@ returns : tie.Need-returns Inv-loop μ-loop
 returns c =
     let h = c .before .before .before in
     let a = h .before .before .before .before .args in
-    let xs = ruleOf (a .rule .now) .sourceOutputs in
+    let xs = fixedOf (a .rule .now) .sourceOutputs in
     sym (any-found (eqb (getD xs (a .i) 255)) xs (h .loop .k) 255 (h .loop .inv)
     (omega (arith, length-source-outputs (a .rule .now)))
     (eq-eqb _ _ (sym (h .before .source-output .ensures .0) ∙ sym (c .if1 .taken) ∙ c .before .source-output2 .ensures .0)))
@@ -59,7 +59,7 @@ loop-again : tie.Need-loop-again Inv-loop μ-loop
 loop-again c =
     let h = c .before .before .before in
     let a = h .before .before .before .before .args in
-    let xs = ruleOf (a .rule .now) .sourceOutputs in
+    let xs = fixedOf (a .rule .now) .sourceOutputs in
     any-turn (eqb (getD xs (a .i) 255)) xs (h .loop .k) 255 (h .loop .inv)
     (omega (arith, length-source-outputs (a .rule .now)))
     (ne-eqb _ _ (λ e. c .if1 .left (c .before .source-output2 .ensures .0 ∙ sym e ∙ sym (h .before .source-output .ensures .0))))
@@ -68,7 +68,7 @@ returns-2 : tie.Need-returns-2 Inv-loop μ-loop
 returns-2 c =
     let h = c .before in
     let a = h .before .before .before .before .args in
-    let xs = ruleOf (a .rule .now) .sourceOutputs in
+    let xs = fixedOf (a .rule .now) .sourceOutputs in
     sym (any-ends (eqb (getD xs (a .i) 255)) xs (h .loop .k) (h .loop .inv) (omega (arith, length-source-outputs (a .rule .now))))
 
 pub comes-again-spec : {M : Type 1} → statement M

@@ -6,14 +6,15 @@ use Prim.Native.Nat.{_-_}
 use native.Mathlib.Omega.{arith}
 use lib.ListN.{drop}
 use Rattle.definitions.specs.Lists.{any, member}
-use Rattle.definitions.specs.Rule.{ruleOf, sourceOf, wildcard}
-use Rattle.laws.proofs.Rule.{length-source}
+use Rattle.definitions.specs.Rule.{sourceOf, wildcard}
+use Rattle.rule_fields.specs.Fixed.{fixedOf}
+use Rattle.rule_fields.proofs.Fixed.{length-source}
 use Rattle.laws.proofs.Walks.{any-found, any-turn, any-ends}
 use Rattle.rule_outputs.proofs.is_read.Statement.{statement}
 use Rattle.rule_outputs.proofs.is_read.Tie as tie
 
 abbrev Inv-loop : tie.InvT-loop
-Inv-loop rule o count j₀ j = any (λ p. member o (p .inputs)) (ruleOf rule .source) ≡ any (λ p. member o (p .inputs)) (drop j (ruleOf rule .source))
+Inv-loop rule o count j₀ j = any (λ p. member o (p .inputs)) (fixedOf rule .source) ≡ any (λ p. member o (p .inputs)) (drop j (fixedOf rule .source))
 
 abbrev μ-loop : tie.MeasureT-loop
 μ-loop rule o count j₀ j = count - j
@@ -32,7 +33,7 @@ unfolding sourceOf
 returns c =
     let h = c .before .before .before in
     let a = h .before .before .before .args in
-    sym (any-found (λ p. member (a .o) (p .inputs)) (ruleOf (a .rule .now) .source) (h .loop .j) wildcard (h .loop .inv)
+    sym (any-found (λ p. member (a .o) (p .inputs)) (fixedOf (a .rule .now) .source) (h .loop .j) wildcard (h .loop .inv)
     (omega (arith, length-source (a .rule .now))) (sym (c .before .source-reads .ensures) ∙ c .if1 .taken))
 
 add-j : tie.Need-add-j Inv-loop μ-loop
@@ -46,14 +47,14 @@ unfolding sourceOf
 loop-again c =
     let h = c .before .before .before in
     let a = h .before .before .before .args in
-    any-turn (λ p. member (a .o) (p .inputs)) (ruleOf (a .rule .now) .source) (h .loop .j) wildcard (h .loop .inv)
+    any-turn (λ p. member (a .o) (p .inputs)) (fixedOf (a .rule .now) .source) (h .loop .j) wildcard (h .loop .inv)
     (omega (arith, length-source (a .rule .now))) (sym (c .before .source-reads .ensures) ∙ c .if1 .left)
 
 returns-2 : tie.Need-returns-2 Inv-loop μ-loop
 returns-2 c =
     let h = c .before in
     let a = h .before .before .before .args in
-    sym (any-ends (λ p. member (a .o) (p .inputs)) (ruleOf (a .rule .now) .source) (h .loop .j) (h .loop .inv)
+    sym (any-ends (λ p. member (a .o) (p .inputs)) (fixedOf (a .rule .now) .source) (h .loop .j) (h .loop .inv)
     (omega (arith, length-source (a .rule .now))))
 
 pub is-read-spec : {M : Type 1} → statement M

@@ -6,8 +6,8 @@ use Prim.Native.Nat.{_-_}
 use native.Mathlib.Omega.{arith}
 use lib.ListN.{drop}
 use Rattle.definitions.specs.Lists.{all}
-use Rattle.definitions.specs.Rule.{ruleOf}
-use Rattle.laws.proofs.Rule.{length-source-outputs}
+use Rattle.rule_fields.specs.Fixed.{fixedOf}
+use Rattle.rule_fields.proofs.Fixed.{length-source-outputs}
 use Rattle.laws.proofs.Walks.{all-failed, all-turn, all-ends}
 use Rattle.rule_outputs.specs.Outputs.{mayBeOutput}
 use Rattle.rule_outputs.proofs.may_all_be_outputs.Statement.{statement}
@@ -15,8 +15,8 @@ use Rattle.rule_outputs.proofs.may_all_be_outputs.Tie as tie
 
 abbrev Inv-loop : tie.InvT-loop
 Inv-loop rule count i₀ i =
-    let xs = ruleOf rule .sourceOutputs in
-    all (mayBeOutput (ruleOf rule)) xs ≡ all (mayBeOutput (ruleOf rule)) (drop i xs)
+    let xs = fixedOf rule .sourceOutputs in
+    all (mayBeOutput (fixedOf rule)) xs ≡ all (mayBeOutput (fixedOf rule)) (drop i xs)
 
 abbrev μ-loop : tie.MeasureT-loop
 μ-loop rule count i₀ i = count - i
@@ -47,7 +47,7 @@ loop-again c =
     let d = c .before .before in
     let h = d .before .before in
     let a = h .before .before .before .args in
-    let r = ruleOf (a .rule .now) in
+    let r = fixedOf (a .rule .now) in
     all-turn (mayBeOutput r) (r .sourceOutputs) (h .loop .i) 255 (h .loop .inv)
     (omega (arith, length-source-outputs (a .rule .now)))
     (ap (mayBeOutput r) (sym (d .source-output .ensures .0)) ∙ sym (c .before .may-be-output .ensures) ∙ c .if1 .taken)
@@ -57,7 +57,7 @@ returns c =
     let d = c .before .before in
     let h = d .before .before in
     let a = h .before .before .before .args in
-    let r = ruleOf (a .rule .now) in
+    let r = fixedOf (a .rule .now) in
     sym (all-failed (mayBeOutput r) (r .sourceOutputs) (h .loop .i) 255 (h .loop .inv)
     (omega (arith, length-source-outputs (a .rule .now)))
     (ap (mayBeOutput r) (sym (d .source-output .ensures .0)) ∙ sym (c .before .may-be-output .ensures) ∙ c .if1 .left))
@@ -66,7 +66,7 @@ returns-2 : tie.Need-returns-2 Inv-loop μ-loop
 returns-2 c =
     let h = c .before in
     let a = h .before .before .before .args in
-    let r = ruleOf (a .rule .now) in
+    let r = fixedOf (a .rule .now) in
     sym (all-ends (mayBeOutput r) (r .sourceOutputs) (h .loop .i) (h .loop .inv) (omega (arith, length-source-outputs (a .rule .now))))
 
 pub may-all-be-outputs-spec : {M : Type 1} → statement M

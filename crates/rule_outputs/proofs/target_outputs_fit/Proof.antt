@@ -6,16 +6,17 @@ use Prim.Native.Nat.{_-_}
 use native.Mathlib.Omega.{arith}
 use lib.ListN.{length, drop}
 use Rattle.definitions.specs.Lists.{all}
-use Rattle.definitions.specs.Rule.{ruleOf, originFits, made}
-use Rattle.laws.proofs.Rule.{length-target, length-target-outputs}
+use Rattle.definitions.specs.Rule.{originFits, made}
+use Rattle.rule_fields.specs.Fixed.{fixedOf}
+use Rattle.rule_fields.proofs.Fixed.{length-target, length-target-outputs}
 use Rattle.laws.proofs.Walks.{all-failed, all-turn, all-ends}
 use Rattle.rule_outputs.proofs.target_outputs_fit.Statement.{statement}
 use Rattle.rule_outputs.proofs.target_outputs_fit.Tie as tie
 
 abbrev Inv-loop : tie.InvT-loop
 Inv-loop rule vertices count i₀ i =
-    let xs = ruleOf rule .targetOutputs in
-    let fits = originFits (ruleOf rule) (length (ruleOf rule .target)) in
+    let xs = fixedOf rule .targetOutputs in
+    let fits = originFits (fixedOf rule) (length (fixedOf rule .target)) in
     all fits xs ≡ all fits (drop i xs)
 
 abbrev μ-loop : tie.MeasureT-loop
@@ -47,7 +48,7 @@ loop-again c =
     let d = c .before .before in
     let h = d .before .before in
     let a = h .before .before .before .before .args in
-    let r = ruleOf (a .rule .now) in
+    let r = fixedOf (a .rule .now) in
     let vertices : h .before .before .target-count .result ≡ length (r .target) = h .before .before .target-count .ensures .0 ∙ sym (length-target (a .rule .now)) in
     all-turn (originFits r (length (r .target))) (r .targetOutputs) (h .loop .i) (made 255) (h .loop .inv)
     (omega (arith, length-target-outputs (a .rule .now)))
@@ -58,7 +59,7 @@ returns c =
     let d = c .before .before in
     let h = d .before .before in
     let a = h .before .before .before .before .args in
-    let r = ruleOf (a .rule .now) in
+    let r = fixedOf (a .rule .now) in
     let vertices : h .before .before .target-count .result ≡ length (r .target) = h .before .before .target-count .ensures .0 ∙ sym (length-target (a .rule .now)) in
     sym (all-failed (originFits r (length (r .target))) (r .targetOutputs) (h .loop .i) (made 255) (h .loop .inv)
     (omega (arith, length-target-outputs (a .rule .now)))
@@ -68,7 +69,7 @@ returns-2 : tie.Need-returns-2 Inv-loop μ-loop
 returns-2 c =
     let h = c .before in
     let a = h .before .before .before .before .args in
-    let r = ruleOf (a .rule .now) in
+    let r = fixedOf (a .rule .now) in
     sym (all-ends (originFits r (length (r .target))) (r .targetOutputs) (h .loop .i) (h .loop .inv) (omega (arith, length-target-outputs (a .rule .now))))
 
 pub target-outputs-fit-spec : {M : Type 1} → statement M

@@ -8,14 +8,15 @@ use borrow.Author.Count.{below-more, below-none}
 use borrow.Author.Tests.{lt-ltb, le-ltb}
 use lib.Dec.{ltb}
 use lib.ListN.{getD}
-use Rattle.definitions.specs.Rule.{ruleOf, sourceInputs, sourceInputsFit}
+use Rattle.definitions.specs.Rule.{sourceInputs, sourceInputsFit}
+use Rattle.rule_fields.specs.Fixed.{fixedOf}
 use Rattle.laws.proofs.Lists.{all-every, all-fails}
-use Rattle.laws.proofs.Rule.{source-count-at, source-input-at}
+use Rattle.rule_fields.proofs.Fixed.{source-count-at, source-input-at}
 use Rattle.rule_records.proofs.source_inputs_fit.Statement.{statement}
 use Rattle.rule_records.proofs.source_inputs_fit.Tie as tie
 
 abbrev Inv-loop : tie.InvT-loop
-Inv-loop rule j at inputs i₀ i = (i ≤ inputs) × ((k : ℕ) → k < i → ltb (getD (sourceInputs (ruleOf rule) j) k 255) j ≡ true)
+Inv-loop rule j at inputs i₀ i = (i ≤ inputs) × ((k : ℕ) → k < i → ltb (getD (sourceInputs (fixedOf rule) j) k 255) j ≡ true)
 
 abbrev μ-loop : tie.MeasureT-loop
 μ-loop rule j at inputs i₀ i = inputs - i
@@ -35,7 +36,7 @@ byte-at-requires c κs = omega (arith, c .before .pre .0 .size)
 loop-holds : tie.Need-loop-holds Inv-loop μ-loop
 loop-holds c =
     let a = c .before .before .args in
-    (omega arith, below-none (λ k. ltb (getD (sourceInputs (ruleOf (a .rule .now)) (a .j)) k 255) (a .j) ≡ true))
+    (omega arith, below-none (λ k. ltb (getD (sourceInputs (fixedOf (a .rule .now)) (a .j)) k 255) (a .j) ≡ true))
 
 add-byte-at-2 : tie.Need-add-byte-at-2 Inv-loop μ-loop
 add-byte-at-2 c = omega arith
@@ -57,8 +58,8 @@ returns c =
     let rule = a .rule .now in
     let count = source-count-at rule (a .j) (p .pre .1 .0) in
     let here = source-input-at rule (a .j) (s .loop .i) 255 (p .pre .1 .0) (omega (arith, count, s .before .byte-at .ensures .0)) in
-    sym (all-fails (λ u. ltb u (a .j)) 255 (sourceInputs (ruleOf rule) (a .j)) (s .loop .i) (omega (arith, count, s .before .byte-at .ensures .0))
-    (le-ltb (getD (sourceInputs (ruleOf rule) (a .j)) (s .loop .i) 255) (a .j) (omega (arith, here, c .before .byte-at2 .ensures .0))))
+    sym (all-fails (λ u. ltb u (a .j)) 255 (sourceInputs (fixedOf rule) (a .j)) (s .loop .i) (omega (arith, count, s .before .byte-at .ensures .0))
+    (le-ltb (getD (sourceInputs (fixedOf rule) (a .j)) (s .loop .i) 255) (a .j) (omega (arith, here, c .before .byte-at2 .ensures .0))))
 
 add-i : tie.Need-add-i Inv-loop μ-loop
 add-i c = omega arith
@@ -75,8 +76,8 @@ loop-again c =
     let count = source-count-at rule (a .j) (p .pre .1 .0) in
     let here = source-input-at rule (a .j) (s .loop .i) 255 (p .pre .1 .0) (omega (arith, count, s .before .byte-at .ensures .0)) in (
       omega arith,
-      below-more (λ k. ltb (getD (sourceInputs (ruleOf rule) (a .j)) k 255) (a .j) ≡ true) (s .loop .i) (s .loop .inv .1)
-          (lt-ltb (getD (sourceInputs (ruleOf rule) (a .j)) (s .loop .i) 255) (a .j) (omega (arith, here, c .before .byte-at2 .ensures .0))),
+      below-more (λ k. ltb (getD (sourceInputs (fixedOf rule) (a .j)) k 255) (a .j) ≡ true) (s .loop .i) (s .loop .inv .1)
+          (lt-ltb (getD (sourceInputs (fixedOf rule) (a .j)) (s .loop .i) 255) (a .j) (omega (arith, here, c .before .byte-at2 .ensures .0))),
     )
 
 returns-2 : tie.Need-returns-2 Inv-loop μ-loop
@@ -87,7 +88,7 @@ returns-2 c =
     let a = p .args in
     let rule = a .rule .now in
     let count = source-count-at rule (a .j) (p .pre .1 .0) in
-    sym (all-every (λ u. ltb u (a .j)) 255 (sourceInputs (ruleOf rule) (a .j)) (λ k h. s .loop .inv .1 k (omega (arith, count, s .before .byte-at .ensures .0))))
+    sym (all-every (λ u. ltb u (a .j)) 255 (sourceInputs (fixedOf rule) (a .j)) (λ k h. s .loop .inv .1 k (omega (arith, count, s .before .byte-at .ensures .0))))
 
 pub source-inputs-fit-spec : {M : Type 1} → statement M
 source-inputs-fit-spec =

@@ -7,14 +7,15 @@ use native.Mathlib.Omega.{arith}
 use borrow.Author.Count.{below-more, below-none}
 use borrow.Author.Tests.{eq-eqb, ne-eqb, not-true, not-false}
 use lib.ListN.{length, getD}
-use Rattle.definitions.specs.Rule.{made, originOf, ruleOf, targetOf, inputKind, originFits, targetInputsFit}
+use Rattle.definitions.specs.Rule.{made, targetOf, inputKind, originFits, targetInputsFit}
+use Rattle.rule_fields.specs.Fixed.{originIn, fixedOf}
 use Rattle.laws.proofs.Lists.{all-every, all-fails}
-use Rattle.laws.proofs.Rule.{target-kind-at, target-count-at, target-input-at}
+use Rattle.rule_fields.proofs.Fixed.{target-kind-at, target-count-at, target-input-at}
 use Rattle.rule_records.proofs.target_inputs_fit.Statement.{statement}
 use Rattle.rule_records.proofs.target_inputs_fit.Tie as tie
 
 abbrev Inv-loop : tie.InvT-loop
-Inv-loop rule t v at kind inputs i₀ i = (i ≤ inputs) × ((k : ℕ) → k < i → originFits (ruleOf rule) t (getD (targetOf (ruleOf rule) t .inputs) k (made 255)) ≡ true)
+Inv-loop rule t v at kind inputs i₀ i = (i ≤ inputs) × ((k : ℕ) → k < i → originFits (fixedOf rule) t (getD (targetOf (fixedOf rule) t .inputs) k (made 255)) ≡ true)
 
 abbrev μ-loop : tie.MeasureT-loop
 μ-loop rule t v at kind inputs i₀ i = inputs - i
@@ -64,7 +65,7 @@ loop-holds : tie.Need-loop-holds Inv-loop μ-loop
 loop-holds c =
     let a = c .before .before .before .before .before .before .args in
     let rule = a .rule .now in
-    (omega arith, below-none (λ k. originFits (ruleOf rule) (a .t) (getD (targetOf (ruleOf rule) (a .t) .inputs) k (made 255)) ≡ true))
+    (omega arith, below-none (λ k. originFits (fixedOf rule) (a .t) (getD (targetOf (fixedOf rule) (a .t) .inputs) k (made 255)) ≡ true))
 
 add-byte-at-2 : tie.Need-add-byte-at-2 Inv-loop μ-loop
 add-byte-at-2 c = omega arith
@@ -111,11 +112,11 @@ returns-3 c =
     let n = bk .before .source-count .ensures .0 in
     let bytes = rw n at (b2 .byte-at2 .ensures .0) in
     let count = target-count-at rule (a .t) (p .pre .1 .0) in
-    let r = ruleOf rule in
+    let r = fixedOf rule in
     let i = s .loop .i in
     let inside : i < length (targetOf r (a .t) .inputs) = omega (arith, bytes, count) in
     let here = target-input-at rule (a .t) i (made 255) (p .pre .1 .0) inside in
-    let place = here ∙ sym (ap originOf (rw n at (c .before .before .byte-at3 .ensures .0))) in
+    let place = here ∙ sym (ap (originIn rule) (rw n at (c .before .before .byte-at3 .ensures .0))) in
     let judged = ap (originFits r (a .t)) place ∙ sym (c .before .origin-fits .ensures) in
     let kind = (rw n at (bk .byte-at .ensures .0)) ∙ sym (target-kind-at rule (a .t) (p .pre .1 .0)) in
     let bad = all-fails (originFits r (a .t)) (made 255) (targetOf r (a .t) .inputs) i inside (judged ∙ not-true (c .before .origin-fits .result) (c .if3 .taken)) in
@@ -139,11 +140,11 @@ loop-again c =
     let n = bk .before .source-count .ensures .0 in
     let bytes = rw n at (b2 .byte-at2 .ensures .0) in
     let count = target-count-at rule (a .t) (p .pre .1 .0) in
-    let r = ruleOf rule in
+    let r = fixedOf rule in
     let i = s .loop .i in
     let inside : i < length (targetOf r (a .t) .inputs) = omega (arith, bytes, count) in
     let here = target-input-at rule (a .t) i (made 255) (p .pre .1 .0) inside in
-    let place = here ∙ sym (ap originOf (rw n at (c .before .before .byte-at3 .ensures .0))) in
+    let place = here ∙ sym (ap (originIn rule) (rw n at (c .before .before .byte-at3 .ensures .0))) in
     let judged = ap (originFits r (a .t)) place ∙ sym (c .before .origin-fits .ensures) in (
       omega arith,
       below-more (λ k. originFits r (a .t) (getD (targetOf r (a .t) .inputs) k (made 255)) ≡ true) i (s .loop .inv .1)
@@ -164,7 +165,7 @@ returns-4 c =
     let bytes = rw n at (b2 .byte-at2 .ensures .0) in
     let count = target-count-at rule (a .t) (p .pre .1 .0) in
     let kind = (rw n at (bk .byte-at .ensures .0)) ∙ sym (target-kind-at rule (a .t) (p .pre .1 .0)) in
-    let r = ruleOf rule in
+    let r = fixedOf rule in
     let good = all-every (originFits r (a .t)) (made 255) (targetOf r (a .t) .inputs) (λ k h. s .loop .inv .1 k (omega (arith, bytes, count))) in
     simp (← kind, ne-eqb _ 0 (e2 .before .if1 .left), ne-eqb _ 2 (e2 .if2 .left), good)
 

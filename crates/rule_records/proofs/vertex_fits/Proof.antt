@@ -7,7 +7,7 @@ use native.Mathlib.Omega.{arith}
 use borrow.Author.Tests.{lt-ltb, le-ltb, not-true, not-false}
 use Rattle.definitions.specs.Fields.{byteAt}
 use Rattle.definitions.specs.Graph.{inputLimit}
-use Rattle.definitions.specs.Rule.{sourceCount, targetCount, vertexAt, badVertex}
+use Rattle.definitions.specs.Rule.{sourceCount, targetCount, vertexAt, badVertexOf}
 use Rattle.rule_records.proofs.Laws.{pattern-inputs}
 use borrow.Author.Needs.{needs}
 use Rattle.rule_records.proofs.vertex_fits.Statement.{statement}
@@ -23,7 +23,7 @@ pattern-fits-requires : tie.Need-pattern-fits-requires
 pattern-fits-requires c κs = search needs
 
 returns : tie.Need-returns
-unfolding badVertex
+unfolding badVertexOf
 returns c = simp (← c .before .pattern-fits .ensures, not-true (c .before .pattern-fits .result) (c .if1 .taken))
 
 source-count-requires : tie.Need-source-count-requires
@@ -41,7 +41,7 @@ source-inputs-fit-requires c κs =
     (p .pre .0, (omega arith, few))
 
 returns-2 : tie.Need-returns-2
-unfolding badVertex
+unfolding badVertexOf
 returns-2 c =
     let e1 = c .before .before .before in
     let p = e1 .before .before .before in
@@ -67,7 +67,7 @@ target-inputs-fit-requires c κs =
     (p .pre .0, rw n (below, limit))
 
 returns-3 : tie.Need-returns-3
-unfolding badVertex
+unfolding badVertexOf
 returns-3 c =
     let e1 = c .before .before .before in
     let p = e1 .before .before .before in

@@ -7,7 +7,8 @@ use native.Mathlib.Omega.{arith}
 use borrow.Author.Needs.{needs}
 use lib.ListN.{length, drop}
 use Rattle.definitions.specs.Lists.{count}
-use Rattle.definitions.specs.Rule.{sideCapacity, ruleOf, sourceInputs}
+use Rattle.definitions.specs.Rule.{sideCapacity, sourceInputs}
+use Rattle.rule_fields.specs.Fixed.{fixedOf}
 use Rattle.laws.proofs.Sums.{total-more}
 use Rattle.laws.proofs.Counts.{Counting, counting-starts, counting-turn, counting-room, counting-ends}
 use Rattle.rule_uses.specs.Countable.{placesBelow}
@@ -17,7 +18,7 @@ use Rattle.rule_uses.proofs.add_source_inputs.Tie as tie
 
 abbrev Inv-loop : tie.InvT-loop
 Inv-loop rule w places₀ inputs i₀ places i =
-    Counting sideCapacity (placesBelow (ruleOf rule) (w + 1)) (drop i (sourceInputs (ruleOf rule) w)) places
+    Counting sideCapacity (placesBelow (fixedOf rule) (w + 1)) (drop i (sourceInputs (fixedOf rule) w)) places
 
 abbrev μ-loop : tie.MeasureT-loop
 μ-loop rule w places₀ inputs i₀ places i = inputs - i
@@ -26,7 +27,7 @@ abbrev start : tie.At-loop Inv-loop μ-loop → tie.Start Inv-loop μ-loop
 start a = a .before .before .before
 
 abbrev inputs : tie.Start Inv-loop μ-loop → List ℕ
-inputs s = sourceInputs (ruleOf (s .args .rule .now)) (s .args .w)
+inputs s = sourceInputs (fixedOf (s .args .rule .now)) (s .args .w)
 
 left : (c : tie.In-loop Inv-loop μ-loop) → c .before .loop .i < length (inputs (start (c .before)))
 left c = omega (arith, c .loop-test .taken, c .before .before .source-input-count .ensures .0)
@@ -49,7 +50,7 @@ source-input-count-requires c κs = search needs
 loop-holds : tie.Need-loop-holds Inv-loop μ-loop
 loop-holds c =
     let s = c .before .before in
-    counting-starts (inputs s) (λ j. sym (total-more (λ u. count j (sourceInputs (ruleOf (s .args .rule .now)) u)) (s .args .w)))
+    counting-starts (inputs s) (λ j. sym (total-more (λ u. count j (sourceInputs (fixedOf (s .args .rule .now)) u)) (s .args .w)))
     (s .pre .counted)
 
 source-input-requires : tie.Need-source-input-requires Inv-loop μ-loop

@@ -7,8 +7,9 @@ use native.Mathlib.Omega.{arith}
 use borrow.Author.Needs.{needs}
 use mathlib.Core.Logic.{⊎-elim}
 use lib.ListN.{getD, set}
-use Rattle.definitions.specs.Rule.{sideCapacity, ruleOf}
+use Rattle.definitions.specs.Rule.{sideCapacity}
 use Rattle.definitions.specs.Match.{placesOf}
+use Rattle.rule_fields.specs.Fixed.{fixedOf}
 use Rattle.rule_uses.specs.Demands.{demandOf}
 use Rattle.laws.specs.Counted.{Counted}
 use Rattle.laws.proofs.Counts.{counted-same}
@@ -18,7 +19,7 @@ use Rattle.rule_uses.proofs.count_demands.Tie as tie
 
 abbrev Inv-loop : tie.InvT-loop
 Inv-loop rule vertices demands₀ j₀ demands j =
-    (j ≤ vertices) × Counted sideCapacity (demanded (ruleOf rule) j) demands
+    (j ≤ vertices) × Counted sideCapacity (demanded (fixedOf rule) j) demands
 
 abbrev μ-loop : tie.MeasureT-loop
 μ-loop rule vertices demands₀ j₀ demands j = vertices - j
@@ -35,15 +36,15 @@ inside c = omega (
 )
 
 -- the present place holds the number of places
-present : (a : tie.At-loop Inv-loop μ-loop) → getD (a .loop .demands) (a .loop .j) 0 ≡ placesOf (ruleOf (block a)) (a .loop .j)
-present a = a .loop .inv .1 .at (a .loop .j) ∙ demanded-from (ruleOf (block a)) (a .loop .j) (a .loop .j) (omega arith)
+present : (a : tie.At-loop Inv-loop μ-loop) → getD (a .loop .demands) (a .loop .j) 0 ≡ placesOf (fixedOf (block a)) (a .loop .j)
+present a = a .loop .inv .1 .at (a .loop .j) ∙ demanded-from (fixedOf (block a)) (a .loop .j) (a .loop .j) (omega arith)
 
 next : (c : tie.After-must-be-private Inv-loop μ-loop) (x : ℕ)
-    → x ≡ demandOf (ruleOf (block (c .before .before))) (c .before .before .loop .j)
-    → Counted sideCapacity (demanded (ruleOf (block (c .before .before))) (c .before .before .loop .j + 1))
+    → x ≡ demandOf (fixedOf (block (c .before .before))) (c .before .before .loop .j)
+    → Counted sideCapacity (demanded (fixedOf (block (c .before .before))) (c .before .before .loop .j + 1))
     (set (c .before .before .loop .demands) (c .before .before .loop .j) x)
 next c x e = let a = c .before .before in
-    demanded-one (ruleOf (block a)) (a .loop .j) x (inside (c .before)) e (a .loop .inv .1)
+    demanded-one (fixedOf (block a)) (a .loop .j) x (inside (c .before)) e (a .loop .inv .1)
 
 source-count-requires : tie.Need-source-count-requires Inv-loop μ-loop
 source-count-requires c κs = search needs
@@ -53,7 +54,7 @@ count-places-requires c κs = search needs
 
 loop-holds : tie.Need-loop-holds Inv-loop μ-loop
 loop-holds c =
-    let r = ruleOf (c .before .before .before .args .rule .now) in
+    let r = fixedOf (c .before .before .before .args .rule .now) in
     (omega arith, counted-same (λ v. sym (demanded-from r 0 v (omega arith))) (c .count-places .ensures))
 
 must-be-private-requires : tie.Need-must-be-private-requires Inv-loop μ-loop
@@ -89,7 +90,7 @@ loop-less c = omega arith
 loop-again : tie.Need-loop-again Inv-loop μ-loop
 loop-again c =
     let a = c .before .before .before in
-    let r = ruleOf (block a) in
+    let r = fixedOf (block a) in
     let j = a .loop .j in (
       omega (arith, c .before .before .loop-test .taken),
       ⊎-elim
@@ -103,7 +104,7 @@ returns : tie.Need-returns Inv-loop μ-loop
 returns c =
     let a = c .before in (
       a .loop .inv .1 .places,
-      λ j l. a .loop .inv .1 .at j ∙ demanded-below (ruleOf (block a)) (a .loop .j) j
+      λ j l. a .loop .inv .1 .at j ∙ demanded-below (fixedOf (block a)) (a .loop .j) j
           (omega (arith, c .loop-test .left, a .before .before .source-count .ensures .0)),
     )
 

@@ -5,7 +5,8 @@ use Prim.Native.Nat.{_-_, _≤_}
 use native.Mathlib.Omega.{arith}
 use borrow.Author.Needs.{needs}
 use Rattle.definitions.specs.Lists.{total}
-use Rattle.definitions.specs.Rule.{sideCapacity, ruleOf}
+use Rattle.definitions.specs.Rule.{sideCapacity}
+use Rattle.rule_fields.specs.Fixed.{fixedOf}
 use Rattle.laws.specs.Counted.{Counted}
 use Rattle.laws.proofs.Counts.{counted-none, counted-same}
 use Rattle.rule_uses.specs.Countable.{placesBelow}
@@ -14,7 +15,7 @@ use Rattle.rule_uses.proofs.count_places.Statement.{statement}
 use Rattle.rule_uses.proofs.count_places.Tie as tie
 
 abbrev Inv-loop : tie.InvT-loop
-Inv-loop rule vertices places₀ w₀ places w = (w ≤ vertices) × Counted sideCapacity (placesBelow (ruleOf rule) w) places
+Inv-loop rule vertices places₀ w₀ places w = (w ≤ vertices) × Counted sideCapacity (placesBelow (fixedOf rule) w) places
 
 abbrev μ-loop : tie.MeasureT-loop
 μ-loop rule vertices places₀ w₀ places w = vertices - w

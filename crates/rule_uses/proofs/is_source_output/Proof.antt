@@ -8,14 +8,14 @@ use borrow.Author.Tests.{eq-eqb, ne-eqb}
 use lib.Dec.{eqb}
 use lib.ListN.{drop}
 use Rattle.definitions.specs.Lists.{member, any}
-use Rattle.definitions.specs.Rule.{ruleOf}
-use Rattle.laws.proofs.Rule.{length-source-outputs}
+use Rattle.rule_fields.specs.Fixed.{fixedOf}
+use Rattle.rule_fields.proofs.Fixed.{length-source-outputs}
 use Rattle.laws.proofs.Walks.{any-found, any-turn, any-ends, member-any}
 use Rattle.rule_uses.proofs.is_source_output.Statement.{statement}
 use Rattle.rule_uses.proofs.is_source_output.Tie as tie
 
 abbrev Inv-loop : tie.InvT-loop
-Inv-loop rule j number i₀ i = member j (ruleOf rule .sourceOutputs) ≡ any (eqb j) (drop i (ruleOf rule .sourceOutputs))
+Inv-loop rule j number i₀ i = member j (fixedOf rule .sourceOutputs) ≡ any (eqb j) (drop i (fixedOf rule .sourceOutputs))
 
 abbrev μ-loop : tie.MeasureT-loop
 μ-loop rule j number i₀ i = number - i
@@ -24,7 +24,7 @@ output-count-requires : tie.Need-output-count-requires Inv-loop μ-loop
 output-count-requires c κs = search needs
 
 loop-holds : tie.Need-loop-holds Inv-loop μ-loop
-loop-holds c = let a = c .before .before .args in member-any (a .j) (ruleOf (a .rule .now) .sourceOutputs)
+loop-holds c = let a = c .before .before .args in member-any (a .j) (fixedOf (a .rule .now) .sourceOutputs)
 
 source-output-requires : tie.Need-source-output-requires Inv-loop μ-loop
 source-output-requires c κs = search needs
@@ -33,7 +33,7 @@ returns : tie.Need-returns Inv-loop μ-loop
 returns c =
     let h = c .before .before .before in
     let a = h .before .before .before .args in
-    sym (any-found (eqb (a .j)) (ruleOf (a .rule .now) .sourceOutputs) (h .loop .i) 255 (h .loop .inv)
+    sym (any-found (eqb (a .j)) (fixedOf (a .rule .now) .sourceOutputs) (h .loop .i) 255 (h .loop .inv)
     (omega (arith, length-source-outputs (a .rule .now)))
     (eq-eqb (a .j) _ (sym (c .if1 .taken) ∙ c .before .source-output .ensures .0)))
 
@@ -47,7 +47,7 @@ loop-again : tie.Need-loop-again Inv-loop μ-loop
 loop-again c =
     let h = c .before .before .before in
     let a = h .before .before .before .args in
-    any-turn (eqb (a .j)) (ruleOf (a .rule .now) .sourceOutputs) (h .loop .i) 255 (h .loop .inv)
+    any-turn (eqb (a .j)) (fixedOf (a .rule .now) .sourceOutputs) (h .loop .i) 255 (h .loop .inv)
     (omega (arith, length-source-outputs (a .rule .now)))
     (ne-eqb (a .j) _ (λ e. c .if1 .left (c .before .source-output .ensures .0 ∙ sym e)))
 
@@ -55,7 +55,7 @@ returns-2 : tie.Need-returns-2 Inv-loop μ-loop
 returns-2 c =
     let h = c .before in
     let a = h .before .before .before .args in
-    sym (any-ends (eqb (a .j)) (ruleOf (a .rule .now) .sourceOutputs) (h .loop .i) (h .loop .inv)
+    sym (any-ends (eqb (a .j)) (fixedOf (a .rule .now) .sourceOutputs) (h .loop .i) (h .loop .inv)
     (omega (arith, length-source-outputs (a .rule .now))))
 
 pub is-source-output-spec : {M : Type 1} → statement M

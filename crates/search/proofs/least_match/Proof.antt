@@ -6,11 +6,12 @@ use Prim.Native.Nat.{ℕ, _<_}
 use native.Mathlib.Omega.{arith}
 use lib.ListN.{length, drop}
 use Rattle.definitions.specs.Graph.{Graph, graphOf}
-use Rattle.definitions.specs.Rule.{Rule, ruleOf}
-use Rattle.laws.proofs.Rule.{length-source}
-use Rattle.theory.proofs.Fixing.{sound-fixing}
+use Rattle.definitions.specs.Rule.{sideCapacity, Rule}
+use Rattle.rule_fields.specs.Fixed.{fixedOf}
+use Rattle.rule_fields.proofs.Fixed.{length-source}
+use Rattle.rule_sound.proofs.Fixed.{fixing-of}
 use Rattle.graph_check.proofs.Readable.{graph-readable}
-use Rattle.rule_check.proofs.Readable.{rule-readable, output-counts}
+use Rattle.rule_sound.proofs.Working.{output-counts}
 use Rattle.match_look.specs.Head.{headIn}
 use Rattle.match_outputs.proofs.Steps.{Passed, at-next, passed-start, first-inside, all-passed, nothing-found}
 use Rattle.search.proofs.Outputs.{some-output}
@@ -21,7 +22,7 @@ use Rattle.search.proofs.least_match.Tie as tie
 source-output-requires : tie.Need-source-output-requires
 source-output-requires c κs =
     let s = c .before .before in
-    (rule-readable (s .args .rule .now) (s .pre .1) .whole, output-counts (s .args .rule .now) (s .pre .1) .0)
+    (s .pre .1 .readable .whole, output-counts (s .args .rule .now) (s .pre .1) .0)
 
 -- ---- the first output
 
@@ -41,16 +42,16 @@ abbrev root : Rooted → ℕ
 root t = t .source-output .result
 
 abbrev others : Rooted → List ℕ
-others t = drop 1 (ruleOf (ruleBlock t) .sourceOutputs)
+others t = drop 1 (fixedOf (ruleBlock t) .sourceOutputs)
 
-listed : (t : Rooted) → ruleOf (ruleBlock t) .sourceOutputs ≡ root t ∷ others t
+listed : (t : Rooted) → fixedOf (ruleBlock t) .sourceOutputs ≡ root t ∷ others t
 listed t = some-output (ruleBlock t) (start t .pre .1) (root t) (t .source-output .ensures .0)
 
-inside : (t : Rooted) → root t < length (ruleOf (ruleBlock t) .source)
+inside : (t : Rooted) → root t < length (fixedOf (ruleBlock t) .source)
 inside t = first-inside (graphBlock t) (ruleBlock t) (start t .pre .1) (root t) (others t) (listed t)
 
 pattern-head-requires : tie.Need-pattern-head-requires
-pattern-head-requires c κs = (rule-readable (ruleBlock c) (start c .pre .1), omega (arith, inside c, length-source (ruleBlock c)))
+pattern-head-requires c κs = (start c .pre .1 .readable, omega (arith, inside c, length-source (ruleBlock c)))
 
 next-candidate-requires : tie.Need-next-candidate-requires
 next-candidate-requires c κs = let t = c .before in graph-readable (graphBlock t) (start t .pre .0)
@@ -64,12 +65,12 @@ slot-count-requires c κs =
 
 passed : (n : tie.After-next-candidate)
     → let t = n .before .before in
-    Passed (graphOf (graphBlock t)) (ruleOf (ruleBlock t)) (root t) (start t .args .start) (n .next-candidate .result)
+    Passed (graphOf (graphBlock t)) (fixedOf (ruleBlock t)) (root t) (start t .args .start) (n .next-candidate .result)
 passed n =
     let h = n .before in
     let t = h .before in
     let g : Graph = graphOf (graphBlock t) in
-    let r : Rule = ruleOf (ruleBlock t) in
+    let r : Rule = fixedOf (ruleBlock t) in
     at-next g r (root t) (start t .args .start) (headIn (h .pattern-head .result)) (inside t) (h .pattern-head .ensures) refl
     (n .next-candidate .ensures) (passed-start g r (root t) (start t .args .start)) .passed
 
@@ -94,7 +95,7 @@ returns-2 : tie.Need-returns-2
 returns-2 c =
     let n = c .before .before .before in
     let t = n .before .before in
-    rw (← least-skips (graphOf (graphBlock t)) (ruleOf (ruleBlock t)) (sound-fixing (ruleBlock t) (start t .pre .1)) (root t) (others t)
+    rw (← least-skips (graphOf (graphBlock t)) (fixedOf (ruleBlock t)) (fixing-of sideCapacity (fixedOf (ruleBlock t)) (start t .pre .1 .sound)) (root t) (others t)
     (listed t) (start t .args .start) (n .next-candidate .result) (passed n))
     (c .search .ensures)
 

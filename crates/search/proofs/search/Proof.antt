@@ -1,9 +1,10 @@
 -- The demands are what a search asks for, and the outputs are those that the rule lists.
 -- Assumes nothing.
 use native.Mathlib.Omega.{arith}
-use Rattle.rule_check.proofs.Readable.{rule-readable, output-counts}
-use Rattle.matching.proofs.Sound.{rule-countable, sound-setting}
+use Rattle.rule_sound.proofs.Working.{output-counts}
+use Rattle.matching.proofs.Sound.{sound-setting}
 use Rattle.match_look.specs.Setting.{Setting}
+use Rattle.match_look.proofs.Working.{rule-countable}
 use Rattle.search.proofs.Outputs.{one-output, two-outputs}
 use Rattle.search.proofs.search.Statement.{statement}
 use Rattle.search.proofs.search.Tie as tie
@@ -16,12 +17,12 @@ count-demands-requires c κs =
 source-output-requires : tie.Need-source-output-requires
 source-output-requires c κs =
     let s = c .before .before .before in
-    (rule-readable (s .args .rule .now) (s .pre .1) .whole, output-counts (s .args .rule .now) (s .pre .1) .0)
+    (s .pre .1 .readable .whole, output-counts (s .args .rule .now) (s .pre .1) .0)
 
 output-count-requires : tie.Need-output-count-requires
 output-count-requires c κs =
     let s = c .before .before .before .before in
-    omega (arith, rule-readable (s .args .rule .now) (s .pre .1) .whole .size)
+    omega (arith, s .pre .1 .readable .whole .size)
 
 -- ---- what is known once the demands are counted
 
@@ -44,7 +45,7 @@ search-one-requires c κs =
     let d = t .before in
     let s = start d in
     record {
-      sound = s .pre .1;
+      working = s .pre .1;
       listed = one-output (s .args .rule .now) (s .pre .1) (d .before .source-output .result) (d .before .source-output .ensures .0)
           (omega (arith, d .output-count .ensures .0, t .if1 .taken));
       setting = setting d;
@@ -57,7 +58,7 @@ source-output-requires-2 : tie.Need-source-output-requires-2
 source-output-requires-2 c κs =
     let d = c .before in
     let s = start d in (
-      rule-readable (s .args .rule .now) (s .pre .1) .whole,
+      s .pre .1 .readable .whole,
       omega (arith, output-counts (s .args .rule .now) (s .pre .1), d .output-count .ensures .0, c .if1 .left),
     )
 
@@ -68,7 +69,7 @@ search-pairs-requires c κs =
     let d = e .before in
     let s = start d in
     record {
-      sound = s .pre .1;
+      working = s .pre .1;
       listed = two-outputs (s .args .rule .now) (s .pre .1) (d .before .source-output .result) (d .before .source-output .ensures .0)
           (l .source-output2 .result) (l .source-output2 .ensures .0) (λ one. e .if1 .left (omega (arith, d .output-count .ensures .0)));
       setting = setting d;

@@ -10,11 +10,12 @@ use lib.IntN.{ℤ}
 use lib.ListN.{length}
 use Rattle.definitions.specs.Lists.{allBelow}
 use Rattle.definitions.specs.Graph.{graphOf}
-use Rattle.definitions.specs.Rule.{Rule, ruleOf, targetOf}
+use Rattle.definitions.specs.Rule.{Rule, targetOf}
 use Rattle.definitions.specs.Match.{readAttribute}
 use Rattle.definitions.specs.Rewriting.{vertexResults}
+use Rattle.rule_fields.specs.Fixed.{fixedOf}
 use Rattle.laws.proofs.Lists.{allBelow-step}
-use Rattle.laws.proofs.Rule.{length-target}
+use Rattle.rule_fields.proofs.Fixed.{length-target}
 use Rattle.target_attributes.specs.Fitness.{vertexGiven, isFit, targetFitness}
 use Rattle.target_attributes.proofs.Laws.{told-given, unfit-first, none-unfit}
 use Rattle.target_attributes.proofs.all_fit.Statement.{statement}
@@ -22,7 +23,7 @@ use Rattle.target_attributes.proofs.all_fit.Tie as tie
 
 abbrev Inv-loop : tie.InvT-loop
 Inv-loop graph rule images count t₀ t =
-    (t ≤ count) × (allBelow (vertexGiven (readAttribute (graphOf graph) images) (ruleOf rule)) t ≡ true)
+    (t ≤ count) × (allBelow (vertexGiven (readAttribute (graphOf graph) images) (fixedOf rule)) t ≡ true)
 
 abbrev μ-loop : tie.MeasureT-loop
 μ-loop graph rule images count t₀ t = count - t
@@ -34,7 +35,7 @@ abbrev reads : tie.Start Inv-loop μ-loop → ℕ → ℕ → Option ℤ
 reads s = readAttribute (graphOf (s .args .graph .now)) (s .args .images .now)
 
 abbrev decoded : tie.Start Inv-loop μ-loop → Rule
-decoded s = ruleOf (s .args .rule .now)
+decoded s = fixedOf (s .args .rule .now)
 
 -- a target vertex is left
 left : (c : tie.In-loop Inv-loop μ-loop) → c .before .loop .t < length (decoded (start (c .before)) .target)

@@ -11,8 +11,9 @@ use lib.IntN.{ℤ}
 use lib.ListN.{length}
 use Rattle.definitions.specs.Lists.{allBelow, padded}
 use Rattle.definitions.specs.Graph.{attributeLimit, graphOf}
-use Rattle.definitions.specs.Rule.{Origin, Pattern, ruleOf, targetOf}
+use Rattle.definitions.specs.Rule.{Origin, Pattern, targetOf}
 use Rattle.definitions.specs.Match.{readAttribute}
+use Rattle.rule_fields.specs.Fixed.{fixedOf}
 use Rattle.laws.proofs.Lists.{allBelow-step}
 use Rattle.target_attributes.specs.Fitness.{fitAt}
 use Rattle.target_attributes.proofs.Laws.{fit-tested, wordsTo, words-more, told-unfit, told-fit}
@@ -22,7 +23,7 @@ use Rattle.target_attributes.proofs.vertex_words.Tie as tie
 abbrev Inv-loop : tie.InvT-loop
 Inv-loop graph rule images t kind count words₀ i₀ words i =
     let read = readAttribute (graphOf graph) images in
-    let p = targetOf (ruleOf rule) t in
+    let p = targetOf (fixedOf rule) t in
     (i ≤ count) × (allBelow (fitAt read p) i ≡ true) × (words ≡ wordsTo read p i)
 
 abbrev μ-loop : tie.MeasureT-loop
@@ -35,7 +36,7 @@ abbrev reads : tie.Start Inv-loop μ-loop → ℕ → ℕ → Option ℤ
 reads s = readAttribute (graphOf (s .args .graph .now)) (s .args .images .now)
 
 abbrev vertex : tie.Start Inv-loop μ-loop → Pattern Origin
-vertex s = targetOf (ruleOf (s .args .rule .now)) (s .args .t)
+vertex s = targetOf (fixedOf (s .args .rule .now)) (s .args .t)
 
 -- an attribute is left
 left : (c : tie.In-loop Inv-loop μ-loop) → c .before .loop .i < length (vertex (start (c .before)) .attributes)

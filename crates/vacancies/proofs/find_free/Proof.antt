@@ -7,11 +7,12 @@ use native.Mathlib.Omega.{arith}
 use borrow.Author.Needs.{needs}
 use lib.ListN.{getD}
 use Rattle.definitions.specs.Graph.{slotLimit, slotCount, graphOf}
-use Rattle.definitions.specs.Rule.{sideCapacity, sourceCount, ruleOf}
+use Rattle.definitions.specs.Rule.{sideCapacity, sourceCount}
 use Rattle.definitions.specs.Match.{imageOf}
 use Rattle.definitions.specs.Rewriting.{goes}
+use Rattle.rule_fields.specs.Fixed.{fixedOf}
 use Rattle.laws.proofs.Match.{image-at}
-use Rattle.laws.proofs.Rule.{length-source}
+use Rattle.rule_fields.proofs.Fixed.{length-source}
 use Rattle.new_removal.proofs.Laws.{goes-counted}
 use Rattle.laws.specs.Marked.{Marked}
 use Rattle.vacancies.proofs.Steps.{marks-same, freeBelow, free-none, free-put, free-pass, free-all}
@@ -20,7 +21,7 @@ use Rattle.vacancies.proofs.find_free.Tie as tie
 
 abbrev Inv-loop : tie.InvT-loop
 Inv-loop graph rule images vertices places free₀ j₀ free j =
-    (j ≤ vertices) × Marked (freeBelow (graphOf graph) (ruleOf rule) images j) (slotCount graph) free
+    (j ≤ vertices) × Marked (freeBelow (graphOf graph) (fixedOf rule) images j) (slotCount graph) free
 
 abbrev μ-loop : tie.MeasureT-loop
 μ-loop graph rule images vertices places free₀ j₀ free j = vertices - j
@@ -64,7 +65,7 @@ loop-holds : tie.Need-loop-holds Inv-loop μ-loop
 loop-holds c =
     let a = c .before .before .before .before .before .args in (
       omega arith,
-      marks-same (λ i l. free-none (graphOf (a .graph .now)) (ruleOf (a .rule .now)) (a .images .now) i) (c .mark-empty .ensures),
+      marks-same (λ i l. free-none (graphOf (a .graph .now)) (fixedOf (a .rule .now)) (a .images .now) i) (c .mark-empty .ensures),
     )
 
 mul-widened : tie.Need-mul-widened Inv-loop μ-loop
@@ -96,7 +97,7 @@ loop-less c = omega arith
 -- the answer for source vertex j is the definition's
 going : (c : tie.After-image-goes Inv-loop μ-loop) → let s = start (c .before .before .before .before .before) in
     c .image-goes .result
-    ≡ goes (graphOf (s .args .graph .now)) (ruleOf (s .args .rule .now)) (s .args .images .now)
+    ≡ goes (graphOf (s .args .graph .now)) (fixedOf (s .args .rule .now)) (s .args .images .now)
     (c .before .before .before .before .before .loop .j)
 going c =
     let w = c .before .before in
@@ -114,7 +115,7 @@ loop-again c =
     let a = w .before .before .before in
     let s = start a in
     let g = graphOf (s .args .graph .now) in
-    let r = ruleOf (s .args .rule .now) in
+    let r = fixedOf (s .args .rule .now) in
     let images = s .args .images .now in
     let j = a .loop .j in (
       omega arith,
@@ -129,7 +130,7 @@ returns c =
     let a = c .before in
     let s = start a in
     marks-same
-    (λ i l. free-all (graphOf (s .args .graph .now)) (ruleOf (s .args .rule .now)) (s .args .images .now) i (a .loop .j)
+    (λ i l. free-all (graphOf (s .args .graph .now)) (fixedOf (s .args .rule .now)) (s .args .images .now) i (a .loop .j)
     (omega (arith, length-source (s .args .rule .now))))
     (a .loop .inv .1)
 

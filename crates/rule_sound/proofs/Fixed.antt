@@ -24,13 +24,12 @@ use Rattle.laws.proofs.Rule.{input-inside}
 use Rattle.theory.proofs.Fixing.{Fixing, traversal-every}
 use Rattle.rule_order.specs.InOrder.{InOrder, visitedAfter}
 use Rattle.rule_order.proofs.InOrder.{start-in-order, whole-in-order}
-use Rattle.replacement.proofs.Site.{Site, output-other}
 use Rattle.definitions.specs.FixedRule.{patternShaped, definite, isAny, sourceUsesFit, SoundFixed}
-use Rattle.variadic.proofs.Sound.{lower-of, any-or-below}
+use Rattle.rule_sound.proofs.Sound.{lower-of, any-or-below}
 
 module _ (limit : ℕ) (r : Rule) (s : SoundFixed limit r) where
   -- a vertex reads nothing where the row of its kind has no inputs
-  reads-nothing : (j kind : ℕ) → j < length (r .source) → sourceOf r j .kind ≡ kind → eqb kind kindCall ≡ false → rowOf kind .greatest ≡ 0
+  pub reads-nothing : (j kind : ℕ) → j < length (r .source) → sourceOf r j .kind ≡ kind → eqb kind kindCall ≡ false → rowOf kind .greatest ≡ 0
       → sourceInputs r j ≡ []
   unfolding patternShaped
   reads-nothing j kind l e other none =
@@ -87,22 +86,4 @@ module _ (limit : ℕ) (r : Rule) (s : SoundFixed limit r) where
     plain = plain-of;
     some = s .someOutput;
     inside = s .outputsInside;
-  }
-
-  -- A match of it with room is a site, so demand 3 holds.
-  pub site-of : (graph images : List ℕ) → SoundGraph graph → Match (graphOf graph) r images → hasRoom (graphOf graph) r images ≡ true
-      → Site (graphOf graph) r images
-  unfolding targetInputsFit isConst rowOf kinds
-  site-of graph images sound match room = record {
-    layout = record { vertices = sound .form .inputs; acyclic = sound .form .acyclic };
-    outputs = sound .form .outputs;
-    isMatch = match;
-    constants = λ j l c. reads-nothing j kindConst l (eqb-true (sourceOf r j .kind) kindConst c) refl refl;
-    sourceOutputs = λ o m. (s .outputsInside o m, output-other r (s .outputs) o m);
-    sameCount = s .sameCount;
-    targetKinds = λ t l. not-true (inputKind (targetOf r t .kind))
-        (and-left (not (inputKind (targetOf r t .kind))) (all (originFits r t) (targetOf r t .inputs)) (s .namedInputs t l));
-    targetInputs = λ t l. and-right (not (inputKind (targetOf r t .kind))) (all (originFits r t) (targetOf r t .inputs)) (s .namedInputs t l);
-    targetOutputs = s .namedOutputs;
-    room = room;
   }

@@ -14,7 +14,7 @@ use Rattle.definitions.specs.Lists.{within, allBelow, all, build, range}
 use Rattle.definitions.specs.Fields.{byteAt, u32At, signed}
 use Rattle.definitions.specs.Graph.{attributeLimit}
 use Rattle.definitions.specs.Paths.{Reads}
-use Rattle.definitions.specs.Rule.{sideLimit, ruleOutputLimit, sourceCount, targetCount, nodeCount, vertexAt, nodeAt, remainder, Expression, anything, constant, access, apply, index, sum, Rule, operations, nodeForm, nodeLeft, nodeRight, nodeFrom, expressions, expressionOf, ruleOf, sourceOf, targetOf, sourceInputs, originFits, sourceInputsFit, targetInputsFit, reaches, sourceOutputsFit, connected, allNamed, outputsFit, ruleSizesFit, ruleHeaderFits, patternFits, operandFits, nodeFits, accessesBelow, useFits, SoundRule}
+use Rattle.definitions.specs.Rule.{sideLimit, ruleOutputLimit, sourceCount, targetCount, nodeCount, vertexAt, nodeAt, remainder, Expression, anything, constant, access, apply, index, sum, Rule, operations, nodeForm, nodeLeft, nodeRight, nodeFrom, expressions, expressionOf, ruleOf, sourceOf, targetOf, sourceInputs, originFits, sourceInputsFit, targetInputsFit, reaches, sourceOutputsFit, connected, allNamed, outputsFit, ruleSizesFit, ruleHeaderFits, patternFits, operandFits, nodeFits, accessesBelow, useFits, SoundRule, nodeBy}
 use Rattle.laws.proofs.Lists.{decided, fails, and-left, and-right, needed, all-at, all-every, all-member, all-members, allBelow-at, allBelow-every, anyBelow-found, anyBelow-some}
 use Rattle.laws.proofs.Builds.{build-at}
 use Rattle.laws.proofs.Ranges.{same-lists, same-self}
@@ -152,7 +152,7 @@ module _ (block : List ℕ) (nodes : (k : ℕ) → k < nodeCount block → nodeF
   operand-made k j l m = build-at (nodeFrom block) k j anything m ∙ sym (node-made j (omega arith))
 
   any-made : (k : ℕ) → k < nodeCount block → eqb (nodeForm block k) 0 ≡ true → expressionOf block k ≡ anything
-  unfolding nodeFrom
+  unfolding nodeBy
   any-made k l t = node-made k l ∙ simp t
 
   -- an expression other than any is definite, and accesses source vertices
@@ -160,14 +160,14 @@ module _ (block : List ℕ) (nodes : (k : ℕ) → k < nodeCount block → nodeF
   Good k = (definite (expressionOf block k) ≡ true) × (accessesBelow (sourceCount block) (expressionOf block k) ≡ true)
 
   constant-good : (k : ℕ) → k < nodeCount block → eqb (nodeForm block k) 0 ≡ false → eqb (nodeForm block k) 1 ≡ true → Good k
-  unfolding nodeFrom definite accessesBelow
+  unfolding nodeBy definite accessesBelow
   constant-good k l s t =
       let made : expressionOf block k ≡ constant (signed (u32At block (nodeAt block k + 4))) = node-made k l ∙ simp (s, t) in
       (rw made (signed-inRange (u32At block (nodeAt block k + 4))), rw made)
 
   access-good : (k : ℕ) → k < nodeCount block → eqb (nodeForm block k) 0 ≡ false → eqb (nodeForm block k) 1 ≡ false
       → eqb (nodeForm block k) 2 ≡ true → Good k
-  unfolding nodeFrom nodeFits definite accessesBelow
+  unfolding nodeBy nodeFits definite accessesBelow
   access-good k l s t u =
       let made : expressionOf block k ≡ access (nodeLeft block k) (nodeRight block k) = node-made k l ∙ simp (s, t, u) in
       let fits = nodes k l in (
@@ -184,7 +184,7 @@ module _ (block : List ℕ) (nodes : (k : ℕ) → k < nodeCount block → nodeF
 
   operation-good : (k : ℕ) → k < nodeCount block → eqb (nodeForm block k) 0 ≡ false → eqb (nodeForm block k) 1 ≡ false
       → eqb (nodeForm block k) 2 ≡ false → ((j : ℕ) → j < k → eqb (nodeForm block j) 0 ≡ false → Good j) → Good k
-  unfolding nodeFrom nodeFits definite accessesBelow
+  unfolding nodeBy nodeFits definite accessesBelow
   operation-good k l s t u earlier =
       let fits = nodes k l in
       let form = nodeForm block k in
