@@ -29,6 +29,7 @@ GROUPS = {
     "graph": ("#fbf3b5", "#8a7500", 0.25),
     "rule": ("#e0dcf5", "#5b4bab", 0.10),
     "listing": ("#d9f0c4", "#3d7a00", 0.65),
+    "variadic": ("#f9d9d9", "#a33a3a", 0.20),
     "ground": ("#e8e8e8", "#4d4d4d", 0.60),
     "meaning": ("#dcecf9", "#1f6fb2", 0.95),
 }

@@ -104,7 +104,7 @@ distinct-range n = places-distinct (range 0 n) 0 (λ i j k l e.
     sym (range-at n i 0 inside) ∙ e ∙ range-at n j 0 within)
 
 -- where x is not in a list, it is found behind it
-position-behind : (x : ℕ) (xs ys : List ℕ) → member x xs ≡ false → position x (xs ++ x ∷ ys) ≡ length xs
+pub position-behind : (x : ℕ) (xs ys : List ℕ) → member x xs ≡ false → position x (xs ++ x ∷ ys) ≡ length xs
 unfolding member position
 position-behind x [] ys h = rw (eq-eqb x x refl) refl
 position-behind x (y ∷ xs) ys h = ⊎-elim
@@ -113,7 +113,7 @@ position-behind x (y ∷ xs) ys h = ⊎-elim
     (decided (eqb x y))
 
 -- what stands in a list is found there, whatever follows
-position-before : (x : ℕ) (xs ys : List ℕ) → member x xs ≡ true → position x (xs ++ ys) ≡ position x xs
+pub position-before : (x : ℕ) (xs ys : List ℕ) → member x xs ≡ true → position x (xs ++ ys) ≡ position x xs
 unfolding member position
 position-before x [] ys h = absurd (true-not-false h refl)
 position-before x (y ∷ xs) ys h = ⊎-elim

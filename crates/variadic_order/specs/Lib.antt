@@ -1,0 +1,3 @@
+pub mod Order
+pub mod Sides
+pub mod Visits
