@@ -6,3 +6,4 @@ pub mod Blocks
 pub mod Variadic
 pub mod Examples
 pub mod Search
+pub mod Definite
