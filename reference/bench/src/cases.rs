@@ -12,7 +12,7 @@ use leafgraph_reference::graph::UNUSED;
 use leafgraph_reference::listing::listing_of;
 use leafgraph_reference::matching::write_map;
 use leafgraph_reference::reply::{refuse_at, reply_of, DONE, GRAPH_CYCLE, YES};
-use leafgraph_reference::rule::MAX_VERTICES;
+use leafgraph_reference::rule::{MAX_FIXED, MAX_VERTICES};
 use leafgraph_reference::MAP_LENGTH;
 
 use crate::graphs::{
@@ -54,7 +54,7 @@ impl Case {
     }
 }
 
-const SIZES: [u16; 6] = [16, 32, 64, 128, 256, 512];
+pub const SIZES: [u16; 6] = [16, 32, 64, 128, 256, 512];
 const FOUND: u64 = DONE;
 const NONE: u64 = 4;
 const NOT_A_MATCH: u64 = 41;
@@ -339,7 +339,7 @@ pub fn checks() -> Vec<Case> {
     cases
 }
 
-type FindMatch = fn(&[u8], &[u8], usize, &mut [u8]) -> u64;
+pub type FindMatch = fn(&[u8], &[u8], usize, &mut [u8]) -> u64;
 
 fn search(
     name: &'static str,
@@ -375,7 +375,7 @@ fn question(
     rule: RuleParts,
     (mut images, vertex): (Vec<u16>, usize),
 ) -> Case {
-    images.resize(MAX_VERTICES, UNUSED);
+    images.resize(MAX_FIXED, UNUSED);
     let mut map = [0; MAP_LENGTH];
     write_map(&mut map, &images.try_into().expect("as many as a map has"));
     let program = |is_read_elsewhere: IsReadElsewhere| -> Program {
@@ -396,7 +396,7 @@ fn question(
     }
 }
 
-type Rewrite = fn(&mut [u8], &[u8], usize, &mut [u8]) -> u64;
+pub type Rewrite = fn(&mut [u8], &[u8], usize, &mut [u8]) -> u64;
 
 /// How a table is rewritten.
 type Course = fn(Rewrite, &mut [u8], &[u8], &mut [u8]) -> u64;

@@ -14,6 +14,7 @@ mod machine;
 mod plain;
 mod report;
 mod timing;
+mod variadic;
 
 use std::path::PathBuf;
 use std::process::exit;
@@ -21,8 +22,10 @@ use std::process::exit;
 use cases::{
     checks, cleanups, imports, listings, questions, rewritings, searches, Answer, Case, Program,
 };
+use leafgraph_reference::stage::{Stage, STAGE};
 use report::{print_table, write_csv, Row};
 use timing::best_of_each;
+use variadic::variadics;
 
 /// The rounds of a row are spread over the whole run: what slows the machine
 /// down for a second does not fall on one row alone.
@@ -57,7 +60,8 @@ fn csv_file() -> Option<PathBuf> {
 fn timed() -> Vec<Row> {
     let cases =
         [checks(), searches(), rewritings(), cleanups(), imports(), questions(), listings()];
-    let cases: Vec<Case> = cases.into_iter().flatten().collect();
+    let later = if STAGE == Stage::Eight { variadics() } else { vec![] };
+    let cases: Vec<Case> = cases.into_iter().flatten().chain(later).collect();
     let mut rows: Vec<Row> = cases.iter().map(first_row).collect();
     for pass in 1..=PASSES {
         eprintln!("pass {pass} of {PASSES}");

@@ -1,7 +1,8 @@
 //! Runs the proved library and the second program on the same random blocks
 //! and reports any difference.
 //!
-//!     compare [--seed S] [--calls N] checks|matching|rewriting|cleanups|readers|listings|mixed
+//!     compare [--seed S] [--calls N]
+//!         checks|matching|rewriting|cleanups|readers|listings|mixed|variadic
 //!
 //! - checks: the two checks, and with every fifth call an import;
 //! - matching: searches;
@@ -10,7 +11,9 @@
 //! - readers: whether a stage is read elsewhere;
 //! - listings: graphs written as text, and texts read;
 //! - mixed: imports, rewritings, sweeps and squeezes in sequences on one graph, whether
-//!   stages of each match are read elsewhere, and each table written as text and read.
+//!   stages of each match are read elsewhere, and each table written as text and read;
+//! - variadic: the check, searches, rewritings and questions with variadic rules (request
+//!   8/13), by the second program at that stage whatever its own is.
 //!
 //! The same seed gives the same calls. Exit status 0: no difference, enough
 //! calls were done, and everything that must be tried was; 1: otherwise; 2:
@@ -49,6 +52,12 @@ mod sweep_classes;
 mod tables;
 mod tally;
 mod unmatched_classes;
+mod variadic;
+mod variadic_block;
+mod variadic_classes;
+mod variadic_maps;
+mod variadic_rule_classes;
+mod variadic_shape_classes;
 mod written_classes;
 
 use std::env;
@@ -59,8 +68,8 @@ use leafgraph_reference::random::Random;
 use tally::Tally;
 
 const DEFAULT_SEED: u64 = 1;
-const USAGE: &str =
-    "usage: compare [--seed S] [--calls N] checks|matching|rewriting|cleanups|readers|listings|mixed";
+const USAGE: &str = "usage: compare [--seed S] [--calls N] \
+    checks|matching|rewriting|cleanups|readers|listings|mixed|variadic";
 
 /// What is compared.
 #[derive(Clone, Copy)]
@@ -70,7 +79,7 @@ struct Mode {
     default_calls: u64,
 }
 
-const MODES: [Mode; 7] = [
+const MODES: [Mode; 8] = [
     Mode { name: "checks", run: checks::run, default_calls: 1_250_000 },
     Mode { name: "matching", run: matching::run, default_calls: 300_000 },
     Mode { name: "rewriting", run: rewriting::run, default_calls: 300_000 },
@@ -78,6 +87,7 @@ const MODES: [Mode; 7] = [
     Mode { name: "readers", run: readers::run, default_calls: 400_000 },
     Mode { name: "listings", run: listings::run, default_calls: 200_000 },
     Mode { name: "mixed", run: mixed::run, default_calls: 200_000 },
+    Mode { name: "variadic", run: variadic::run, default_calls: 100_000 },
 ];
 
 struct Options {

@@ -4,7 +4,7 @@ use leafgraph_reference::generate::Case;
 use leafgraph_reference::graph::{Graph, Slot, UNUSED};
 use leafgraph_reference::matching::{least_match, write_map, Images};
 use leafgraph_reference::random::Random;
-use leafgraph_reference::rule::{Rule, MAX_VERTICES};
+use leafgraph_reference::rule::{Rule, MAX_FIXED, MAX_VERTICES};
 use leafgraph_reference::MAP_LENGTH;
 
 /// A map of the rule into the graph of a sound case, and what it is.
@@ -20,8 +20,8 @@ pub fn any_map(random: &mut Random, case: &Case) -> (&'static str, Vec<u8>) {
         67..=83 => ("one place changed", blocks.changed(random)),
         84..=88 => ("a place behind changed", blocks.changed_behind(random)),
         89..=95 => ("random slots", blocks.random_slots(random)),
-        96 => ("one number in all places", [blocks.any_slot(random); MAX_VERTICES]),
-        97 => ("65535 in all places", [UNUSED; MAX_VERTICES]),
+        96 => ("one number in all places", [blocks.any_slot(random); MAX_FIXED]),
+        97 => ("65535 in all places", [UNUSED; MAX_FIXED]),
         _ => return ("random bytes", random.bytes(MAP_LENGTH)),
     };
     (name, map_bytes(&images))
@@ -57,7 +57,7 @@ impl<'a> Blocks<'a> {
     /// fix, whether or not it is a match. With two outputs it may be one that no
     /// search finds, since the second image is not the least.
     fn by_outputs(self, random: &mut Random) -> Images {
-        let mut images = [UNUSED; MAX_VERTICES];
+        let mut images = [UNUSED; MAX_FIXED];
         for output in self.rule.source_outputs().map(usize::from) {
             images[output] = self.output_image(random, output);
         }
@@ -126,7 +126,7 @@ impl<'a> Blocks<'a> {
 
     /// Slots for the source vertices, and 65535 behind.
     fn random_slots(self, random: &mut Random) -> Images {
-        let mut images = [UNUSED; MAX_VERTICES];
+        let mut images = [UNUSED; MAX_FIXED];
         images[..self.rule.source_count()].fill_with(|| self.any_slot(random));
         images
     }

@@ -9,7 +9,8 @@ use leafgraph_reference::meaning::Meaning;
 use leafgraph_reference::random::Random;
 use leafgraph_reference::recount::count_faults;
 use leafgraph_reference::results::{Accepted, Verdict};
-use leafgraph_reference::rule::Rule;
+use leafgraph_reference::rules::Rules;
+use leafgraph_reference::stage::STAGE;
 
 use crate::arguments::Arguments;
 use crate::refusal_classes::{count_refusal, with_refusals};
@@ -106,11 +107,14 @@ impl Arguments {
 
     /// None where the new table is no sound one.
     fn judge(&self, random: &mut Random, new: &[u8], map: &[u8]) -> Option<Verdicts> {
+        let old = Graph::parse(&self.graph).ok()?;
+        let rules = Rules::parse(STAGE, &self.rule).ok()?;
+        let images = &read_map(map);
         let accepted = Accepted {
-            old: Graph::parse(&self.graph).ok()?,
+            old,
             new: Graph::parse(new).ok()?,
-            rule: Rule::parse(&self.rule).ok()?,
-            images: &read_map(map),
+            rule: rules.rule_of_match(old, images)?,
+            images,
         };
         let (mut lawless, mut lawful) =
             (Meaning::lawless(random.number()), Meaning::lawful(random.number()));
@@ -124,7 +128,7 @@ impl Arguments {
 impl Outcome {
     /// What is wrong with an accepted rewriting, whatever the other program
     /// says of it.
-    fn faults(&self) -> Vec<&'static str> {
+    pub fn faults(&self) -> Vec<&'static str> {
         if self.reply != 0 {
             return vec![];
         }

@@ -388,7 +388,7 @@ impl<'a> Rewriting<'a> {
         let (targets, room) = (self.rule.target_count(), self.free.len());
         let results = results(self.old, self.rule, &self.images);
         let mut nodes = self.rule.targets().flat_map(|pattern| pattern.attributes());
-        let without = nodes.any(|node| results[usize::from(node)].is_none());
+        let without = nodes.any(|node| results.at(0, node).is_none());
         vec![
             ("refused, a later match would do", self.has_accepted_later_match()),
             ("refused 5, an attribute without a result", reply == 5 && without),

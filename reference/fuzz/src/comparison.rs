@@ -3,8 +3,11 @@
 use std::fmt;
 
 use leafgraph_proved::guarded::Guarded;
+use leafgraph_reference::graph::Graph;
+use leafgraph_reference::matching::read_map;
 use leafgraph_reference::reply::{number_of, value_of};
-use leafgraph_reference::rule::Rule;
+use leafgraph_reference::rules::Rules;
+use leafgraph_reference::stage::Stage;
 
 use crate::input::Input;
 use crate::judgement::{Cleaned, Imported, Listed, Rewriting};
@@ -36,32 +39,48 @@ impl fmt::Display for Difference {
 const CLEANED: [Operation; 4] =
     [Operation::Sweep, Operation::Squeeze, Operation::Rewrite, Operation::WriteListing];
 
+/// What is compared: a library and the second program beside it.
+#[derive(Clone, Copy)]
+pub struct Programs<'a> {
+    pub library: &'a Library,
+    pub second: &'a Library,
+}
+
+/// Compares this library with the second program at its own stage.
+pub fn compare(library: &Library, bytes: &[u8], tally: &mut Tally) -> Result<(), Difference> {
+    compare_programs(Programs { library, second: &SECOND }, bytes, tally)
+}
+
 /// Cuts the bytes and makes all calls, and once more with the graph in the other
 /// version: of one version the import takes it, of the other all else.
-pub fn compare(library: &Library, bytes: &[u8], tally: &mut Tally) -> Result<(), Difference> {
+pub fn compare_programs(
+    programs: Programs,
+    bytes: &[u8],
+    tally: &mut Tally,
+) -> Result<(), Difference> {
     let input = Input::cut(bytes);
     let other = input.in_other_version();
     let mut inputs = [Some(input), other].into_iter().flatten();
-    inputs.try_for_each(|input| input.compare_all(library, tally))
+    inputs.try_for_each(|input| input.compare_all(programs, tally))
 }
 
 impl Input {
     /// All ten calls, and questions about the match where there is one; further
     /// rewritings of the graph if the input asks for them. Then the graph that is left
     /// is swept, squeezed, rewritten once more and listed.
-    fn compare_all(mut self, library: &Library, tally: &mut Tally) -> Result<(), Difference> {
+    fn compare_all(mut self, programs: Programs, tally: &mut Tally) -> Result<(), Difference> {
         for operation in OPERATIONS.into_iter().filter(|&one| one != Operation::Rewrite) {
-            self.compare(library, operation, 0, tally)?;
+            self.compare(programs, operation, 0, tally)?;
         }
-        self.compare_questions(library, tally)?;
+        self.compare_questions(programs, tally)?;
         for step in 0..=self.further {
-            match self.compare(library, Operation::Rewrite, step, tally)? {
+            match self.compare(programs, Operation::Rewrite, step, tally)? {
                 Some(graph) => self.graph = graph,
                 None => break,
             }
         }
         for (step, operation) in (self.further + 1..).zip(CLEANED) {
-            if let Some(graph) = self.compare(library, operation, step, tally)? {
+            if let Some(graph) = self.compare(programs, operation, step, tally)? {
                 self.graph = graph;
             }
         }
@@ -70,32 +89,41 @@ impl Input {
 
     /// Whether each vertex of the match that a search finds is read elsewhere, and the
     /// vertex of the input's own number.
-    fn compare_questions(&self, library: &Library, tally: &mut Tally) -> Result<(), Difference> {
-        let found = self.expected(Operation::FindMatch);
-        let Ok(rule) = Rule::parse(&self.rule) else {
-            return Ok(());
-        };
+    fn compare_questions(&self, programs: Programs, tally: &mut Tally) -> Result<(), Difference> {
+        let found = self.expected(programs.second, Operation::FindMatch);
         if found.reply != 0 {
             return Ok(());
         }
+        let vertices = self.matched_vertices(&found.map);
         let mut asked = Input { map: found.map, ..self.clone() };
-        for vertex in (0..rule.source_count()).chain([self.start]) {
+        for vertex in (0..vertices).chain([self.start]) {
             asked.start = vertex;
-            asked.compare(library, Operation::IsReadElsewhere, 0, tally)?;
+            asked.compare(programs, Operation::IsReadElsewhere, 0, tally)?;
         }
         Ok(())
+    }
+
+    /// How many source vertices the rule of this match has.
+    fn matched_vertices(&self, map: &[u8]) -> usize {
+        let rules = Rules::parse(Stage::Eight, &self.rule);
+        let (Ok(graph), Ok(rules)) = (Graph::parse(&self.graph), &rules) else {
+            return 0;
+        };
+        let rule = rules.rule_of_match(graph, &read_map(map));
+        rule.map_or(0, |rule| rule.source_count())
     }
 
     /// The new graph, where the call writes it and is done.
     fn compare(
         &self,
-        library: &Library,
+        programs: Programs,
         operation: Operation,
         step: usize,
         tally: &mut Tally,
     ) -> Result<Option<Vec<u8>>, Difference> {
+        let Programs { library, second } = programs;
         let call = self.call(library, operation);
-        let expected = self.expected(operation);
+        let expected = self.expected(second, operation);
         tally.record(operation, expected.reply);
         let mut faults = call.faults(self, &expected, &self.buffer_for(operation));
         if number_of(expected.reply) == 0 {
@@ -168,7 +196,7 @@ impl Input {
         call
     }
 
-    fn expected(&self, operation: Operation) -> Expected {
+    fn expected(&self, second: &Library, operation: Operation) -> Expected {
         let (mut graph, mut rule) = (self.graph.clone(), self.rule.clone());
         let (mut map, mut list) = (self.map.clone(), self.list.clone());
         let (mut text, mut buffer) = (self.text.clone(), self.buffer_for(operation));
@@ -180,7 +208,7 @@ impl Input {
             text: &mut text,
             buffer: &mut buffer,
         };
-        let reply = SECOND.call(operation, lent, self.start);
+        let reply = second.call(operation, lent, self.start);
         Expected { reply, graph, map, list, buffer }
     }
 

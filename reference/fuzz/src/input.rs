@@ -25,13 +25,13 @@
 //! | Bit | Repair |
 //! |---|---|
 //! | 0 | the rule begins at the first mark `LGR`, whatever the graph length says: bytes may be put in or taken out of either block. Where a mark `LGM` follows, the rule ends there, and the bytes behind it are the map before the call. Where a mark `LGL` follows, rule or map end there, and the bytes behind it are the text that is read |
-//! | 1 | the map is 32 bytes long, cut or filled up with 255 where it is given, the list 2N, and the buffers of listings as long as they should be |
+//! | 1 | the map is as long as the rule's version says, cut or filled up with 255 where it is given, the list 2N, and the buffers of listings as long as they should be |
 //! | 2 | the start is taken modulo 600, a little more than the most slots |
 //! | 3 | the graph's length: N by the bytes there are, no part of a record |
 //! | 4 | the graph's outputs and records: counts by kind and operator, unused places and bytes, inputs and outputs below N; a named Empty slot becomes a Variable |
 //! | 5 | inputs name lower slots, so that there is no cycle (with bit 4 only) |
 //! | 6 | the rule's length: S and T within the bytes, A by the bytes that remain |
-//! | 7 | the rule's outputs, records and nodes: counts, unused places, lower vertices and nodes |
+//! | 7 | the rule's outputs, records and nodes: counts, unused places, lower vertices and nodes; not of a rule of version 2 |
 //! | 15 of bytes 12-13 | the counts of a graph block of version 2 are true |
 //!
 //! What is right already stays as it is, so a sound block passes unchanged. The
@@ -42,6 +42,7 @@ use leafgraph_reference::counts::write_true_counts;
 use leafgraph_reference::graph::{slots_told, Graph, Version, HEADER, MAX_SLOTS, RECORD};
 use leafgraph_reference::listing::listing_of;
 use leafgraph_reference::random::mixed;
+use leafgraph_reference::stage::STAGE;
 use leafgraph_reference::MAP_LENGTH;
 
 use crate::repair::{self, version_of};
@@ -156,12 +157,14 @@ impl Control {
         match self.position_of(MAP_MARK, rule) {
             Some(at) => {
                 let mut map = rule[at + MAP_MARK.len()..].to_vec();
+                let rule = rule[..at].to_vec();
                 if self.repairs(MAP) {
-                    map.resize(MAP_LENGTH, 255);
+                    map.resize(STAGE.map_length(&rule), 255);
                 }
-                (rule[..at].to_vec(), map)
+                (rule, map)
             }
-            None => (rule.to_vec(), self.counting(self.map_length())),
+            None if self.repairs(MAP) => (rule.to_vec(), self.counting(STAGE.map_length(rule))),
+            None => (rule.to_vec(), self.counting(self.map_length.into())),
         }
     }
 

@@ -10,8 +10,9 @@ use leafgraph_reference::meaning::Meaning;
 use leafgraph_reference::random::Random;
 use leafgraph_reference::recount::{count_faults, import_faults};
 use leafgraph_reference::results::Accepted;
-use leafgraph_reference::rule::Rule;
+use leafgraph_reference::rules::Rules;
 use leafgraph_reference::squeeze::NOWHERE;
+use leafgraph_reference::stage::Stage;
 
 use crate::library::{Library, SECOND};
 
@@ -27,13 +28,18 @@ impl Rewriting<'_> {
     /// What is wrong with it.
     pub fn faults(&self, library: &Library, seed: u64) -> Vec<String> {
         let mut faults = unsound_for(library, self.new);
-        let (Ok(old), Ok(new), Ok(rule)) =
-            (Graph::parse(self.old), Graph::parse(self.new), Rule::parse(self.rule))
+        let rules = Rules::parse(Stage::Eight, self.rule);
+        let (Ok(old), Ok(new), Ok(rules)) =
+            (Graph::parse(self.old), Graph::parse(self.new), &rules)
         else {
             faults.push("a rewriting of blocks that are not sound was accepted".into());
             return faults;
         };
         let images = read_map(self.map);
+        let Some(rule) = rules.rule_of_match(old, &images) else {
+            faults.push("a rewriting was accepted, and its map is no match".into());
+            return faults;
+        };
         let accepted = Accepted { old, new, rule, images: &images };
         let mut random = Random::new(seed);
         let lawless = Meaning::lawless(random.number());

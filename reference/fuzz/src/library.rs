@@ -1,5 +1,8 @@
 //! The ten operations, of either program.
 
+use leafgraph_reference::reply::RULE_EXPANSION;
+use leafgraph_reference::stage::{Stage, STAGE};
+
 /// One of document 01's four operations, of request 4/13's two, request 5/13's or
 /// 6/13's, or one of request 7/13's two.
 #[derive(Clone, Copy, Debug, PartialEq, Eq)]
@@ -57,15 +60,24 @@ impl Operation {
     /// "A wrong count is 24", and version 1 has none. The question has "1, the graph
     /// and rule ones, then 41 [...], 42"; "writing gives the graph ones, then 43 [...];
     /// reading gives 44 [...], 45 [...], 46".
-    pub fn numbers(self) -> &'static [u8] {
+    pub fn numbers(self) -> impl Iterator<Item = u8> {
+        let has_variadic = STAGE == Stage::Eight;
+        let numbers = self.all_numbers().iter().copied();
+        numbers.filter(move |&number| number != RULE_EXPANSION || has_variadic)
+    }
+
+    /// With request 8/13's "35 [...], after 34".
+    fn all_numbers(self) -> &'static [u8] {
         match self {
             Operation::CheckGraph | Operation::Sweep => &[0, 20, 21, 22, 23, 24],
-            Operation::CheckRule => &[0, 30, 31, 32, 33, 34],
-            Operation::FindMatch => &[0, 1, 20, 21, 22, 23, 24, 30, 31, 32, 33, 34, 4],
-            Operation::Rewrite => &[0, 1, 20, 21, 22, 23, 24, 30, 31, 32, 33, 34, 4, 5, 6, 7],
+            Operation::CheckRule => &[0, 30, 31, 32, 33, 34, 35],
+            Operation::FindMatch => &[0, 1, 20, 21, 22, 23, 24, 30, 31, 32, 33, 34, 35, 4],
+            Operation::Rewrite => &[0, 1, 20, 21, 22, 23, 24, 30, 31, 32, 33, 34, 35, 4, 5, 6, 7],
             Operation::Squeeze => &[0, 20, 21, 22, 23, 24, 40],
             Operation::Import => &[0, 20, 21, 22, 23],
-            Operation::IsReadElsewhere => &[0, 1, 20, 21, 22, 23, 24, 30, 31, 32, 33, 34, 41, 42],
+            Operation::IsReadElsewhere => {
+                &[0, 1, 20, 21, 22, 23, 24, 30, 31, 32, 33, 34, 35, 41, 42]
+            }
             Operation::WriteListing => &[0, 20, 21, 22, 23, 24, 43],
             Operation::ReadListing => &[0, 44, 45, 46],
         }
@@ -114,6 +126,17 @@ pub const SECOND: Library = Library {
     is_read_elsewhere: leafgraph_reference::is_read_elsewhere,
     write_listing: leafgraph_reference::write_listing,
     read_listing: leafgraph_reference::read_listing,
+};
+
+/// The second program with request 8/13, whatever its own stage is.
+pub const SECOND_WITH_VARIADIC: Library = Library {
+    check_rule: |rule| Stage::Eight.check_rule(rule),
+    find_match: |graph, rule, start, map| Stage::Eight.find_match(graph, rule, start, map),
+    rewrite: |graph, rule, start, map| Stage::Eight.rewrite(graph, rule, start, map),
+    is_read_elsewhere: |graph, rule, map, vertex| {
+        Stage::Eight.is_read_elsewhere(graph, rule, map, vertex)
+    },
+    ..SECOND
 };
 
 /// What a call is lent, each part of it in bytes that may be written.

@@ -192,9 +192,10 @@ fn target_place(place: &mut u8, source: usize, targets: usize) {
 }
 
 /// Outputs, records and nodes, as far as there are bytes for those that the
-/// header tells of.
+/// header tells of. A rule of version 2 stays as it is: its marks, index and sums are
+/// nothing that version 1 has.
 pub fn rule_records(block: &mut [u8]) {
-    if block.len() < rule::HEADER {
+    if block.len() < rule::HEADER || block[4..6] == [2, 0] {
         return;
     }
     let (header, rest) = block.split_at_mut(rule::HEADER);

@@ -38,7 +38,7 @@ impl Tally {
     pub fn missing(&self) -> Vec<String> {
         let mut missing = vec![];
         for operation in OPERATIONS {
-            for &number in operation.numbers() {
+            for number in operation.numbers() {
                 if self.counts[operation as usize][usize::from(number)] == 0 {
                     missing.push(format!("{} never replied {number}", operation.name()));
                 }

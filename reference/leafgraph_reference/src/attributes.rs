@@ -1,39 +1,74 @@
 //! "Attribute results".
 
 use crate::graph::{Graph, UNUSED};
+use crate::matching::Images;
 use crate::rule::{
-    Node, Rule, ACCESS, ANY, CONSTANT, DIVIDE, MAX_NODES, MAX_VERTICES, MINUS, PLUS, REMAINDER,
-    TIMES,
+    Node, Rule, ACCESS, ANY, CONSTANT, DIVIDE, INDEX, MAX_NODES, MINUS, PLUS, REMAINDER, SUM, TIMES,
 };
 
 /// The result of each node, if it has one.
-pub type Results = [Option<i32>; MAX_NODES];
+type NodeResults = [Option<i32>; MAX_NODES];
+
+/// The results at each index.
+pub struct Results {
+    /// At index 0, which is that of all vertices but copies.
+    plain: NodeResults,
+    /// From index 1 on, in a fixed rule of request 8/13 alone.
+    of_copies: Vec<NodeResults>,
+}
 
 /// The results of all nodes under these images. Operands are earlier nodes,
-/// so one pass from the first to the last computes each node once. A vertex
-/// without an image yet gives no result; the rule check shows that no
+/// so one pass from the first to the last computes each node once for each index. A
+/// vertex without an image yet gives no result; the rule check shows that no
 /// attribute looked at so early depends on one.
-pub fn results(graph: Graph, rule: Rule, images: &[u16; MAX_VERTICES]) -> Results {
-    let mut results = [None; MAX_NODES];
-    for index in 0..rule.node_count() {
-        let node = rule.node(index);
-        results[index] = match node.form {
-            ANY => None,
-            CONSTANT => Some(node.number),
-            ACCESS => accessed(graph, images, node),
-            form => {
-                let (left, right) = (results[usize::from(node.a)], results[usize::from(node.b)]);
-                left.zip(right).and_then(|(left, right)| combine(form, left, right))
-            }
-        };
+pub fn results(graph: Graph, rule: Rule, images: &Images) -> Results {
+    let none = [None; MAX_NODES];
+    let mut results = Results { plain: none, of_copies: vec![none; rule.width()] };
+    for number in 0..rule.node_count() {
+        let node = rule.node(number);
+        for index in 0..=rule.width() {
+            let result = match node.form {
+                ANY => None,
+                CONSTANT => Some(node.number),
+                ACCESS => accessed(graph, rule, images, node, index),
+                INDEX => Some(index as i32),
+                SUM => sum(rule.indices().map(|term| results.at(term, node.a))),
+                form => {
+                    let (left, right) = (results.at(index, node.a), results.at(index, node.b));
+                    left.zip(right).and_then(|(left, right)| combine(form, left, right))
+                }
+            };
+            results.at_index(index)[number] = result;
+        }
     }
     results
 }
 
+impl Results {
+    pub fn at(&self, index: usize, node: u8) -> Option<i32> {
+        let results = if index == 0 { &self.plain } else { &self.of_copies[index - 1] };
+        results[usize::from(node)]
+    }
+
+    fn at_index(&mut self, index: usize) -> &mut NodeResults {
+        if index == 0 {
+            &mut self.plain
+        } else {
+            &mut self.of_copies[index - 1]
+        }
+    }
+}
+
+/// "its terms added from 1 up as by form 3": each partial sum must be in range.
+fn sum(mut terms: impl Iterator<Item = Option<i32>>) -> Option<i32> {
+    let first = terms.next()??;
+    terms.try_fold(first, |sum, term| combine(PLUS, sum, term?))
+}
+
 /// "access (attribute place b, 1 to 6, of source vertex a, below S)"; "an
 /// access past the matched vertex's m has no result".
-fn accessed(graph: Graph, images: &[u16; MAX_VERTICES], node: Node) -> Option<i32> {
-    let image = images[usize::from(node.a)];
+fn accessed(graph: Graph, rule: Rule, images: &Images, node: Node, index: usize) -> Option<i32> {
+    let image = images[rule.accessed(node.a, index)?];
     if image == UNUSED {
         return None;
     }
@@ -72,7 +107,6 @@ fn quotient(dividend: i64, divisor: i64) -> Option<i64> {
 
 /// "any agrees with every attribute. Another expression agrees with a number
 /// exactly when it has that result."
-pub fn agrees(rule: Rule, results: &Results, node: u8, number: i32) -> bool {
-    let node = usize::from(node);
-    rule.node(node).form == ANY || results[node] == Some(number)
+pub fn agrees(rule: Rule, results: &Results, index: usize, node: u8, number: i32) -> bool {
+    rule.node(node.into()).form == ANY || results.at(index, node) == Some(number)
 }

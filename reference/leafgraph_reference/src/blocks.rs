@@ -11,7 +11,9 @@ use crate::graph::{self, write_record, Graph, Slot, Version, OUTPUT_PLACES, VERS
 use crate::operators::{
     ADD, CALL, CONST, CONV2D, EMPTY, GAIN, MEAN, PROJ, RELU, SUB, TUPLE, VARIABLE, WILDCARD,
 };
-use crate::rule::{self, Node, ACCESS, ANY, CONSTANT, TARGET_BASE, TIMES};
+use crate::rule::{
+    self, Node, Rule, ACCESS, ANY, CONSTANT, INDEX, SUM, TARGET_BASE, TEMPLATE, TIMES,
+};
 
 /// One slot of a graph.
 #[derive(Clone, Debug, PartialEq, Eq)]
@@ -175,6 +177,11 @@ pub fn call_pattern(operator: u8, inputs: &[u8], attributes: &[u8]) -> PatternPa
     pattern(CALL, operator, inputs, attributes)
 }
 
+/// The same pattern marked as a template.
+pub fn template(pattern: PatternParts) -> PatternParts {
+    PatternParts { kind: pattern.kind + TEMPLATE, ..pattern }
+}
+
 /// The place of target vertex t.
 pub fn target_place(vertex: u8) -> u8 {
     TARGET_BASE + vertex
@@ -198,11 +205,38 @@ pub fn operation_node(form: u8, left: u8, right: u8) -> Node {
     node(form, left, right, 0)
 }
 
+/// The index, in a template or under a sum.
+pub fn index_node() -> Node {
+    node(INDEX, 0, 0, 0)
+}
+
+/// The sum of an earlier node.
+pub fn sum_node(term: u8) -> Node {
+    node(SUM, term, 0, 0)
+}
+
 pub fn node(form: u8, a: u8, b: u8, number: i32) -> Node {
     Node { form, a, b, number }
 }
 
 impl RuleParts {
+    /// What a rule has. The nodes of a fixed rule of request 8/13 are still the block's.
+    pub fn of(rule: Rule) -> RuleParts {
+        let parts = |one: rule::Pattern| PatternParts {
+            kind: one.kind(),
+            operator: one.operator(),
+            inputs: one.inputs().collect(),
+            attributes: one.attributes().collect(),
+        };
+        RuleParts {
+            source: rule.sources().map(parts).collect(),
+            target: rule.targets().map(parts).collect(),
+            source_outputs: rule.source_outputs().collect(),
+            target_outputs: rule.target_outputs().collect(),
+            nodes: (0..rule.node_count()).map(|node| rule.node(node)).collect(),
+        }
+    }
+
     /// The block; K is the number of source outputs. At most two outputs a
     /// side.
     pub fn block(&self) -> Vec<u8> {
@@ -226,6 +260,32 @@ impl RuleParts {
             bytes.extend(record);
         }
         bytes
+    }
+}
+
+/// A variadic rule (request 8/13) before it is written as bytes.
+#[derive(Clone, Debug, PartialEq, Eq)]
+pub struct VariadicParts {
+    pub rule: RuleParts,
+    pub source_tuple: u8,
+    pub target_tuple: Option<u8>,
+}
+
+impl VariadicParts {
+    /// The block, in version 2.
+    pub fn block(&self) -> Vec<u8> {
+        self.named_in(self.rule.block())
+    }
+
+    /// These bytes as a block of version 2 with these Tuples, as far as they have a
+    /// header.
+    pub fn named_in(&self, mut block: Vec<u8>) -> Vec<u8> {
+        if let Some(header) = block.get_mut(..rule::HEADER) {
+            header[4] = 2;
+            header[14] = self.source_tuple;
+            header[15] = self.target_tuple.unwrap_or(rule::UNUSED);
+        }
+        block
     }
 }
 

@@ -1,5 +1,5 @@
 //! The second program of leafgraph: document 01, with requests 1/13, 2/13 and 4/13
-//! to 7/13 of document 02, in plain Rust.
+//! to 8/13 of document 02, in plain Rust. Request 8/13 is behind a switch (`stage`).
 //!
 //! It is written from these papers alone, not from the proved library, so that
 //! an error of reading in one of the two shows up as a difference between
@@ -17,6 +17,7 @@ pub mod blocks;
 pub mod cleanup;
 pub mod counts;
 mod cycle;
+pub mod expansion;
 mod fields;
 pub mod generate;
 pub mod graph;
@@ -37,17 +38,23 @@ mod rewriting;
 pub mod rule;
 mod rule_check;
 pub mod rule_faults;
+pub mod rules;
 pub mod squeeze;
+pub mod stage;
 pub mod sweep;
 
 use blocks::GraphParts;
 use graph::{Graph, MAX_BLOCK};
 use readers::Mapped;
 use reply::{reply_of, reply_to_question, reply_with_value, Refusal, NO_LISTING};
-use rule::Rule;
+use rules::Rules;
+use stage::{Stage, STAGE};
 
-/// "map buffer isn't 32 bytes": the only length of a map that is taken.
+/// "map buffer isn't 32 bytes": the only length of a map that is taken with a rule of
+/// version 1.
 pub const MAP_LENGTH: usize = 32;
+/// "The map buffer is 128 bytes where rule bytes 4-5 read 2."
+pub const VARIADIC_MAP_LENGTH: usize = 128;
 
 /// "Checking a graph gives 0 or 2", and "20 to 23 replace 2"; "a wrong count is
 /// 24"; "the checks write nothing".
@@ -55,21 +62,22 @@ pub fn check_graph(graph: &[u8]) -> u64 {
     reply_of(Graph::parse(graph).map(|_| ()))
 }
 
-/// "a rule 0 or 3", and "30 to 34 replace 3".
+/// "a rule 0 or 3", and "30 to 34 replace 3"; with request 8/13 "35 [...] after 34".
 pub fn check_rule(rule: &[u8]) -> u64 {
-    reply_of(Rule::parse(rule).map(|_| ()))
+    STAGE.check_rule(rule)
 }
 
-/// "matching 0 to 4", where the numbers that replace 2 and 3 stand "in place".
+/// "matching 0 to 4", where the numbers that replace 2 and 3 stand "in place". With a
+/// variadic rule "the least match is taken over all n together".
 /// "Done, in matching and in rewriting, writes the map."
 /// A start is any number and is compared with N as it is.
 pub fn find_match(graph: &[u8], rule: &[u8], start: usize, map: &mut [u8]) -> u64 {
-    reply_of(try_find_match(graph, rule, start, map))
+    STAGE.find_match(graph, rule, start, map)
 }
 
 /// "rewriting 0 to 7". After a refusal "every lent byte keeps its content".
 pub fn rewrite(graph: &mut [u8], rule: &[u8], start: usize, map: &mut [u8]) -> u64 {
-    reply_of(try_rewrite(graph, rule, start, map))
+    STAGE.rewrite(graph, rule, start, map)
 }
 
 /// "Every vertex from which no graph output is reached becomes Empty, except
@@ -98,7 +106,35 @@ pub fn import(graph: &mut [u8]) -> u64 {
 /// when it is no such vertex." A vertex is any number and is compared with S as it
 /// is.
 pub fn is_read_elsewhere(graph: &[u8], rule: &[u8], map: &[u8], vertex: usize) -> u64 {
-    reply_to_question(try_is_read_elsewhere(graph, rule, map, vertex))
+    STAGE.is_read_elsewhere(graph, rule, map, vertex)
+}
+
+/// The operations that take a rule, at any stage.
+impl Stage {
+    pub fn check_rule(self, rule: &[u8]) -> u64 {
+        reply_of(Rules::parse(self, rule).map(|_| ()))
+    }
+
+    pub fn find_match(self, graph: &[u8], rule: &[u8], start: usize, map: &mut [u8]) -> u64 {
+        reply_of(try_find_match(self, graph, rule, start, map))
+    }
+
+    pub fn rewrite(self, graph: &mut [u8], rule: &[u8], start: usize, map: &mut [u8]) -> u64 {
+        reply_of(try_rewrite(self, graph, rule, start, map))
+    }
+
+    pub fn is_read_elsewhere(self, graph: &[u8], rule: &[u8], map: &[u8], vertex: usize) -> u64 {
+        reply_to_question(try_is_read_elsewhere(self, graph, rule, map, vertex))
+    }
+
+    /// The length that a map must have. It is judged by the rule's version alone and
+    /// before anything else; a rule that is too short for a version has none.
+    pub fn map_length(self, rule: &[u8]) -> usize {
+        match rule.get(4..6) {
+            Some([2, 0]) if self == Stage::Eight => VARIADIC_MAP_LENGTH,
+            _ => MAP_LENGTH,
+        }
+    }
 }
 
 /// "Write a graph as text". "Writing returns the text's length and keeps the rest of the
@@ -117,20 +153,32 @@ pub fn read_listing(text: &[u8], graph: &mut [u8]) -> u64 {
     reply_of(try_read_listing(text, graph))
 }
 
-fn try_find_match(graph: &[u8], rule: &[u8], start: usize, map: &mut [u8]) -> Result<(), Refusal> {
-    check_map_length(map)?;
+fn try_find_match(
+    stage: Stage,
+    graph: &[u8],
+    rule: &[u8],
+    start: usize,
+    map: &mut [u8],
+) -> Result<(), Refusal> {
+    check_map_length(stage, rule, map)?;
     let graph = Graph::parse(graph)?;
-    let rule = Rule::parse(rule)?;
-    let images = matching::least_match(graph, rule, start).ok_or(Refusal::NO_MATCH)?;
+    let rules = Rules::parse(stage, rule)?;
+    let (_, images) = rules.least_match(graph, start).ok_or(Refusal::NO_MATCH)?;
     matching::write_map(map, &images);
     Ok(())
 }
 
-fn try_rewrite(graph: &mut [u8], rule: &[u8], start: usize, map: &mut [u8]) -> Result<(), Refusal> {
-    check_map_length(map)?;
+fn try_rewrite(
+    stage: Stage,
+    graph: &mut [u8],
+    rule: &[u8],
+    start: usize,
+    map: &mut [u8],
+) -> Result<(), Refusal> {
+    check_map_length(stage, rule, map)?;
     let old = Graph::parse(graph)?;
-    let rule = Rule::parse(rule)?;
-    let images = matching::least_match(old, rule, start).ok_or(Refusal::NO_MATCH)?;
+    let rules = Rules::parse(stage, rule)?;
+    let (rule, images) = rules.least_match(old, start).ok_or(Refusal::NO_MATCH)?;
     let mut buffer = [0; MAX_BLOCK];
     let new = &mut buffer[..old.bytes().len()];
     rewriting::write_new_table(new, old, rule, &images)?;
@@ -160,22 +208,20 @@ fn try_squeeze(graph: &mut [u8], moves: &mut [u8]) -> Result<(), Refusal> {
 }
 
 fn try_is_read_elsewhere(
+    stage: Stage,
     graph: &[u8],
     rule: &[u8],
     map: &[u8],
     vertex: usize,
 ) -> Result<bool, Refusal> {
-    check_map_length(map)?;
-    let (graph, rule) = (Graph::parse(graph)?, Rule::parse(rule)?);
+    check_map_length(stage, rule, map)?;
+    let (graph, rules) = (Graph::parse(graph)?, Rules::parse(stage, rule)?);
     let images = &matching::read_map(map);
-    let mapped = Mapped { graph, rule, images };
-    if !mapped.is_match() {
-        return Err(Refusal::NOT_A_MATCH);
-    }
+    let rule = rules.rule_of_match(graph, images).ok_or(Refusal::NOT_A_MATCH)?;
     if vertex >= rule.source_count() || rule.source(vertex).is_input_kind() {
         return Err(Refusal::NO_SUCH_VERTEX);
     }
-    Ok(mapped.is_read_elsewhere(images[vertex]))
+    Ok(Mapped { graph, rule, images }.is_read_elsewhere(images[vertex]))
 }
 
 fn try_write_listing(graph: &[u8], text: &mut [u8]) -> Result<u32, Refusal> {
@@ -197,8 +243,8 @@ fn try_read_listing(text: &[u8], graph: &mut [u8]) -> Result<(), Refusal> {
     Ok(())
 }
 
-fn check_map_length(map: &[u8]) -> Result<(), Refusal> {
-    if map.len() == MAP_LENGTH {
+fn check_map_length(stage: Stage, rule: &[u8], map: &[u8]) -> Result<(), Refusal> {
+    if map.len() == stage.map_length(rule) {
         Ok(())
     } else {
         Err(Refusal::MAP_LENGTH)

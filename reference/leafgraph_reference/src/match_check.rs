@@ -11,7 +11,7 @@ use crate::rule::Pattern;
 /// about the places that name a slot.
 #[derive(Clone, Copy, Debug, PartialEq, Eq)]
 pub enum Clause {
-    /// "sixteen 16-bit numbers, 65535 from S on"
+    /// "sixteen 16-bit numbers, 65535 from S on", where of a variadic rule there are 64
     Behind,
     /// "a map from source vertices to slots that aren't Empty"
     Slots,
@@ -69,18 +69,27 @@ impl<'a> Mapped<'a> {
         usize::from(image) < self.graph.slot_count()
     }
 
-    /// The source vertices whose place names a slot, with that slot.
+    /// The source vertices whose place names a slot.
+    fn mapped_vertices(self) -> impl Iterator<Item = usize> + 'a {
+        (0..self.rule.source_count()).filter(move |&vertex| self.names_slot(self.images[vertex]))
+    }
+
+    /// They with that slot.
     fn mapped(self) -> impl Iterator<Item = (Pattern<'a>, Slot<'a>)> {
-        let pairs = self.rule.sources().zip(self.images).filter(move |(_, &i)| self.names_slot(i));
-        pairs.map(move |(pattern, &image)| (pattern, self.graph.slot(image.into())))
+        self.mapped_vertices().map(move |vertex| self.pair(vertex))
+    }
+
+    fn pair(self, vertex: usize) -> (Pattern<'a>, Slot<'a>) {
+        (self.rule.source(vertex), self.graph.slot(self.images[vertex].into()))
     }
 
     fn attributes_agree(self) -> bool {
         let known = self.images.map(|image| if self.names_slot(image) { image } else { UNUSED });
         let results = results(self.graph, self.rule, &known);
-        self.mapped().all(|(pattern, slot)| {
+        self.mapped_vertices().all(|vertex| {
+            let ((pattern, slot), index) = (self.pair(vertex), self.rule.source_index(vertex));
             let mut pairs = pattern.attributes().zip(slot.attributes());
-            pairs.all(|(node, number)| agrees(self.rule, &results, node, number))
+            pairs.all(|(node, number)| agrees(self.rule, &results, index, node, number))
         })
     }
 

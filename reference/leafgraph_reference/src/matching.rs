@@ -6,10 +6,10 @@ use crate::attributes::{agrees, results};
 use crate::fields::{put_u16, u16_at};
 use crate::graph::{Graph, UNUSED};
 use crate::operators::CONST;
-use crate::rule::{Rule, MAX_VERTICES};
+use crate::rule::{Rule, MAX_FIXED};
 
 /// The slot of each source vertex; 65535 where there is none.
-pub type Images = [u16; MAX_VERTICES];
+pub type Images = [u16; MAX_FIXED];
 
 /// What a search knows before it starts.
 struct Search<'a> {
@@ -18,7 +18,7 @@ struct Search<'a> {
     /// For a source vertex whose image must not be named from outside, how
     /// many input places of the source name it; `None` for rule inputs, source
     /// outputs and Consts.
-    inner_reads: [Option<u16>; MAX_VERTICES],
+    inner_reads: [Option<u16>; MAX_FIXED],
 }
 
 /// "A search takes a start number s and takes the match whose first output's
@@ -30,7 +30,7 @@ pub fn least_match(graph: Graph, rule: Rule, start: usize) -> Option<Images> {
     // it reaches from, the rest belong to the second output alone.
     let first_output = usize::from(rule.source_output(0));
     for first in start..graph.slot_count() {
-        let mut images = [UNUSED; MAX_VERTICES];
+        let mut images = [UNUSED; MAX_FIXED];
         if !search.extend(&mut images, 0..first_output + 1, first as u16) {
             continue;
         }
@@ -44,23 +44,28 @@ pub fn least_match(graph: Graph, rule: Rule, start: usize) -> Option<Images> {
     None
 }
 
-/// "sixteen 16-bit numbers, 65535 from S on"
+/// "sixteen 16-bit numbers, 65535 from S on", or with request 8/13 the 64 of a map of 128
+/// bytes.
 pub fn write_map(map: &mut [u8], images: &Images) {
-    for (vertex, &image) in images.iter().enumerate() {
-        put_u16(map, 2 * vertex, image);
+    for (place, &image) in map.chunks_exact_mut(2).zip(images) {
+        put_u16(place, 0, image);
     }
 }
 
 /// The images that a whole map holds.
 pub fn read_map(map: &[u8]) -> Images {
-    std::array::from_fn(|vertex| u16_at(map, 2 * vertex))
+    let mut images = [UNUSED; MAX_FIXED];
+    for (image, place) in images.iter_mut().zip(map.chunks_exact(2)) {
+        *image = u16_at(place, 0);
+    }
+    images
 }
 
 /// Rule inputs have no inputs of their own, so every input place of the
 /// source belongs to a non-input source vertex. By request 1/13 "a matched
 /// Const may have other readers and may be a graph output".
-fn count_inner_reads(rule: Rule) -> [Option<u16>; MAX_VERTICES] {
-    let mut counts = [None; MAX_VERTICES];
+fn count_inner_reads(rule: Rule) -> [Option<u16>; MAX_FIXED] {
+    let mut counts = [None; MAX_FIXED];
     let is_private = |number: u8| {
         !rule.is_rule_input(number)
             && rule.source_outputs().all(|output| output != number)
@@ -111,7 +116,8 @@ impl Search<'_> {
         if images[vertex] != UNUSED {
             return images[vertex] == image;
         }
-        if !self.suits(vertex, image) || images.contains(&image) {
+        let given = &images[..self.rule.source_count()];
+        if !self.suits(vertex, image) || given.contains(&image) {
             return false;
         }
         images[vertex] = image;
@@ -142,10 +148,11 @@ impl Search<'_> {
         let results = results(self.graph, self.rule, images);
         vertices.into_iter().all(|vertex| {
             let slot = self.graph.slot(usize::from(images[vertex]));
+            let index = self.rule.source_index(vertex);
             let nodes = self.rule.source(vertex).attributes();
             nodes
                 .zip(slot.attributes())
-                .all(|(node, number)| agrees(self.rule, &results, node, number))
+                .all(|(node, number)| agrees(self.rule, &results, index, node, number))
         })
     }
 }

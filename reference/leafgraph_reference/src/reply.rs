@@ -1,6 +1,7 @@
 //! "Inside, a reply is one of two cases, done or a refusal with its number
 //! and place record". Request 2/13 tells the kinds of fault apart, "20 to 23
-//! replace 2 and 30 to 34 replace 3", and gives the place; request 5/13 adds 24.
+//! replace 2 and 30 to 34 replace 3", and gives the place; request 5/13 adds 24 and
+//! request 8/13 adds 35.
 //! From request 6/13 on done may have a value: 1 for yes and 0 for no, and in request
 //! 7/13 the length of a text that was written.
 
@@ -20,6 +21,8 @@ pub const RULE_ORDER: u8 = 32;
 /// "an expression, nodes first, then each vertex's use of them", with the node
 /// or the vertex.
 pub const RULE_EXPRESSION: u8 = 34;
+/// "an expansion for n up to 6 isn't a sound rule", with "the least such n".
+pub const RULE_EXPANSION: u8 = 35;
 
 /// A text that is no listing, with "the place of the first byte at which no listing can
 /// go on, or the text's length where it ends early".
@@ -33,7 +36,7 @@ pub struct Refusal {
 }
 
 impl Refusal {
-    /// "map buffer isn't 32 bytes"
+    /// "map buffer isn't 32 bytes", or with request 8/13 128 "where rule bytes 4-5 read 2"
     pub const MAP_LENGTH: Refusal = Refusal::without_place(1);
     /// A graph's "length or header"
     pub const GRAPH_HEADER: Refusal = Refusal::without_place(20);

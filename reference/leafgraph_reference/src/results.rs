@@ -6,7 +6,7 @@ use crate::matching::Images;
 use crate::meaning::{Meaning, Term};
 use crate::random::Random;
 use crate::removal::removed_slots;
-use crate::rule::{Pattern, Rule, TARGET_BASE};
+use crate::rule::{Pattern, Rule};
 
 /// An accepted rewriting: the old table, the new one, and the match.
 #[derive(Clone, Copy)]
@@ -116,7 +116,7 @@ impl Accepted<'_> {
         let rule = self.rule;
         let source = self.source_results(meaning, random);
         let target = self.target_results(meaning, &source);
-        let place = |place: u8| match place.checked_sub(TARGET_BASE) {
+        let place = |place: u8| match place.checked_sub(rule.target_base()) {
             Some(vertex) => target[usize::from(vertex)],
             None => source[usize::from(place)],
         };
@@ -149,10 +149,12 @@ impl Accepted<'_> {
     /// its expressions for this match."
     fn target_results(&self, meaning: &mut Meaning, source: &[u64]) -> Vec<u64> {
         let numbers = attributes::results(self.old, self.rule, self.images);
-        let number = |node: u8| numbers[usize::from(node)].expect("it was accepted").into();
+        let base = self.rule.target_base();
         let mut results: Vec<u64> = vec![];
-        for pattern in self.rule.targets() {
-            let inputs = pattern.inputs().map(|place| match place.checked_sub(TARGET_BASE) {
+        for (vertex, pattern) in self.rule.targets().enumerate() {
+            let index = self.rule.target_index(vertex);
+            let number = |node: u8| numbers.at(index, node).expect("it was accepted").into();
+            let inputs = pattern.inputs().map(|place| match place.checked_sub(base) {
                 Some(vertex) => results[usize::from(vertex)],
                 None => source[usize::from(place)],
             });

@@ -9,10 +9,10 @@ use crate::matching::Images;
 use crate::operators::{PLACES, PROJ};
 use crate::removal::removed_slots;
 use crate::reply::Refusal;
-use crate::rule::{Rule, MAX_OUTPUTS, MAX_VERTICES, TARGET_BASE};
+use crate::rule::{Rule, MAX_FIXED, MAX_OUTPUTS};
 
 /// The attributes of each target vertex.
-type TargetAttributes = [[i32; PLACES]; MAX_VERTICES];
+type TargetAttributes = [[i32; PLACES]; MAX_FIXED];
 
 /// Writes the new table for this match into a buffer of the old one's length
 /// that nobody has lent: a refusal may still follow. The refusals come in
@@ -43,10 +43,10 @@ pub fn write_new_table(
 /// below 1".
 fn target_attributes(old: Graph, rule: Rule, images: &Images) -> Option<TargetAttributes> {
     let results = results(old, rule, images);
-    let mut attributes = [[0; PLACES]; MAX_VERTICES];
+    let mut attributes = [[0; PLACES]; MAX_FIXED];
     for (vertex, pattern) in rule.targets().enumerate() {
         for (place, node) in pattern.attributes().enumerate() {
-            let number = results[usize::from(node)]?;
+            let number = results.at(rule.target_index(vertex), node)?;
             if pattern.kind() == PROJ && number < 1 {
                 return None;
             }
@@ -59,8 +59,8 @@ fn target_attributes(old: Graph, rule: Rule, images: &Images) -> Option<TargetAt
 /// "Target vertices, in order, take the lowest Empty slots, those just freed
 /// among them." None when "T exceeds Empty slots plus removed ones"; by
 /// request 1/13 this test "counts only slots really removed".
-fn target_slots(old: Graph, rule: Rule, removed: &[bool]) -> Option<[u16; MAX_VERTICES]> {
-    let mut slots = [0; MAX_VERTICES];
+fn target_slots(old: Graph, rule: Rule, removed: &[bool]) -> Option<[u16; MAX_FIXED]> {
+    let mut slots = [0; MAX_FIXED];
     let mut free = (0..old.slot_count()).filter(|&slot| old.slot(slot).is_empty() || removed[slot]);
     for slot in slots.iter_mut().take(rule.target_count()) {
         *slot = free.next()? as u16;
@@ -76,14 +76,14 @@ struct Plan<'a> {
     /// For each slot of the old table, whether it is freed.
     removed: [bool; MAX_SLOTS],
     /// The slots of the target vertices.
-    slots: [u16; MAX_VERTICES],
+    slots: [u16; MAX_FIXED],
 }
 
 impl Plan<'_> {
     /// The slot that a target place stands for: a rule input's image or a
     /// target vertex's slot.
     fn slot_of(&self, place: u8) -> u16 {
-        match place.checked_sub(TARGET_BASE) {
+        match place.checked_sub(self.rule.target_base()) {
             Some(target) => self.slots[usize::from(target)],
             None => self.images[usize::from(place)],
         }

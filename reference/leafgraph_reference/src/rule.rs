@@ -1,12 +1,21 @@
-//! The rule block: a view of its fields. The check stands in `rule_check`.
+//! The rule block: a view of its fields, and of the fixed rules that one of version 2
+//! stands for. The check stands in `rule_check`.
 
-use crate::fields::i32_at;
-use crate::operators::{VARIABLE, WILDCARD};
+use std::ops::RangeInclusive;
+
+use crate::expansion::Expansion;
+use crate::fields::{i32_at, u16_at};
+use crate::operators::{PLACES, VARIABLE, WILDCARD};
 use crate::reply::Refusal;
 use crate::rule_check;
+use crate::stage::Stage;
 
 /// "S source vertices (1 to 16), T target vertices (0 to 16)".
 pub const MAX_VERTICES: usize = 16;
+/// "one fixed rule of up to 64 vertices a side".
+pub const MAX_FIXED: usize = 64;
+/// "for each n from 1 to 6".
+pub const MAX_WIDTH: usize = PLACES;
 /// "A expression nodes (0 to 64)".
 pub const MAX_NODES: usize = 64;
 /// "K outputs (1 or 2)".
@@ -19,6 +28,10 @@ pub const NODE: usize = 8;
 pub const UNUSED: u8 = 255;
 /// "16 + t for target vertex t".
 pub const TARGET_BASE: u8 = 16;
+/// The same in a fixed rule of request 8/13, "with 64 for 16".
+pub const FIXED_TARGET_BASE: u8 = 64;
+/// "kind plus 128 marks a template".
+pub const TEMPLATE: u8 = 128;
 
 pub const ANY: u8 = 0;
 pub const CONSTANT: u8 = 1;
@@ -28,11 +41,17 @@ pub const MINUS: u8 = 4;
 pub const TIMES: u8 = 5;
 pub const DIVIDE: u8 = 6;
 pub const REMAINDER: u8 = 7;
+/// Forms of version 2: "8 index, 9 sum of earlier node a".
+pub const INDEX: u8 = 8;
+pub const SUM: u8 = 9;
 
-/// A block read as a rule. Outside this crate it is always a sound one.
+/// A block read as a rule. Outside this crate it is always a sound one of version 1, or
+/// a fixed rule that one of version 2 stands for.
 #[derive(Clone, Copy)]
 pub struct Rule<'a> {
     bytes: &'a [u8],
+    /// Where the bytes are those of a fixed rule, how they came about.
+    expansion: Option<&'a Expansion>,
 }
 
 /// One pattern record, of the source or of the target.
@@ -51,14 +70,72 @@ pub struct Node {
 }
 
 impl<'a> Rule<'a> {
-    /// The rule in these bytes, if they are a sound block.
+    /// The rule in these bytes, if they are a sound block of version 1.
     pub fn parse(bytes: &'a [u8]) -> Result<Rule<'a>, Refusal> {
-        rule_check::parse(bytes)
+        rule_check::parse(Stage::Seven, bytes)
     }
 
     /// The same view without the check, for the check itself.
     pub(crate) fn view(bytes: &'a [u8]) -> Rule<'a> {
-        Rule { bytes }
+        Rule { bytes, expansion: None }
+    }
+
+    /// The view of a fixed rule.
+    pub(crate) fn fixed(bytes: &'a [u8], expansion: &'a Expansion) -> Rule<'a> {
+        Rule { bytes, expansion: Some(expansion) }
+    }
+
+    /// Whether it is "a variadic rule, version 2 of the rule block".
+    pub fn is_variadic(self) -> bool {
+        u16_at(self.bytes, 4) == 2
+    }
+
+    /// "header bytes 14-15 name the source and target Tuple (255: no target one [...])".
+    pub(crate) fn is_source_tuple(self, vertex: usize) -> bool {
+        self.is_variadic() && usize::from(self.bytes[14]) == vertex
+    }
+
+    pub(crate) fn is_target_tuple(self, vertex: usize) -> bool {
+        self.is_variadic() && usize::from(self.bytes[15]) == vertex
+    }
+
+    /// The n of a fixed rule; 0 for a block as it stands.
+    pub fn width(self) -> usize {
+        self.expansion.map_or(0, Expansion::width)
+    }
+
+    /// The indices of a sum's terms, "over 1 to n". A block as it stands has the term
+    /// itself.
+    pub fn indices(self) -> RangeInclusive<usize> {
+        self.width().min(1)..=self.width()
+    }
+
+    /// The index that this source vertex is a copy for; 0 where it is none.
+    pub fn source_index(self, vertex: usize) -> usize {
+        self.expansion.map_or(0, |expansion| expansion.source_index(vertex))
+    }
+
+    /// The same of a target vertex.
+    pub fn target_index(self, vertex: usize) -> usize {
+        self.expansion.map_or(0, |expansion| expansion.target_index(vertex))
+    }
+
+    /// The source vertex that an access to this one of the block reads at an index: "a
+    /// template named is its copy of that index". None at index 0, where no copy is.
+    pub fn accessed(self, vertex: u8, index: usize) -> Option<usize> {
+        match self.expansion {
+            Some(expansion) => expansion.source_copy(vertex.into(), index),
+            None => Some(vertex.into()),
+        }
+    }
+
+    /// What target vertex 0 is called in a target place.
+    pub fn target_base(self) -> u8 {
+        if self.expansion.is_some() {
+            FIXED_TARGET_BASE
+        } else {
+            TARGET_BASE
+        }
     }
 
     pub fn bytes(self) -> &'a [u8] {
@@ -145,8 +222,13 @@ impl<'a> Rule<'a> {
 }
 
 impl<'a> Pattern<'a> {
+    /// The kind without a template's mark.
     pub fn kind(self) -> u8 {
-        self.record[0]
+        self.record[0] % TEMPLATE
+    }
+
+    pub fn is_template(self) -> bool {
+        self.record[0] >= TEMPLATE
     }
 
     pub fn operator(self) -> u8 {

@@ -3,12 +3,15 @@
 //! "the first kind that holds anywhere is given", too.
 
 use crate::graph_faults::unsound;
-use crate::reply::{Refusal, RULE_EXPRESSION, RULE_ORDER, RULE_RECORD};
+use crate::reply::{Refusal, RULE_EXPANSION, RULE_EXPRESSION, RULE_ORDER, RULE_RECORD};
 use crate::rule::{Pattern, Rule, ANY, HEADER, MAX_NODES, MAX_OUTPUTS, MAX_VERTICES, NODE};
 use crate::rule::{PATTERN, PLUS};
 use crate::rule_check::{
-    connection_parts, header_parts, sound_nodes, sound_records, sound_uses, Traversal,
+    connection_parts, header_parts, is_sound_expansion, sound_nodes, sound_records, sound_uses,
+    Traversal,
 };
+use crate::rules::expansions;
+use crate::stage::{Stage, STAGE};
 
 /// The places of each kind of fault, the lowest first. Where an earlier kind
 /// makes a block unreadable, there are none of the later ones.
@@ -34,20 +37,35 @@ pub struct RuleFaults {
     /// Vertices with a bad use. With a bad node these are only the uses of
     /// nodes that are not there.
     pub uses: Vec<usize>,
+    /// The n whose fixed rule is not sound, where nothing else is wrong.
+    pub expansions: Vec<usize>,
 }
 
 impl RuleFaults {
     pub fn of(bytes: &[u8]) -> RuleFaults {
+        RuleFaults::at(STAGE, bytes)
+    }
+
+    pub fn at(stage: Stage, bytes: &[u8]) -> RuleFaults {
         let mut faults = RuleFaults::default();
         if bytes.len() < HEADER {
-            faults.header = vec![header_parts(&[0; HEADER]).len() - 1];
+            faults.header = vec![header_parts(stage, &[0; HEADER]).len() - 1];
             return faults;
         }
-        faults.header = unsound(header_parts(bytes));
+        faults.header = unsound(header_parts(stage, bytes));
         if is_readable(bytes) {
             faults.list_records(Rule::view(bytes));
         }
+        if faults.first().is_none() && Rule::view(bytes).is_variadic() {
+            faults.list_expansions(Rule::view(bytes));
+        }
         faults
+    }
+
+    fn list_expansions(&mut self, rule: Rule) {
+        let expansions = (1..).zip(expansions(rule));
+        let unsound = expansions.filter(|(_, expansion)| !is_sound_expansion(expansion.rule()));
+        self.expansions = unsound.map(|(width, _)| width).collect();
     }
 
     /// Later kinds can be told where nothing but unused places are wrong in a
@@ -92,6 +110,7 @@ impl RuleFaults {
             .or((!self.connection.is_empty()).then_some(Refusal::RULE_CONNECTION))
             .or(lowest(RULE_EXPRESSION, &self.nodes))
             .or(lowest(RULE_EXPRESSION, &self.uses))
+            .or(lowest(RULE_EXPANSION, &self.expansions))
     }
 }
 

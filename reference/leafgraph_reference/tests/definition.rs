@@ -4,7 +4,7 @@
 
 mod common;
 
-use common::{ask, map_of, run_match, run_rewrite};
+use common::{all_places, ask, map_of, run_match, run_rewrite};
 use leafgraph_reference::attributes::{agrees, results};
 use leafgraph_reference::blocks::{empty, GraphParts, RuleParts, Vertex};
 use leafgraph_reference::generate::{matching_case, rewriting_case, search_case, Case};
@@ -84,12 +84,11 @@ fn attributes_agree(case: &Case, images: &[u16]) -> bool {
     let (graph, rule) = (case.graph.block(), case.rule.block());
     let graph = Graph::parse(&graph).expect("a sound graph");
     let rule = Rule::parse(&rule).expect("a sound rule");
-    let images: [u16; 16] = map_of(images).try_into().expect("sixteen");
-    let results = results(graph, rule, &images);
-    case.rule.source.iter().zip(images).all(|(pattern, image)| {
+    let results = results(graph, rule, &all_places(images));
+    case.rule.source.iter().zip(images).all(|(pattern, &image)| {
         let numbers = &case.graph.slots[usize::from(image)].attributes;
         let mut pairs = pattern.attributes.iter().zip(numbers);
-        pattern.kind == 0 || pairs.all(|(&node, &number)| agrees(rule, &results, node, number))
+        pattern.kind == 0 || pairs.all(|(&node, &number)| agrees(rule, &results, 0, node, number))
     })
 }
 
@@ -228,8 +227,8 @@ fn retold(case: &Case, images: &[u16], attributes: &[Vec<i32>]) -> GraphParts {
 fn target_attributes(case: &Case, map: &[u16]) -> Option<Vec<Vec<i32>>> {
     let (graph, rule) = (case.graph.block(), case.rule.block());
     let (graph, view) = (Graph::parse(&graph).ok()?, Rule::parse(&rule).ok()?);
-    let results = results(graph, view, map.try_into().expect("sixteen"));
-    let of = |nodes: &Vec<u8>| nodes.iter().map(|&node| results[usize::from(node)]).collect();
+    let results = results(graph, view, &all_places(map));
+    let of = |nodes: &Vec<u8>| nodes.iter().map(|&node| results.at(0, node)).collect();
     case.rule.target.iter().map(|pattern| of(&pattern.attributes)).collect()
 }
 

@@ -49,6 +49,7 @@ fn every_kind_of_a_rule() {
         nodes: vec![3],
         over_any: vec![3],
         uses: vec![1],
+        expansions: vec![],
     };
     assert_eq!(RuleFaults::of(&block), expected);
 }

@@ -2,7 +2,7 @@
 
 mod common;
 
-use common::run_rewrite;
+use common::{all_places, run_rewrite};
 use leafgraph_reference::blocks::*;
 use leafgraph_reference::check_graph;
 use leafgraph_reference::counts::write_true_counts;
@@ -30,7 +30,7 @@ fn judge(random: &mut Random, case: &Case, new: &[u8], map: &[u16], make: Make) 
         old: Graph::parse(&old).expect("a sound graph"),
         new: Graph::parse(new).expect("a sound graph"),
         rule: Rule::parse(&rule).expect("a sound rule"),
-        images: map.try_into().expect("sixteen"),
+        images: &all_places(map),
     };
     let mut meaning = make(random.number());
     accepted.judge(&mut meaning, random)

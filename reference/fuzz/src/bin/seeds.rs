@@ -1,8 +1,8 @@
 //! Writes the inputs that fuzzing starts from into a folder, as files whose
 //! names begin with `seed-`: document 01's examples, matched Consts that stay
 //! or go, every kind of fault, small random cases of every reply, graphs to sweep
-//! and to squeeze, blocks to import, maps to ask about, and texts to read. The same
-//! files each time.
+//! and to squeeze, blocks to import, maps to ask about, and texts to read; and variadic
+//! rules once the second program's stage has them. The same files each time.
 //!
 //!     fuzz_seeds FOLDER [CASES]
 //!
@@ -24,6 +24,7 @@ use leafgraph_fuzz::input::{
 };
 use leafgraph_fuzz::listing_examples::{reading_examples, writing_examples};
 use leafgraph_fuzz::question_examples::question_examples;
+use leafgraph_fuzz::variadic_examples::variadic_examples;
 use leafgraph_reference::blocks::{
     add, any_node, call, call_pattern, chain, constant, constant_node, constant_sum,
     dropped_constant, e1, empty, operation_node, p10_graph, p10_rule, p7_graph, p7_rule, p8_graph,
@@ -32,8 +33,8 @@ use leafgraph_reference::blocks::{
 };
 use leafgraph_reference::counts::COUNT;
 use leafgraph_reference::generate::{
-    any_text, damaged_graph_of, damaged_rule_of, damaged_version_1_graph, noise, rewriting_case,
-    search_case, sequence, Case,
+    any_text, damaged_graph_of, damaged_rule_of, damaged_variadic_rule_of, damaged_version_1_graph,
+    noise, rewriting_case, rule_with_unsound_expansion, search_case, sequence, variadic_case, Case,
 };
 use leafgraph_reference::graph::{self, Graph};
 use leafgraph_reference::matching::read_map;
@@ -42,6 +43,7 @@ use leafgraph_reference::random::Random;
 use leafgraph_reference::removal::removed_slots;
 use leafgraph_reference::reply::number_of;
 use leafgraph_reference::rule::{Rule, DIVIDE, REMAINDER};
+use leafgraph_reference::stage::{Stage, STAGE};
 use leafgraph_reference::{find_match, import, read_listing, rewrite, squeeze, sweep, MAP_LENGTH};
 
 /// What the corpus is drawn from.
@@ -81,6 +83,9 @@ fn main() -> ExitCode {
     seeds.add_imports(cases);
     seeds.add_questions(cases);
     seeds.add_listings(cases);
+    if STAGE == Stage::Eight {
+        seeds.add_variadics(cases);
+    }
     match seeds.write(Path::new(folder)) {
         Ok(()) => ExitCode::SUCCESS,
         Err(error) => {
@@ -149,6 +154,26 @@ impl Seeds {
         self.add("no-blocks", control, &[], &[]);
         for map_length in [0, 31, 33, 255] {
             self.add("map-length", Control { map_length, ..control }, &graph, &rule);
+        }
+    }
+
+    /// Request 8/13: its examples, small random cases as they are and damaged, and rules
+    /// that are sound but for an expansion.
+    fn add_variadics(&mut self, cases: usize) {
+        for example in variadic_examples() {
+            let control =
+                Control { map_length: example.map_length, ..self.control(CUT_AT_MARK, 0) };
+            self.add(example.name, control, &example.graph.block(), &example.rule.block());
+        }
+        for number in 0..3 * cases {
+            let (_, case) = variadic_case(&mut self.random);
+            let rule = match number % 3 {
+                0 => damaged_variadic_rule_of(&mut self.random, case.rule),
+                1 => rule_with_unsound_expansion(&mut self.random).block(),
+                _ => case.rule.block(),
+            };
+            let control = self.control(LENGTHS, case.start);
+            self.add("variadic", control, &case.graph.block(), &rule);
         }
     }
 

@@ -6,7 +6,7 @@ use crate::graph::{Graph, MAX_SLOTS, UNUSED};
 use crate::operators::{CONST, EMPTY};
 use crate::random::Random;
 use crate::removal::removed_slots;
-use crate::rule::{Rule, MAX_VERTICES};
+use crate::rule::{Rule, MAX_FIXED};
 
 use super::constants::share_constants;
 use super::cuts::{Case, Cut};
@@ -32,10 +32,10 @@ pub fn rewriting_case(random: &mut Random) -> (&'static str, Case) {
 }
 
 /// A rule and a graph with a match of it, as far as is known.
-struct Matched {
-    graph: GraphParts,
-    rule: RuleParts,
-    images: Vec<u16>,
+pub(super) struct Matched {
+    pub graph: GraphParts,
+    pub rule: RuleParts,
+    pub images: Vec<u16>,
 }
 
 /// A rule whose two sides mean the same, with a match put in.
@@ -90,7 +90,7 @@ pub(super) fn rule_for(
 impl Matched {
     /// The case, once the match's Consts are shared, what it replaces is read,
     /// there is the room that is wanted, and the slots are in some order.
-    fn finished(mut self, random: &mut Random) -> Case {
+    pub fn finished(mut self, random: &mut Random) -> Case {
         share_constants(random, &mut self.graph, &self.rule.source, &self.images);
         self.add_readers(random);
         if random.chance(1) {
@@ -172,7 +172,7 @@ impl Matched {
     /// How many slots are freed.
     fn removed(&self) -> usize {
         let (graph, rule) = (self.graph.block(), self.rule.block());
-        let mut images = [UNUSED; MAX_VERTICES];
+        let mut images = [UNUSED; MAX_FIXED];
         images[..self.images.len()].copy_from_slice(&self.images);
         let removed = removed_slots(Graph::view(&graph), Rule::view(&rule), &images);
         removed.iter().filter(|&&removed| removed).count()

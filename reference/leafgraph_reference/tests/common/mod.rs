@@ -2,6 +2,8 @@
 #![allow(dead_code)]
 
 use leafgraph_reference::blocks::{GraphParts, RuleParts};
+use leafgraph_reference::matching::Images;
+use leafgraph_reference::rule::MAX_FIXED;
 use leafgraph_reference::{find_match, is_read_elsewhere, rewrite};
 
 /// The reply and the map as numbers; the map is filled with a mark before, so
@@ -50,6 +52,13 @@ pub fn ask(graph: &GraphParts, rule: &RuleParts, map: &[u16], vertex: usize) -> 
 fn assert_untouched_after_refusal(reply: u64, map: &[u8]) {
     let untouched = map.iter().all(|&byte| byte == UNTOUCHED);
     assert_eq!(reply != 0, untouched, "the map is written exactly when done");
+}
+
+/// These images, and none in the places behind them.
+pub fn all_places(images: &[u16]) -> Images {
+    let mut places = [65535; MAX_FIXED];
+    places[..images.len()].copy_from_slice(images);
+    places
 }
 
 /// These images and 65535 after them.
