@@ -6,20 +6,19 @@ use mathlib.Core.Bool.{true, false}
 use mathlib.Core.List.{List}
 use mathlib.Core.Logic.{⊎-elim}
 use mathlib.Core.Option.{Option}
-use Prim.Native.Nat.{ℕ, _+_, _<_, _≤_}
-use native.Mathlib.Nat.{not-suc-le-zero}
+use Prim.Native.Nat.{ℕ, _<_, _≤_}
 use native.Mathlib.Omega.{arith}
 use borrow.Author.Tests.{ltb-true, ltb-false, ne-eqb, eqb-true, eqb-false}
 use lib.Dec.{eqb, ltb}
 use lib.IntN.{ℤ}
-use lib.ListN.{getD, set, replicate, length-set}
+use lib.ListN.{getD, set, replicate, length-set, length-replicate}
 use lib.Seq.{getD-set-same, getD-set-other}
 use Rattle.definitions.specs.Lists.{build}
 use Rattle.definitions.specs.Graph.{graphOf}
-use Rattle.definitions.specs.Rule.{nodeLimit, anything, apply, formAny, formConstant, formAccess, formIndex, formSum, nodeForm, nodeBy}
+use Rattle.definitions.specs.Rule.{anything, apply, formAny, formConstant, formAccess, formIndex, formSum, nodeForm, nodeBy}
 use Rattle.definitions.specs.Attributes.{combine, result}
 use Rattle.definitions.specs.Match.{readAttribute}
-use Rattle.rule_fields.specs.Fixed.{fixedNodeLimit, nodesIn, leftIn, rightIn, nodeIn, expressionIn}
+use Rattle.rule_fields.specs.Fixed.{nodesIn, leftIn, rightIn, nodeIn, expressionIn}
 use Rattle.laws.proofs.Lists.{decided}
 use Rattle.laws.proofs.Builds.{build-at, getD-none}
 use Rattle.rule_nodes.specs.Nodes.{GoodNode}
@@ -29,7 +28,7 @@ use Rattle.numbers.specs.Value.{valueOf, bounded, operationOf}
 use Rattle.numbers.proofs.Laws.{combine-bounded}
 use Rattle.match_leaves.specs.Results.{nodeResult}
 use Rattle.match_leaves.proofs.Laws.{node-built, leaf-bounded}
-use Rattle.match_values.specs.Memo.{stateOf, magnitudeOf, remembered, Memo, KnownBelow}
+use Rattle.match_values.specs.Memo.{stateOf, magnitudeOf, remembered, Memo}
 
 -- ---- operations
 
@@ -92,52 +91,30 @@ remembered-value (Minus n) = refl
 
 module _ (graph rule images : List ℕ) where
   -- nothing is known at first
-  pub memo-none : nodesIn rule ≤ nodeLimit → Memo graph rule images (replicate nodeLimit 0) (replicate nodeLimit 0)
-  memo-none l = record { few = l; stateSize = refl; magnitudeSize = refl; known = λ k h. absurd (h (getD-none nodeLimit k 0)) }
+  pub memo-none : (n : ℕ) → nodesIn rule ≤ n → Memo graph rule images (replicate n 0) (replicate n 0)
+  memo-none n l = record {
+    stateSize = rw (length-replicate {A = ℕ} n 0) l;
+    magnitudeSize = rw (length-replicate {A = ℕ} n 0) l;
+    known = λ k h. absurd (h (getD-none n k 0));
+  }
 
   -- one result more
-  pub memo-more : {states magnitudes : List ℕ} (k s n : ℕ) (value : Value) → Memo graph rule images states magnitudes → k < nodeLimit
+  pub memo-more : {states magnitudes : List ℕ} (k s n : ℕ) (value : Value) → Memo graph rule images states magnitudes → k < nodesIn rule
       → valueOf value ≡ nodeResult graph rule images k → s ≡ stateOf value → n ≡ magnitudeOf value
       → Memo graph rule images (set states k s) (set magnitudes k n)
   memo-more {states} {magnitudes} k s n value m l e f g = record {
-    few = m .few;
-    stateSize = length-set states k s ∙ m .stateSize;
-    magnitudeSize = length-set magnitudes k n ∙ m .magnitudeSize;
+    stateSize = rw (length-set states k s) (m .stateSize);
+    magnitudeSize = rw (length-set magnitudes k n) (m .magnitudeSize);
     known = λ j h. ⊎-elim
         (λ (t : eqb j k ≡ true). rw (
           eqb-true j k t,
-          getD-set-same states k s 0 (rw (m .stateSize) l),
-          getD-set-same magnitudes k n 0 (rw (m .magnitudeSize) l),
+          getD-set-same states k s 0 (omega (arith, m .stateSize)),
+          getD-set-same magnitudes k n 0 (omega (arith, m .magnitudeSize)),
           f,
           g,
         ) (remembered-value value ∙ e))
         (λ (t : eqb j k ≡ false).
         let same : getD (set states k s) j 0 ≡ getD states j 0 = getD-set-other states k j s 0 (eqb-false j k t) in
         rw (same, getD-set-other magnitudes k j n 0 (eqb-false j k t)) (m .known j (λ z. h (same ∙ z))))
-        (decided (eqb j k));
-  }
-
-  -- ---- all results in order
-
-  pub known-none : KnownBelow graph rule images 0 (replicate fixedNodeLimit 0) (replicate fixedNodeLimit 0)
-  known-none = record { stateSize = refl; magnitudeSize = refl; known = λ j l. absurd (not-suc-le-zero l) }
-
-  pub known-more : {states magnitudes : List ℕ} (k s n : ℕ) (value : Value) → KnownBelow graph rule images k states magnitudes
-      → k < fixedNodeLimit → valueOf value ≡ nodeResult graph rule images k → s ≡ stateOf value → n ≡ magnitudeOf value
-      → KnownBelow graph rule images (k + 1) (set states k s) (set magnitudes k n)
-  known-more {states} {magnitudes} k s n value m l e f g = record {
-    stateSize = length-set states k s ∙ m .stateSize;
-    magnitudeSize = length-set magnitudes k n ∙ m .magnitudeSize;
-    known = λ j h. ⊎-elim
-        (λ (t : eqb j k ≡ true). rw (
-          eqb-true j k t,
-          getD-set-same states k s 0 (rw (m .stateSize) l),
-          getD-set-same magnitudes k n 0 (rw (m .magnitudeSize) l),
-          f,
-          g,
-        ) (remembered-value value ∙ e))
-        (λ (t : eqb j k ≡ false).
-        let other = eqb-false j k t in
-        rw (getD-set-other states k j s 0 other, getD-set-other magnitudes k j n 0 other) (m .known j (omega (arith, other))))
         (decided (eqb j k));
   }

@@ -4,12 +4,11 @@ use mathlib.Core.Path.{_≡_}
 use mathlib.Core.Bool.{cond}
 use mathlib.Core.List.{List}
 use mathlib.Core.Option.{Option, none, some}
-use Prim.Native.Nat.{ℕ, _<_, _≤_}
+use Prim.Native.Nat.{ℕ, _≤_}
 use lib.Dec.{eqb}
 use lib.IntN.{ℤ, pos, negsuc}
 use lib.ListN.{length, getD}
-use Rattle.definitions.specs.Rule.{nodeLimit}
-use Rattle.rule_fields.specs.Fixed.{fixedNodeLimit, nodesIn}
+use Rattle.rule_fields.specs.Fixed.{nodesIn}
 use Rattle.numbers.specs.declared.Value.{Value}
 use Rattle.numbers.specs.declared.Value.the-variants.{Nothing, Plus, Minus}
 use Rattle.match_leaves.specs.Results.{nodeResult}
@@ -29,16 +28,9 @@ magnitudeOf (Minus n) = n
 unfoldable pub remembered : ℕ → ℕ → Option ℤ
 remembered state magnitude = cond (eqb state 1) none (cond (eqb state 2) (some (pos magnitude)) (some (negsuc magnitude)))
 
--- the rule has no more nodes than a lent one, every node has its place, and what is known is what the node gives
+-- every node has its place, and what is known is what the node gives
 pub record Memo (graph rule images states magnitudes : List ℕ) : Type 0 where
-  pub few : nodesIn rule ≤ nodeLimit
-  pub stateSize : length states ≡ nodeLimit
-  pub magnitudeSize : length magnitudes ≡ nodeLimit
+  pub stateSize : nodesIn rule ≤ length states
+  pub magnitudeSize : nodesIn rule ≤ length magnitudes
   pub known : (k : ℕ) → (getD states k 0 ≡ 0 → ⊥)
       → remembered (getD states k 0) (getD magnitudes k 0) ≡ nodeResult graph rule images k
-
--- what the nodes below k give is known
-pub record KnownBelow (graph rule images : List ℕ) (k : ℕ) (states magnitudes : List ℕ) : Type 0 where
-  pub stateSize : length states ≡ fixedNodeLimit
-  pub magnitudeSize : length magnitudes ≡ fixedNodeLimit
-  pub known : (j : ℕ) → j < k → remembered (getD states j 0) (getD magnitudes j 0) ≡ nodeResult graph rule images j

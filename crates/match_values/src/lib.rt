@@ -8,18 +8,17 @@ use match_leaves::leaf_value;
 use numbers::Value;
 use rule_fields::fixed_node_count;
 use rule_nodes::FIXED_NODE_LIMIT;
-use rule_nodes::node_byte;
 use rule_nodes::node_form;
 use rule_nodes::node_left;
 use rule_nodes::node_right;
 ghost use mathlib.Core.Path.{_≡_};
 ghost use Prim.Native.Nat.{_<_, _≤_};
 ghost use Rattle.definitions.specs.Rule.{nodeLimit};
-ghost use Rattle.rule_fields.specs.Fixed.{nodesIn};
 ghost use Rattle.numbers.specs.Value.{valueOf};
 ghost use Rattle.match_leaves.specs.Evaluable.{NodeEvaluation};
 ghost use Rattle.match_leaves.specs.Results.{nodeResult};
-ghost use Rattle.match_values.specs.Memo.{stateOf, magnitudeOf, remembered, Memo, KnownBelow};
+ghost use Rattle.match_values.specs.Memo.{stateOf, magnitudeOf, remembered, Memo};
+ghost use Rattle.rule_fields.specs.Fixed.{nodesIn};
 
 // ---- results that are known
 
@@ -65,8 +64,8 @@ fn node_value(
     rule: &[u8],
     images: &[u16; SIDE_CAPACITY],
     k: usize,
-    states: &mut [u8; NODE_LIMIT],
-    magnitudes: &mut [u64; NODE_LIMIT],
+    states: &mut [u8],
+    magnitudes: &mut [u64],
 ) -> Value
     requires { ⌜ NodeEvaluation (now graph) (now rule) (now images) ⌝ }
     requires { ⌜ k < nodesIn (now rule) ⌝ }
@@ -81,8 +80,8 @@ fn node_value(
     if form < FORM_ADD {
         return leaf_value(graph, rule, images, k);
     }
-    let left = node_byte(rule, k, 1);
-    let right = node_byte(rule, k, 2);
+    let left = node_left(rule, k);
+    let right = node_right(rule, k);
     let first = node_value(graph, rule, images, left, states, magnitudes);
     let second = node_value(graph, rule, images, right, states, magnitudes);
     let value = combine(form, first, second);
@@ -103,38 +102,17 @@ fn value_of_few(graph: &[u8], rule: &[u8], images: &[u16; SIDE_CAPACITY], k: usi
 {
     let mut states = [0u8; NODE_LIMIT];
     let mut magnitudes = [0u64; NODE_LIMIT];
-    node_value(graph, rule, images, k, &mut states, &mut magnitudes)
+    node_value(
+        graph,
+        rule,
+        images,
+        k,
+        &mut states[0..NODE_LIMIT],
+        &mut magnitudes[0..NODE_LIMIT],
+    )
 }
 
-// ---- rules with more nodes than a lent one has
-
-// What node k gives, where what every earlier node gives is known.
-fn next_value(
-    graph: &[u8],
-    rule: &[u8],
-    images: &[u16; SIDE_CAPACITY],
-    k: usize,
-    states: &[u8; FIXED_NODE_LIMIT],
-    magnitudes: &[u64; FIXED_NODE_LIMIT],
-) -> Value
-    requires { ⌜ NodeEvaluation (now graph) (now rule) (now images) ⌝ }
-    requires { ⌜ k < nodesIn (now rule) ⌝ }
-    requires { ⌜ KnownBelow (now graph) (now rule) (now images) k (now states) (now magnitudes) ⌝ }
-    ensures { λ r. ⌜ valueOf r ≡ nodeResult (now (graph .entry)) (now (rule .entry)) (now (images .entry)) k ⌝ }
-{
-    let form = node_form(rule, k);
-    if form < FORM_ADD {
-        return leaf_value(graph, rule, images, k);
-    }
-    let left = node_left(rule, k);
-    let right = node_right(rule, k);
-    let first = recalled(states[left], magnitudes[left]);
-    let second = recalled(states[right], magnitudes[right]);
-    combine(form, first, second)
-}
-
-// What node k gives in any rule: every node up to it is worked out in order. A rule that is made has many nodes only where the variadic rule has, so
-// that an evaluation of all of them is short beside clearing a memo for as many.
+// What node k gives in any rule.
 fn value_of_many(graph: &[u8], rule: &[u8], images: &[u16; SIDE_CAPACITY], k: usize) -> Value
     requires { ⌜ NodeEvaluation (now graph) (now rule) (now images) ⌝ }
     requires { ⌜ k < nodesIn (now rule) ⌝ }
@@ -142,14 +120,14 @@ fn value_of_many(graph: &[u8], rule: &[u8], images: &[u16; SIDE_CAPACITY], k: us
 {
     let mut states = [0u8; FIXED_NODE_LIMIT];
     let mut magnitudes = [0u64; FIXED_NODE_LIMIT];
-    let mut j = 0;
-    while j < k {
-        let value = next_value(graph, rule, images, j, &states, &magnitudes);
-        states[j] = state_of(value);
-        magnitudes[j] = magnitude_of(value);
-        j += 1;
-    }
-    next_value(graph, rule, images, k, &states, &magnitudes)
+    node_value(
+        graph,
+        rule,
+        images,
+        k,
+        &mut states[0..FIXED_NODE_LIMIT],
+        &mut magnitudes[0..FIXED_NODE_LIMIT],
+    )
 }
 
 // What node k gives where it is an operation. The memo has to be cleared, so a lent rule gets none that is larger than it can need.

@@ -12,7 +12,7 @@ use Rattle.definitions.specs.Fields.{byteAt, filled}
 use Rattle.definitions.specs.Rule.{nodeAt, formAny, formConstant, formAccess, formRemainder, nodeForm, nodeLeft, nodeRight, operandFits, nodeFits}
 use Rattle.laws.proofs.Lists.{decided, and-left, and-right, needed}
 use Rattle.fields.proofs.Laws.{filled-place}
-use Rattle.rule_fields.specs.Fixed.{isExpanded, leftIn, rightIn}
+use Rattle.rule_fields.specs.Fixed.{isExpanded}
 use Rattle.rule_fields.proofs.Fixed.{lent-left, lent-right}
 use Rattle.rule_nodes.specs.Nodes.{GoodNode}
 
@@ -79,19 +79,3 @@ lent-good block k lent fits = record {
     right = λ e. number-zero block k fits o 5 (omega arith) (omega arith);
   };
 }
-
--- an operand below 256 has no high byte
-module _ (block : List ℕ) (k : ℕ) where
-  pub few-left : leftIn block k < 256 → nodeLeft block k ≡ leftIn block k
-  unfolding leftIn
-  few-left l =
-      ⊎-elim (λ (t : isExpanded block ≡ true). simp t (omega (arith, simp t at l)))
-      (λ (t : isExpanded block ≡ false). simp t)
-      (decided (isExpanded block))
-
-  pub few-right : rightIn block k < 256 → nodeRight block k ≡ rightIn block k
-  unfolding rightIn
-  few-right l =
-      ⊎-elim (λ (t : isExpanded block ≡ true). simp t (omega (arith, simp t at l)))
-      (λ (t : isExpanded block ≡ false). simp t)
-      (decided (isExpanded block))

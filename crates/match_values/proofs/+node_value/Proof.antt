@@ -4,17 +4,16 @@ use mathlib.Core.Path.{_≡_, _∙_}
 use mathlib.Core.Bool.{true}
 use Prim.Native.Nat.{ℕ, _<_}
 use native.Mathlib.Omega.{arith}
-use lib.Dec.{lit<}
+use lib.ListN.{length, length-set}
 use Rattle.definitions.specs.Graph.{graphOf}
-use Rattle.definitions.specs.Rule.{nodeForm, nodeLeft, nodeRight}
+use Rattle.definitions.specs.Rule.{nodeForm}
 use Rattle.definitions.specs.Match.{readAttribute}
-use Rattle.rule_fields.specs.Fixed.{nodesIn, leftIn, rightIn}
+use Rattle.rule_fields.specs.Fixed.{nodesIn}
 use Rattle.rule_nodes.specs.Nodes.{GoodNode}
 use Rattle.numbers.specs.Value.{valueOf, bounded}
 use Rattle.match_leaves.specs.Evaluable.{NodeEvaluation}
 use Rattle.match_leaves.specs.Results.{nodeResult}
 use Rattle.match_values.specs.Memo.{Memo}
-use Rattle.rule_nodes.proofs.Operands.{few-left, few-right}
 use Rattle.match_values.proofs.Laws.{combined-gives, node-bounded, remembered-value, memo-more}
 use borrow.Fn.Kinds.{In}
 use borrow.Fn.PlainCycle.{Measures, is, falls, and}
@@ -26,8 +25,9 @@ use Rattle.match_values.proofs.recalled.Reads as recalled-reads
 use Rattle.match_values.proofs.state_of.Reads as state-of-reads
 use Rattle.arithmetic.proofs.combine.Reads as combine-reads
 use Rattle.match_leaves.proofs.leaf_value.Reads as leaf-value-reads
-use Rattle.rule_nodes.proofs.node_byte.Reads as node-byte-reads
 use Rattle.rule_nodes.proofs.node_form.Reads as node-form-reads
+use Rattle.rule_nodes.proofs.node_left.Reads as node-left-reads
+use Rattle.rule_nodes.proofs.node_right.Reads as node-right-reads
 use Rattle.match_values.proofs.+node_value.{statement}
 use Rattle.match_values.proofs.+node_value.Tie.{close}
 
@@ -51,8 +51,10 @@ calls t = (
   node-form-reads.Learnt,
   leaf-value-reads.Asked,
   leaf-value-reads.Learnt,
-  node-byte-reads.Asked,
-  node-byte-reads.Learnt,
+  node-left-reads.Asked,
+  node-left-reads.Learnt,
+  node-right-reads.Asked,
+  node-right-reads.Learnt,
   node-value-below t,
   node-value.Post,
   combine-reads.Asked,
@@ -66,6 +68,9 @@ calls t = (
 abbrev Start : ℕ → Type 0
 Start t = node-value-lts.Start (calls t) (node-value-at t) node-value.Post
 
+abbrev entry : (t : ℕ) → node-value-lts.After-slice-known3 (calls t) (node-value-at t) node-value.Post → Start t
+entry t c = c .before .before .before .before .before
+
 -- what it requires
 module _ (t : ℕ) (s : Start t) where
   abbrev evaluation : NodeEvaluation (s .args .graph .now) (s .args .rule .now) (s .args .images .now)
@@ -77,15 +82,21 @@ module _ (t : ℕ) (s : Start t) where
   abbrev memo : Memo (s .args .graph .now) (s .args .rule .now) (s .args .images .now) (s .args .states .now) (s .args .magnitudes .now)
   memo = s .pre .1 .1 .1
 
--- every node has its place in the memo
-placed : (t : ℕ) (s : Start t) → s .args .k < 64
-placed t s = omega (arith, inside t s, memo t s .few)
+  -- the node has its place in the memo
+  state-placed : s .args .k < length (s .args .states .now)
+  state-placed = omega (arith, inside, memo .stateSize)
+
+  magnitude-placed : s .args .k < length (s .args .magnitudes .now)
+  magnitude-placed = omega (arith, inside, memo .magnitudeSize)
+
+  few : s .args .k < 448
+  few = omega (arith, inside, evaluation .whole .nodes)
 
 -- ---- where the node is an operation
 
 module _ (t : ℕ) (c : node-value-lts.Else2 (calls t) (node-value-at t) node-value.Post) where
   abbrev start : Start t
-  start = c .before .before .before .before .before .before
+  start = entry t (c .before .before .before)
 
   abbrev good : GoodNode (start .args .rule .now) (start .args .k)
   good = evaluation t start .evaluable .nodes (start .args .k) (inside t start)
@@ -93,91 +104,82 @@ module _ (t : ℕ) (c : node-value-lts.Else2 (calls t) (node-value-at t) node-va
   operation : 2 < nodeForm (start .args .rule .now) (start .args .k)
   operation = omega (arith, c .before .node-form .ensures .0, c .if2 .left)
 
-  -- operands are earlier nodes, so their numbers have no high byte
-  left-low : nodeLeft (start .args .rule .now) (start .args .k) ≡ leftIn (start .args .rule .now) (start .args .k)
-  left-low = few-left (start .args .rule .now) (start .args .k) (omega (arith, good .left operation, placed t start))
-
-  right-low : nodeRight (start .args .rule .now) (start .args .k) ≡ rightIn (start .args .rule .now) (start .args .k)
-  right-low = few-right (start .args .rule .now) (start .args .k) (omega (arith, good .right operation, placed t start))
-
-  left-before : nodeLeft (start .args .rule .now) (start .args .k) < start .args .k
-  left-before = rw left-low (good .left operation)
-
-  right-before : nodeRight (start .args .rule .now) (start .args .k) < start .args .k
-  right-before = rw right-low (good .right operation)
-
 -- ---- where both operands are known
 
 module _ (t : ℕ) (c : node-value-lts.After-node-value2 (calls t) (node-value-at t) node-value.Post) where
   abbrev first : node-value-lts.After-node-value (calls t) (node-value-at t) node-value.Post
-  first = c .before .before .before
+  first = c .before .before .before .before .before .before .before
 
-  abbrev right : node-value-lts.After-node-byte2 (calls t) (node-value-at t) node-value.Post
+  abbrev right : node-value-lts.After-node-right (calls t) (node-value-at t) node-value.Post
   right = first .before .before .before
 
-  abbrev left : node-value-lts.After-node-byte (calls t) (node-value-at t) node-value.Post
+  abbrev left : node-value-lts.After-node-left (calls t) (node-value-at t) node-value.Post
   left = right .before
 
   abbrev begun : Start t
   begun = start t (left .before)
 
-  left-inside : left .node-byte .result < nodesIn (begun .args .rule .now)
+  left-inside : left .node-left .result < nodesIn (begun .args .rule .now)
   left-inside =
       omega (
         arith,
-        left .node-byte .ensures .0,
+        left .node-left .ensures,
         inside t begun,
-        left-before t (left .before),
+        good t (left .before) .left (operation t (left .before)),
       )
 
-  right-inside : right .node-byte2 .result < nodesIn (begun .args .rule .now)
+  right-inside : right .node-right .result < nodesIn (begun .args .rule .now)
   right-inside =
       omega (
         arith,
-        right .node-byte2 .ensures .0,
+        right .node-right .ensures,
         inside t begun,
-        right-before t (left .before),
+        good t (left .before) .right (operation t (left .before)),
       )
 
   first-bounded : bounded (valueOf (first .node-value .result)) ≡ true
   first-bounded =
       rw (first .node-value .ensures .0)
-      (node-bounded (begun .args .graph .now) (begun .args .rule .now) (begun .args .images .now) (left .node-byte .result) left-inside
-      (evaluation t begun .evaluable .nodes (left .node-byte .result) left-inside))
+      (node-bounded (begun .args .graph .now) (begun .args .rule .now) (begun .args .images .now) (left .node-left .result) left-inside
+      (evaluation t begun .evaluable .nodes (left .node-left .result) left-inside))
 
   second-bounded : bounded (valueOf (c .node-value2 .result)) ≡ true
   second-bounded =
       rw (c .node-value2 .ensures .0)
-      (node-bounded (begun .args .graph .now) (begun .args .rule .now) (begun .args .images .now) (right .node-byte2 .result) right-inside
-      (evaluation t begun .evaluable .nodes (right .node-byte2 .result) right-inside))
+      (node-bounded (begun .args .graph .now) (begun .args .rule .now) (begun .args .images .now) (right .node-right .result) right-inside
+      (evaluation t begun .evaluable .nodes (right .node-right .result) right-inside))
+
+abbrev known : (t : ℕ) → node-value-lts.After-slice-known9 (calls t) (node-value-at t) node-value.Post
+    → node-value-lts.After-node-value2 (calls t) (node-value-at t) node-value.Post
+known t c = c .before .before .before .before
 
 combined : (t : ℕ) (c : node-value-lts.After-combine (calls t) (node-value-at t) node-value.Post)
-    → let s = begun t (c .before) in
+    → let s = begun t (known t (c .before)) in
     valueOf (c .combine .result) ≡ nodeResult (s .args .graph .now) (s .args .rule .now) (s .args .images .now) (s .args .k)
 combined t c =
-    let b = c .before in
+    let b = known t (c .before) in
     let e2 = left t b .before in
     let s = begun t b in
     combined-gives (s .args .rule .now) (s .args .k) (inside t s)
     (readAttribute (graphOf (s .args .graph .now)) (s .args .images .now))
-    (e2 .before .node-form .result) (left t b .node-byte .result) (right t b .node-byte2 .result)
+    (e2 .before .node-form .result) (left t b .node-left .result) (right t b .node-right .result)
     (valueOf (first t b .node-value .result)) (valueOf (b .node-value2 .result)) (valueOf (c .combine .result))
-    (good t e2) (operation t e2) (e2 .before .node-form .ensures .0) (left t b .node-byte .ensures .0 ∙ left-low t e2)
-    (right t b .node-byte2 .ensures .0 ∙ right-low t e2) (first t b .node-value .ensures .0) (b .node-value2 .ensures .0) (c .combine .ensures)
+    (good t e2) (operation t e2) (e2 .before .node-form .ensures .0) (left t b .node-left .ensures)
+    (right t b .node-right .ensures) (first t b .node-value .ensures .0) (b .node-value2 .ensures .0) (c .combine .ensures)
 
 -- ---- the needs
 
-node-value-element-copy-out-if1 : (t : ℕ) → node-value-lts.Need-element-copy-out-if1 (calls t) (node-value-at t) node-value.Post
-node-value-element-copy-out-if1 t c = placed t (c .before .before)
+node-value-slice-read-if1 : (t : ℕ) → node-value-lts.Need-slice-read-if1 (calls t) (node-value-at t) node-value.Post
+node-value-slice-read-if1 t c = state-placed t (c .before .before .before .before .before)
 
-node-value-element-copy-out-recalled : (t : ℕ) → node-value-lts.Need-element-copy-out-recalled (calls t) (node-value-at t) node-value.Post
-node-value-element-copy-out-recalled t c = placed t (c .before .before .before .before)
+node-value-slice-read-recalled : (t : ℕ) → node-value-lts.Need-slice-read-recalled (calls t) (node-value-at t) node-value.Post
+node-value-slice-read-recalled t c = state-placed t (entry t (c .before .before))
 
 node-value-mul-recalled : (t : ℕ) → node-value-lts.Need-mul-recalled (calls t) (node-value-at t) node-value.Post
-node-value-mul-recalled t c = omega (arith, placed t (c .before .before .before .before .before))
+node-value-mul-recalled t c = omega (arith, few t (entry t (c .before .before)))
 
-node-value-element-copy-out-recalled-2 : (t : ℕ) → node-value-lts.Need-element-copy-out-recalled-2 (calls t) (node-value-at t) node-value.Post
-node-value-element-copy-out-recalled-2 t c = placed t (c .before .before .before .before .before)
+node-value-slice-read-recalled-2 : (t : ℕ) → node-value-lts.Need-slice-read-recalled-2 (calls t) (node-value-at t) node-value.Post
+node-value-slice-read-recalled-2 t c = magnitude-placed t (entry t (c .before .before .before))
 
 node-value-recalled-requires : (t : ℕ) → node-value-lts.Need-recalled-requires (calls t) (node-value-at t) node-value.Post
 node-value-recalled-requires t c κs = tt
@@ -185,86 +187,102 @@ node-value-recalled-requires t c κs = tt
 node-value-returns : (t : ℕ) → node-value-lts.Need-returns (calls t) (node-value-at t) node-value.Post
 node-value-returns t c =
     let t1 = c .before .before .before in
-    let s = t1 .before .before .before .before in
+    let s = entry t (t1 .before) in
     let known = memo t s in
     (c .recalled .ensures ∙ known .known (s .args .k) (t1 .if1 .taken), known)
 
 node-value-node-form-requires : (t : ℕ) → node-value-lts.Need-node-form-requires (calls t) (node-value-at t) node-value.Post
 node-value-node-form-requires t c κs =
-    let s = c .before .before .before .before in
+    let s = entry t (c .before) in
     (evaluation t s .whole, inside t s)
 
 node-value-leaf-value-requires : (t : ℕ) → node-value-lts.Need-leaf-value-requires (calls t) (node-value-at t) node-value.Post
 node-value-leaf-value-requires t c κs =
     let f = c .before in
-    let s = f .before .before .before .before .before in
+    let s = entry t (f .before .before) in
     (evaluation t s, record { inside = inside t s; form = omega (arith, f .node-form .ensures .0, c .if2 .taken) })
 
 node-value-returns-2 : (t : ℕ) → node-value-lts.Need-returns-2 (calls t) (node-value-at t) node-value.Post
 node-value-returns-2 t c =
-    let s = c .before .before .before .before .before .before .before in
+    let s = entry t (c .before .before .before .before) in
     (c .leaf-value .ensures, memo t s)
 
-node-value-node-byte-requires : (t : ℕ) → node-value-lts.Need-node-byte-requires (calls t) (node-value-at t) node-value.Post
-node-value-node-byte-requires t c κs =
+node-value-node-left-requires : (t : ℕ) → node-value-lts.Need-node-left-requires (calls t) (node-value-at t) node-value.Post
+node-value-node-left-requires t c κs =
     let s = start t c in
-    (evaluation t s .whole, (inside t s, lit< tt))
+    (evaluation t s .whole, (inside t s, good t c .narrow (operation t c)))
 
-node-value-node-byte-requires-2 : (t : ℕ) → node-value-lts.Need-node-byte-requires-2 (calls t) (node-value-at t) node-value.Post
-node-value-node-byte-requires-2 t c κs =
-    let s = start t (c .before) in
-    (evaluation t s .whole, (inside t s, lit< tt))
+node-value-node-right-requires : (t : ℕ) → node-value-lts.Need-node-right-requires (calls t) (node-value-at t) node-value.Post
+node-value-node-right-requires t c κs =
+    let e2 = c .before in
+    let s = start t e2 in
+    (evaluation t s .whole, (inside t s, good t e2 .narrow (operation t e2)))
 
 node-value-node-value-requires : (t : ℕ) → node-value-lts.Need-node-value-requires (calls t) (node-value-at t) node-value.Post
 node-value-node-value-requires t c κs =
     let left = c .before .before .before in
     let e2 = left .before in
     let s = start t e2 in
-    let down = left-before t e2 in (
-      omega (arith, down, left .node-byte .ensures .0, s .pre .0),
-      (evaluation t s, (omega (arith, down, left .node-byte .ensures .0, inside t s), memo t s)),
+    let down = good t e2 .left (operation t e2) in (
+      omega (arith, down, left .node-left .ensures, s .pre .0),
+      (evaluation t s, (omega (arith, down, left .node-left .ensures, inside t s), memo t s)),
     )
 
 node-value-node-value-requires-2 : (t : ℕ) → node-value-lts.Need-node-value-requires-2 (calls t) (node-value-at t) node-value.Post
 node-value-node-value-requires-2 t c κs =
-    let first = c .before .before in
+    let first = c .before .before .before .before .before .before in
     let right = first .before .before .before in
     let e2 = right .before .before in
     let s = start t e2 in
-    let down = right-before t e2 in (
-      omega (arith, down, right .node-byte2 .ensures .0, s .pre .0),
-      (evaluation t s, (omega (arith, down, right .node-byte2 .ensures .0, inside t s), first .node-value .ensures .1)),
+    let down = good t e2 .right (operation t e2) in (
+      omega (arith, down, right .node-right .ensures, s .pre .0),
+      (evaluation t s, (omega (arith, down, right .node-right .ensures, inside t s), first .node-value .ensures .1)),
     )
 
 node-value-combine-requires : (t : ℕ) → node-value-lts.Need-combine-requires (calls t) (node-value-at t) node-value.Post
-node-value-combine-requires t c κs = (left t c .before .if2 .left, (first-bounded t c, second-bounded t c))
+node-value-combine-requires t c κs = let b = known t c in (left t b .before .if2 .left, (first-bounded t b, second-bounded t b))
 
 node-value-state-of-requires : (t : ℕ) → node-value-lts.Need-state-of-requires (calls t) (node-value-at t) node-value.Post
 node-value-state-of-requires t c κs = tt
 
-node-value-element-write-states : (t : ℕ) → node-value-lts.Need-element-write-states (calls t) (node-value-at t) node-value.Post
-node-value-element-write-states t c = placed t (begun t (c .before .before .before))
+node-value-slice-write-states : (t : ℕ) → node-value-lts.Need-slice-write-states (calls t) (node-value-at t) node-value.Post
+node-value-slice-write-states t c =
+    let b = known t (c .before .before .before) in
+    omega (arith, inside t (begun t b), b .node-value2 .ensures .1 .stateSize)
 
 node-value-magnitude-of-requires : (t : ℕ) → node-value-lts.Need-magnitude-of-requires (calls t) (node-value-at t) node-value.Post
 node-value-magnitude-of-requires t c κs = tt
 
 node-value-mul-magnitudes : (t : ℕ) → node-value-lts.Need-mul-magnitudes (calls t) (node-value-at t) node-value.Post
-node-value-mul-magnitudes t c = omega (arith, placed t (begun t (c .before .before .before)))
+node-value-mul-magnitudes t c = omega (arith, few t (begun t (known t (c .before .before .before))))
 
-node-value-element-write-magnitudes : (t : ℕ) → node-value-lts.Need-element-write-magnitudes (calls t) (node-value-at t) node-value.Post
-node-value-element-write-magnitudes t c = placed t (begun t (c .before .before .before))
+node-value-slice-write-magnitudes : (t : ℕ) → node-value-lts.Need-slice-write-magnitudes (calls t) (node-value-at t) node-value.Post
+node-value-slice-write-magnitudes t c =
+    let b = known t (c .before .before .before) in
+    omega (arith, inside t (begun t b), b .node-value2 .ensures .1 .magnitudeSize)
 
 node-value-recalled-requires-2 : (t : ℕ) → node-value-lts.Need-recalled-requires-2 (calls t) (node-value-at t) node-value.Post
 node-value-recalled-requires-2 t c κs = tt
+
+node-value-same-length : (t : ℕ) → node-value-lts.Need-same-length (calls t) (node-value-at t) node-value.Post
+node-value-same-length t c =
+    let d = c .before .before .before .before .before .before .before in
+    simp length-set (d .states2 .given ∙ d .before .before .before .before .before .before .before .states .given)
+
+node-value-same-length-2 : (t : ℕ) → node-value-lts.Need-same-length-2 (calls t) (node-value-at t) node-value.Post
+node-value-same-length-2 t c =
+    let d = c .before .before .before .before .before in
+    simp length-set (d .magnitudes2 .given ∙ d .before .before .before .before .before .before .before .magnitudes .given)
 
 node-value-returns-3 : (t : ℕ) → node-value-lts.Need-returns-3 (calls t) (node-value-at t) node-value.Post
 node-value-returns-3 t c =
     let n = c .before in
     let d = n .before .before in
-    let s = begun t (d .before) in (
+    let b = known t (d .before) in
+    let s = begun t b in (
       c .recalled2 .ensures ∙ rw (n .before .state-of .ensures, n .magnitude-of .ensures) (remembered-value (d .combine .result) ∙ combined t d),
       memo-more (s .args .graph .now) (s .args .rule .now) (s .args .images .now) (s .args .k) (n .before .state-of .result)
-          (n .magnitude-of .result) (d .combine .result) (d .before .node-value2 .ensures .1) (placed t s) (combined t d)
+          (n .magnitude-of .result) (d .combine .result) (b .node-value2 .ensures .1) (inside t s) (combined t d)
           (n .before .state-of .ensures) (n .magnitude-of .ensures),
     )
 
@@ -272,24 +290,26 @@ pub +node-value-spec : {M : Type 1} → statement M
 +node-value-spec = close μ-node-value λ t. node-value-lts.spec (calls t)
     (node-value-at t)
     node-value.Post
-    (node-value-element-copy-out-if1 t)
-    (node-value-element-copy-out-recalled t)
+    (node-value-slice-read-if1 t)
+    (node-value-slice-read-recalled t)
     (node-value-mul-recalled t)
-    (node-value-element-copy-out-recalled-2 t)
+    (node-value-slice-read-recalled-2 t)
     (node-value-recalled-requires t)
     (node-value-returns t)
     (node-value-node-form-requires t)
     (node-value-leaf-value-requires t)
     (node-value-returns-2 t)
-    (node-value-node-byte-requires t)
-    (node-value-node-byte-requires-2 t)
+    (node-value-node-left-requires t)
+    (node-value-node-right-requires t)
     (node-value-node-value-requires t)
     (node-value-node-value-requires-2 t)
     (node-value-combine-requires t)
     (node-value-state-of-requires t)
     (node-value-magnitude-of-requires t)
-    (node-value-element-write-states t)
+    (node-value-slice-write-states t)
     (node-value-mul-magnitudes t)
-    (node-value-element-write-magnitudes t)
+    (node-value-slice-write-magnitudes t)
     (node-value-recalled-requires-2 t)
+    (node-value-same-length t)
+    (node-value-same-length-2 t)
     (node-value-returns-3 t)
