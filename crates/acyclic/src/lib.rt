@@ -2,6 +2,8 @@
 // for. The search goes depth first, from each slot along its inputs. Every turn of it raises the progress of
 // one slot, which is never above 8, so that the time grows with the number of slots and not faster. It has no recursion, and the
 // way back needs no stack of its own, whose height would have to be bounded.
+#![tactic(auto)]
+
 ghost use Rattle.std.specs.Prelude.{◌≡◌, ◌<◌};
 ghost use Rattle.definitions.specs.Graph.{slot_count, graph_of, inputs_of, has_cycle};
 ghost use Rattle.graph_fields.specs.Layout.{ReadableGraph, Closed};

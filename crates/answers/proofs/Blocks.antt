@@ -2,7 +2,7 @@
 -- which place, and that it leaves every byte as it came.
 -- Assumes nothing.
 use mathlib.Core.Path.{◌≡◌, refl, sym, ap, ◌∙◌, subst}
-use mathlib.Core.Bool.{true, false, or-true}
+use mathlib.Core.Bool.{Bool, true, false, ◌||◌, or-true}
 use mathlib.Core.List.Memᴰ
 use mathlib.Core.List.{List, [], ◌∷◌, ◌++◌}
 use mathlib.Core.Logic.{⊎_elim}
@@ -108,7 +108,9 @@ module _ {Sound : Type 0} {Fault : ℕ → ℕ → Type 0} {bad : List ℕ} {ans
 
       by_either : Read → member (number_in reply) (0 ∷ bad) ≡ true
       by_either (sound_read sound says) = rw says.number refl
-      by_either (fault_read {n = m} fault says) = rw (says.number, numbered.listed fault) (or-true (eqb m 0))
+      by_either (fault_read {n = m} fault says) =
+          subst (λ (k : ℕ). member k (0 ∷ bad) ≡ true) (sym says.number)
+          (ap (λ (b : Bool). eqb m 0 || b) (numbered.listed fault) ∙ or-true (eqb m 0))
 
       by-plain : Read → number_in reply ≡ 0 → place_in reply ≡ 0
       by-plain (sound_read sound says) h = says.place

@@ -9,7 +9,7 @@ use Rattle.definitions.specs.Paths.{Acyclic}
 use Rattle.definitions.specs.Reply.{no_match, no_result, no_room, new_cycle}
 use Rattle.definitions.specs.Graph.{Graph, inputs_of, is_vertex, at_least_one}
 use Rattle.definitions.specs.Rule.{anything, Rule, target_of}
-use Rattle.definitions.specs.Attributes.{result}
+use Rattle.definitions.specs.Attributes.{result_of}
 use Rattle.definitions.specs.Match.{image_of, read_attribute, is_const, Private, MatchFrom, output_images, LeastFrom}
 use Rattle.definitions.specs.Rewriting.{target_results, is_removed, stays, new_graph}
 use Rattle.definitions.specs.Results.{Meaning, AreResults, SameOutputs, KeepsUntouched, KeepsStaying, KeepsOutputs}
@@ -18,7 +18,7 @@ use Rattle.definitions.specs.Results.{Meaning, AreResults, SameOutputs, KeepsUnt
 
 -- what attribute i, counted from 0, of target vertex t gives for the match `images`
 abbrev pub target_result : Graph → Rule → List ℕ → ℕ → ℕ → Option ℤ
-target_result g r images t i = result (read_attribute g images) (get_or (target_of r t).attributes i anything)
+target_result g r images t i = result_of (read_attribute g images) (get_or (target_of r t).attributes i anything)
 
 -- it gives nothing, or t is a Proj and it gives a number below 1
 abbrev pub Unfit : Graph → Rule → List ℕ → ℕ → ℕ → Type 0

@@ -1,5 +1,7 @@
 // Exact arithmetic on whole numbers by sign and magnitude: what an operation of an expression gives for two operands. No step
 // makes a number that a u64 does not hold, and a result that is out of range is Nothing.
+#![tactic(auto)]
+
 ghost use Rattle.std.specs.Prelude.{◌≡◌, true, ◌+◌, ◌*◌, ◌≤◌, min, neg_ℤ, ◌+ℤ◌};
 ghost use Rattle.std.proofs.Math.Option.{some};
 ghost use Rattle.definitions.specs.Rule as rules;
@@ -99,7 +101,7 @@ fn multiply(x: Integer, y: Integer) -> Value
 
 // The result of the operation with that form.
 pub fn operate(form: usize, x: Integer, y: Integer) -> Value
-    requires form_add_le_form { rules.formAdd ≤ form }
+    requires form_add_le_form { rules.form_add ≤ form }
     requires x_value { in_range (integer_of x) ≡ true }
     requires y_value { in_range (integer_of y) ≡ true }
     ensures { value_of result ≡ results.operate (operation_of form) (integer_of x) (integer_of y) }
@@ -121,7 +123,7 @@ pub fn operate(form: usize, x: Integer, y: Integer) -> Value
 
 // The result of the operation for a number and a result.
 fn combine_right(form: usize, x: Integer, y: Value) -> Value
-    requires form_add_le_form { rules.formAdd ≤ form }
+    requires form_add_le_form { rules.form_add ≤ form }
     requires x_value { in_range (integer_of x) ≡ true }
     requires y_value { bounded (value_of y) ≡ true }
     ensures { value_of result ≡ results.combine (operation_of form) (some (integer_of x)) (value_of y) }
@@ -135,7 +137,7 @@ fn combine_right(form: usize, x: Integer, y: Value) -> Value
 
 // The result of the operation for two results: an operand that has none gives none.
 pub fn combine(form: usize, x: Value, y: Value) -> Value
-    requires form_add_le_form { rules.formAdd ≤ form }
+    requires form_add_le_form { rules.form_add ≤ form }
     requires x_value { bounded (value_of x) ≡ true }
     requires y_value { bounded (value_of y) ≡ true }
     ensures { value_of result ≡ results.combine (operation_of form) (value_of x) (value_of y) }

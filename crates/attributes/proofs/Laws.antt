@@ -15,7 +15,7 @@ use lib.ListN.{length, get_or}
 use Rattle.definitions.specs.Lists.{all_below, all_pairs}
 use Rattle.definitions.specs.Fields.{signed}
 use Rattle.definitions.specs.Rule.{Expression, anything, constant, access, apply, index, sum, form_any, form_constant, form_access, node_form, accesses_below}
-use Rattle.definitions.specs.Attributes.{combine, result, gives, agrees}
+use Rattle.definitions.specs.Attributes.{combine, result_of, gives, agrees}
 use Rattle.rule_fields.specs.Fixed.{expression_in, nodes_in}
 use Rattle.laws.proofs.Lists.{decided, and_left, and_right, all_below_step, all_below_fails}
 use Rattle.rule_nodes.specs.Nodes.{GoodNode}
@@ -73,8 +73,8 @@ module _ (read : ℕ → ℕ → Option ℤ) (ps : List Expression) (ws : List �
 -- ---- what an expression reads
 
 module _ (read other : ℕ → ℕ → Option ℤ) (j : ℕ) (same : (v b : ℕ) → v < j → read v b ≡ other v b) where
-  result_below : (e : Expression) → accesses_below j e ≡ true → result read e ≡ result other e
-  unfolding accesses_below result
+  result_below : (e : Expression) → accesses_below j e ≡ true → result_of read e ≡ result_of other e
+  unfolding accesses_below result_of
   result_below anything h = refl
   result_below (constant x) h = refl
   result_below (access v b) h = same v b (ltb-true v j h)
@@ -86,7 +86,7 @@ module _ (read other : ℕ → ℕ → Option ℤ) (j : ℕ) (same : (v b : ℕ)
 
 pub agrees_below : (read other : ℕ → ℕ → Option ℤ) (j : ℕ) (e : Expression) (z : ℤ) → accesses_below j e ≡ true
     → ((v b : ℕ) → v < j → read v b ≡ other v b) → agrees read e z ≡ agrees other e z
-unfolding agrees result
+unfolding agrees result_of
 agrees_below read other j anything z h same = refl
 agrees_below read other j (constant x) z h same = ap (λ (r : Option ℤ). gives r z) (result_below read other j same (constant x) h)
 agrees_below read other j (access v b) z h same = ap (λ (r : Option ℤ). gives r z) (result_below read other j same (access v b) h)
@@ -112,7 +112,7 @@ module _ (block : List ℕ) (k : ℕ) (inside : k < nodes_in block) (read : ℕ 
   unfolding agrees
   any-agrees h = rw (← named, any-node block k inside h)
 
-  pub result-agrees : (x : Option ℤ) (found : ℤ) → x ≡ result read (expression_in block k) → found ≡ z
+  pub result-agrees : (x : Option ℤ) (found : ℤ) → x ≡ result_of read (expression_in block k) → found ≡ z
       → GoodNode block k → (node_form block k ≡ form_any → ⊥) → gives x found ≡ agrees read e z
   unfolding agrees
   result-agrees x found r f good h =

@@ -1,10 +1,12 @@
 // The attributes of a rule's vertices for a map: whether those of a source vertex agree with those of a slot, and the results of a
 // target vertex's.
+#![tactic(auto)]
+
 ghost use Rattle.std.specs.Prelude.{◌≡◌, true, get_or};
 ghost use Rattle.definitions.specs.Fields.{signed};
 ghost use Rattle.definitions.specs.Graph.{graph_of, slot_of};
 ghost use Rattle.definitions.specs.Rule.{anything, source_of, target_of};
-ghost use Rattle.definitions.specs.Attributes.{result, agrees};
+ghost use Rattle.definitions.specs.Attributes.{result_of, agrees};
 ghost use Rattle.definitions.specs.Match.{read_attribute};
 ghost use Rattle.rule_fields.specs.Fixed.{fixed_of};
 ghost use Rattle.numbers.specs.Value.{value_of, bounded};
@@ -30,9 +32,9 @@ fn attribute_agrees(
 ) -> bool
     requires evaluation { Evaluation graph.now rule.now images.now }
     requires source_attribute { SourceAttribute graph.now rule.now j i v }
-    ensures* { λ r. ⌜ r ≡ agrees (read_attribute (graph_of graph.now) images.now)
+    ensures { result ≡ agrees (read_attribute (graph_of graph.now) images.now)
         (get_or (source_of (fixed_of rule.now) j).attributes i anything)
-        (signed (get_or (slot_of (graph_of graph.now) v).attributes i 0)) ⌝ }
+        (signed (get_or (slot_of (graph_of graph.now) v).attributes i 0)) }
 {
     let k = source_attribute(rule, j, i);
     let form = node_form(rule, k);
@@ -56,8 +58,8 @@ pub fn attributes_agree(
 ) -> bool
     requires evaluation { Evaluation graph.now rule.now images.now }
     requires source_attributes { SourceAttributes graph.now rule.now j v }
-    ensures* { λ r. ⌜ r ≡ agree_first (read_attribute (graph_of graph.now) images.now)
-        (source_of (fixed_of rule.now) j).attributes (slot_of (graph_of graph.now) v).attributes ⌝ }
+    ensures { result ≡ agree_first (read_attribute (graph_of graph.now) images.now)
+        (source_of (fixed_of rule.now) j).attributes (slot_of (graph_of graph.now) v).attributes }
 {
     let count = source_attribute_count(rule, j);
     let mut i = 0;
@@ -80,9 +82,9 @@ pub fn target_value(
 ) -> Value
     requires evaluation { Evaluation graph.now rule.now images.now }
     requires target_attribute { TargetAttribute rule.now t i }
-    ensures* r_value { λ r. ⌜ value_of r ≡ result (read_attribute (graph_of graph.now) images.now)
-        (get_or (target_of (fixed_of rule.now) t).attributes i anything) ⌝ }
-    ensures* r_value_2 { λ r. ⌜ bounded (value_of r) ≡ true ⌝ }
+    ensures result_value { value_of result ≡ result_of (read_attribute (graph_of graph.now) images.now)
+        (get_or (target_of (fixed_of rule.now) t).attributes i anything) }
+    ensures bounded_result { bounded (value_of result) ≡ true }
 {
     let k = target_attribute(rule, t, i);
     if node_form(rule, k) < FORM_ADD {

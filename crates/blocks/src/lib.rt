@@ -1,4 +1,6 @@
 // The blocks that a caller of matching or rewriting lends: the replies about them, and the bytes of the map.
+#![tactic(auto)]
+
 ghost use Rattle.std.specs.Prelude.{◌≡◌, ◌*◌, length};
 ghost use Rattle.definitions.specs.Lists.{concat_map};
 ghost use Rattle.definitions.specs.Fields.{u16_bytes};

@@ -1,5 +1,7 @@
 // The commit of a rewriting: the new table, which was made and judged beside the old one, is written over it, the header first
 // and then record by record. It is called once the answer is sure.
+#![tactic(auto)]
+
 ghost use Rattle.std.specs.Prelude.{◌≡◌, true, ◌+◌, ◌<◌, ◌≤◌, length};
 ghost use Rattle.definitions.specs.Graph.{slot_bytes, slot_count, record_at};
 ghost use Rattle.graph_fields.specs.Layout.{WholeGraph};

@@ -40,13 +40,13 @@ combine o (some x) (some y) = operate o x y
 
 -- `read v b` is attribute place b of the image of source vertex v, or none where the image has no such place. Index and sum have no result of
 -- their own: in a fixed rule there are none.
-unfoldable pub result : (ℕ → ℕ → Option ℤ) → Expression → Option ℤ
-result read anything = none
-result read (constant z) = some z
-result read (access v b) = read v b
-result read (apply o x y) = combine o (result read x) (result read y)
-result read index = none
-result read (sum x) = none
+unfoldable pub result_of : (ℕ → ℕ → Option ℤ) → Expression → Option ℤ
+result_of read anything = none
+result_of read (constant z) = some z
+result_of read (access v b) = read v b
+result_of read (apply o x y) = combine o (result_of read x) (result_of read y)
+result_of read index = none
+result_of read (sum x) = none
 
 unfoldable pub same_number : ℤ → ℤ → Bool
 same_number (pos a) (pos b) = eqb a b
@@ -61,8 +61,8 @@ gives (some x) z = same_number x z
 -- any agrees with every attribute; another expression with exactly its result
 unfoldable pub agrees : (ℕ → ℕ → Option ℤ) → Expression → ℤ → Bool
 agrees read anything z = true
-agrees read (constant x) z = gives (result read (constant x)) z
-agrees read (access v b) z = gives (result read (access v b)) z
-agrees read (apply o x y) z = gives (result read (apply o x y)) z
-agrees read index z = gives (result read index) z
-agrees read (sum x) z = gives (result read (sum x)) z
+agrees read (constant x) z = gives (result_of read (constant x)) z
+agrees read (access v b) z = gives (result_of read (access v b)) z
+agrees read (apply o x y) z = gives (result_of read (apply o x y)) z
+agrees read index z = gives (result_of read index) z
+agrees read (sum x) z = gives (result_of read (sum x)) z

@@ -7,7 +7,7 @@ use Rattle.definitions.specs.Fields.{word_of}
 use Rattle.definitions.specs.Operators.{kind_proj}
 use Rattle.definitions.specs.Graph.{unused_place, Slot, Graph, empty_slot, renamed, slot_of, is_vertex, at_least_one}
 use Rattle.definitions.specs.Rule.{Expression, Origin, given, made, Pattern, Rule, target_of, is_rule_input}
-use Rattle.definitions.specs.Attributes.{result}
+use Rattle.definitions.specs.Attributes.{result_of}
 use Rattle.definitions.specs.Match.{image_of, is_const, images_where, Private, is_private, output_images}
 
 -- ---- attributes of the target vertices, read from the old table
@@ -15,7 +15,7 @@ use Rattle.definitions.specs.Match.{image_of, is_const, images_where, Private, i
 -- the expressions' results, where each has one
 unfoldable pub results : (ℕ → ℕ → Option ℤ) → List Expression → Option (List ℤ)
 results read [] = some []
-results read (e ∷ es) = elim (result read e) [
+results read (e ∷ es) = elim (result_of read e) [
   | none ↦ none
   | some z ↦ elim (results read es) [ none ↦ none | some zs ↦ some (z ∷ zs) ]
 ]

@@ -1,5 +1,6 @@
 // The types of a reply, and the sizes of the blocks under the names that specs/ gives them. What
 // document 01 means stands in specs/, in its order; this crate has no code of its own.
+#![tactic(auto)]
 
 // The graph block.
 pub const HEADER_BYTES: usize = 24;
@@ -103,21 +104,21 @@ pub const MAP_PLACES: usize = 16;
 pub const MAP_BYTES: usize = 2 * MAP_PLACES;
 
 // Where a refusal's fault lies, and a value beside it, a count or a reason, which is zero for now.
-#[derive(Drop)]
+#[derive(Clone, Copy)]
 pub struct Place {
     pub index: u32,
     pub value: u32,
 }
 
 // A refusal: the number of the reply table with its place record.
-#[derive(Drop)]
+#[derive(Clone, Copy)]
 pub struct Refusal {
     pub number: u8,
     pub place: Place,
 }
 
 // The answer of every operation: done, with a value where a request names one, or a refusal. A value has 24 bits.
-#[derive(Drop)]
+#[derive(Clone, Copy)]
 pub enum Reply {
     Done(u32),
     Refused(Refusal),

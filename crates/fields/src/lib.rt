@@ -1,5 +1,7 @@
 // Fields of a lent block: bytes, 16-bit, 32-bit and 64-bit little-endian numbers, and signed ones. Nothing here reads past what its
 // `requires` names.
+#![tactic(auto)]
+
 ghost use Rattle.std.specs.Prelude.{◌≡◌, ◌+◌, ◌<◌, ◌≤◌, max, length};
 ghost use Rattle.definitions.specs.Fields.{byte_at, u16_at, u32_at, mark_fits, signed};
 ghost use Rattle.fields.specs.Integer.{integer_of};
@@ -7,7 +9,7 @@ ghost use Rattle.fields.specs.Words.{word_bytes, u64_at};
 
 // A whole number by its sign: Plus(n) is n, and Minus(n) is -(n + 1), so that each number has one
 // form only.
-#[derive(Drop)]
+#[derive(Clone, Copy)]
 pub enum Integer {
     Plus(u64),
     Minus(u64),

@@ -1,4 +1,5 @@
 // Finding a match in lent blocks: the replies about the blocks, then 4, and the map of the least match where there is one.
+#![tactic(auto)]
 ghost use Rattle.std.specs.Prelude.{◌≡◌};
 ghost use Rattle.definitions.specs.Operations as operation;
 
@@ -10,7 +11,7 @@ use search::least_match;
 // Nothing is written before the reply is sure: the map is the last thing that is done.
 pub fn find_match(graph: &[u8], rule: &[u8], start: usize, map: &mut [u8]) -> Reply
     ensures { operation.outcome result graph.now map.new
-        ≡ operation.findMatch graph.now rule.now start map.old }
+        ≡ operation.find_match graph.now rule.now start map.old }
 {
     match check_blocks(graph, rule, map) {
         Reply::Refused(refusal) => return Reply::Refused(refusal),

@@ -1,4 +1,6 @@
 // The arrays of a slot's record, read from a block: every place as it stands, the unused ones too.
+#![tactic(auto)]
+
 ghost use Rattle.std.specs.Prelude.{◌≡◌, ◌+◌, ◌≤◌, length};
 ghost use Rattle.definitions.specs.Graph.{slot_bytes};
 ghost use Rattle.graph_arrays.specs.Arrays.{inputs_at, attributes_at};

@@ -1,5 +1,7 @@
 // Checking a graph block: the five kinds of fault, in the papers' order, each with the lowest place that has it. The first four are those of
 // either version of the block.
+#![tactic(auto)]
+
 ghost use Rattle.std.specs.Prelude.{◌≡◌};
 ghost use Rattle.definitions.specs.Graph.{reply_as, graph_reply};
 ghost use Rattle.graph_check.specs.Stages.{early_reply};

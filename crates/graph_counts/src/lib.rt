@@ -1,5 +1,7 @@
 // The counts of a graph block, all stored anew: they are counted once, over the whole table, and then each record gets its own. Whatever has
 // changed in the table before, every count is true after.
+#![tactic(auto)]
+
 ghost use Rattle.std.specs.Prelude.{◌≡◌, ◌+◌, ◌≤◌, length};
 ghost use Rattle.definitions.specs.Graph.{record_at};
 ghost use Rattle.graph_records.specs.Records.{slot_at};

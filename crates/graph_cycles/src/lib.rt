@@ -1,6 +1,8 @@
 // The lowest slot on a cycle. Whether there is a cycle is found out in a time that grows with the number of slots; only where there is
 // one, each slot in turn is asked whether it is on one. A question marks every slot once at most and passes each of its six inputs
 // once, in at most 8 N turns of the loop that marks; so N slots take at most 8 N * N turns, 2.1 million for 512.
+#![tactic(auto)]
+
 ghost use Rattle.std.specs.Prelude.{◌≡◌, ◌<◌};
 ghost use Rattle.definitions.specs.Graph.{slot_count, graph_of, inputs_of, lowest_on_cycle};
 ghost use Rattle.definitions.specs.Paths.{on_cycle};

@@ -1,5 +1,7 @@
 // The second kind of fault of a graph block in document 01's order: a record that does not follow its kind. The test gives the lowest
 // slot with one, or the number of slots where there is none.
+#![tactic(auto)]
+
 ghost use Rattle.std.specs.Prelude.{◌≡◌, not, ◌||◌, ◌+◌, ◌*◌, ◌≤◌, eqb, length};
 ghost use Rattle.definitions.specs.Lists.{lowest};
 ghost use Rattle.definitions.specs.Fields.{u32_at, filled, signed};

@@ -1,4 +1,6 @@
 // A graph block's fields by index, as fields of the graph for which the block stands.
+#![tactic(auto)]
+
 ghost use Rattle.std.specs.Prelude.{◌≡◌, ◌+◌, ◌<◌, ◌≤◌, length, get_or};
 ghost use Rattle.fields.specs.Integer.{integer_of};
 ghost use Rattle.definitions.specs.Fields.{signed};

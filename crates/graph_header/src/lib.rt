@@ -1,4 +1,6 @@
 // The first kind of fault of a graph block in document 01's order: its length and header.
+#![tactic(auto)]
+
 ghost use Rattle.std.specs.Prelude.{◌≡◌, ◌≤◌, length};
 ghost use Rattle.definitions.specs.Graph.{header_bytes, output_places_fit, header_fits};
 

@@ -1,5 +1,7 @@
 // The import: the lent block, a sound one of version 1, becomes the block of version 2 of the same graph. It gets the other version and its
 // counts; no other byte changes.
+#![tactic(auto)]
+
 ghost use Rattle.std.specs.Prelude.{◌≡◌};
 ghost use Rattle.definitions.specs.Import.{import_reply, import_graph};
 

@@ -1,4 +1,6 @@
 // Where each slot goes in a squeeze, and the new names of what places name.
+#![tactic(auto)]
+
 ghost use Rattle.std.specs.Prelude.{◌≡◌, map, ◌<◌, ◌≤◌, length, take};
 ghost use Rattle.definitions.specs.Lists.{padded};
 ghost use Rattle.definitions.specs.Graph.{slot_limit, output_limit, input_limit, unused_place, slot_count, Slot, renamed, graph_of};

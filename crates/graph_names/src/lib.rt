@@ -1,5 +1,7 @@
 // The third kind of fault of a graph block in document 01's order: an input or an output that names no vertex. Each test gives the
 // lowest slot or output place with one, or the number looked at where there is none.
+#![tactic(auto)]
+
 ghost use Rattle.std.specs.Prelude.{◌≡◌, ◌<◌};
 ghost use Rattle.definitions.specs.Lists.{lowest, all};
 ghost use Rattle.definitions.specs.Graph.{slot_count, output_count, graph_of, inputs_of, is_vertex, bad_inputs, bad_output};

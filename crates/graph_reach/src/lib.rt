@@ -1,5 +1,7 @@
 // The slots that have a path to a slot, or to an output, marked. The slots whose inputs are still to be marked wait in a queue, which every slot
 // enters once at most; so every input place is looked at twice at most, and the time grows with the number of slots and not faster.
+#![tactic(auto)]
+
 ghost use Rattle.std.specs.Prelude.{◌≡◌, ◌<◌, length};
 ghost use Rattle.definitions.specs.Graph.{slot_limit, slot_count, graph_of, inputs_of};
 ghost use Rattle.definitions.specs.Paths.{is_marked};

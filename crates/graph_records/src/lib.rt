@@ -1,4 +1,6 @@
 // The records of a graph block: a record is written into a part that the caller lends on, and read from a block.
+#![tactic(auto)]
+
 ghost use Rattle.std.specs.Prelude.{◌≡◌, ◌+◌, ◌≤◌, length};
 ghost use Rattle.definitions.specs.Graph.{slot_bytes, tail_bytes, input_limit, attribute_limit, empty_slot};
 ghost use Rattle.graph_records.specs.Records.{fields_of, record_bytes, Stands, fields_at, ReadFrom};
@@ -11,7 +13,7 @@ use graph_arrays::{read_attributes, read_inputs};
 use writing::{copy, put_u16s, put_u32s};
 
 // What a slot's record holds: kind, operator, input count n, attribute count m, and every place, the unused ones too.
-#[derive(Drop)]
+#[derive(Clone, Copy)]
 pub struct Record {
     pub kind: u8,
     pub operator: u8,

@@ -1,4 +1,6 @@
 // One slot of a graph block, written in place: its 48 bytes are lent on, and every other byte stays. And room for a block of any size.
+#![tactic(auto)]
+
 ghost use Rattle.std.specs.Prelude.{◌≡◌, ◌+◌, ◌≤◌, length};
 ghost use Rattle.definitions.specs.Graph.{tail_bytes, slot_limit, input_limit, attribute_limit, record_at};
 ghost use Rattle.graph_records.specs.Records.{record_bytes};

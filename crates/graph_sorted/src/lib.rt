@@ -1,4 +1,6 @@
 // Whether a table is sorted: every slot reads lower slots only. Such a table has no cycle, and needs no search for one.
+#![tactic(auto)]
+
 ghost use Rattle.std.specs.Prelude.{◌≡◌, ◌<◌};
 ghost use Rattle.definitions.specs.Graph.{slot_count, graph_of, inputs_of};
 ghost use Rattle.graph_fields.specs.Layout.{ReadableGraph};

@@ -1,5 +1,7 @@
 // The squeeze: in the lent graph the vertices move to the lowest slots, in their order, and all that names them follows; the lent list
 // tells where each slot went. No vertex moves up, so a record is read before its slot is written. Counts are stored last, for the whole table.
+#![tactic(auto)]
+
 ghost use Rattle.std.specs.Prelude.{◌≡◌, ◌+◌, ◌≤◌, length, replicate};
 ghost use Rattle.definitions.specs.Graph.{header_bytes, slot_limit, tail_bytes, graph_version, slot_count, record_at, Slot, renamed, graph_of, slot_block, block_as, SoundGraph};
 ghost use Rattle.definitions.specs.Squeeze as squeezed;
@@ -61,7 +63,7 @@ fn move_vertices(graph: &mut [u8], count: usize, from: &[u16; SLOT_LIMIT], to: &
 
 // Reply 40 is about the list's length alone: its bytes are not read.
 fn check_moves(graph: &[u8], moves: &[u8]) -> Reply
-    ensures { header_bytes ≤ length graph.now → result ≡ squeezed.movesReply graph.now moves.now }
+    ensures { header_bytes ≤ length graph.now → result ≡ squeezed.moves_reply graph.now moves.now }
 {
     if graph.len() < HEADER_BYTES {
         return Reply::Done(0);
@@ -74,7 +76,7 @@ fn check_moves(graph: &[u8], moves: &[u8]) -> Reply
 
 // The graph's faults come first. What is said of the list next to a block that is shorter than a header does not matter.
 fn check_both(graph: &[u8], moves: &[u8]) -> Reply
-    ensures { result ≡ squeezed.squeezeReply graph.now moves.now }
+    ensures { result ≡ squeezed.squeeze_reply graph.now moves.now }
 {
     let found = check(graph);
     let listed = check_moves(graph, moves);
@@ -83,9 +85,9 @@ fn check_both(graph: &[u8], moves: &[u8]) -> Reply
 
 // Squeezes the lent graph and writes the list of moves, or says what is wrong and leaves both as they are.
 pub fn squeeze(graph: &mut [u8], moves: &mut [u8]) -> Reply
-    ensures value { result ≡ squeezed.squeezeReply graph.old moves.old }
-    ensures graph_after { graph.new ≡ squeezed.squeezeGraph graph.old moves.old }
-    ensures moves_after { moves.new ≡ squeezed.squeezeMoves graph.old moves.old }
+    ensures value { result ≡ squeezed.squeeze_reply graph.old moves.old }
+    ensures graph_after { graph.new ≡ squeezed.squeeze_graph graph.old moves.old }
+    ensures moves_after { moves.new ≡ squeezed.squeeze_moves graph.old moves.old }
 {
     match check_both(graph, moves) {
         Reply::Refused(refusal) => return Reply::Refused(refusal),

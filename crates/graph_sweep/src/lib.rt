@@ -1,6 +1,8 @@
 // The sweep: every vertex from which no graph output is reached is emptied in the lent graph, except Variables, which the phone feeds by
 // number. Which slots go is settled before the first is written. Then counts are stored anew: what a slot that went has read is named less
 // often.
+#![tactic(auto)]
+
 ghost use Rattle.std.specs.Prelude.{◌≡◌, ◌<◌, length};
 ghost use Rattle.definitions.specs.Graph.{slot_limit, slot_count, graph_of, graph_reply, SoundGraph};
 ghost use Rattle.definitions.specs.Sweep as swept;
@@ -20,7 +22,7 @@ fn goes(graph: &[u8], needed: &[bool; SLOT_LIMIT], v: usize) -> bool
     requires whole_graph { WholeGraph graph.now }
     requires v_bound { v < slot_count graph.now }
     requires needed_len { length needed.now ≡ slot_limit }
-    ensures { result ≡ swept.isUnneeded (graph_of graph.now) needed.now v }
+    ensures { result ≡ swept.is_unneeded (graph_of graph.now) needed.now v }
 {
     if needed[v] {
         return false;
@@ -35,7 +37,7 @@ fn goes(graph: &[u8], needed: &[bool; SLOT_LIMIT], v: usize) -> bool
 // Marks the slots that go.
 fn find_unneeded(graph: &[u8]) -> [bool; SLOT_LIMIT]
     requires { SoundGraph graph.now }
-    ensures { Marked (swept.isUnneeded (graph_of graph.now) (swept.reachingOutputs (graph_of graph.now)))
+    ensures { Marked (swept.is_unneeded (graph_of graph.now) (swept.reaching_outputs (graph_of graph.now)))
         (slot_count graph.now) result }
 {
     let needed = reaching_outputs(graph);
@@ -52,7 +54,7 @@ fn find_unneeded(graph: &[u8]) -> [bool; SLOT_LIMIT]
 // Empties the marked slots. Every other byte stays as it is, the counts of what stays too.
 fn empty_slots(graph: &mut [u8], unneeded: &[bool; SLOT_LIMIT])
     requires sound_graph { SoundGraph graph.old }
-    requires marked { Marked (swept.isUnneeded (graph_of graph.old) (swept.reachingOutputs (graph_of graph.old))) (slot_count graph.old) unneeded.now }
+    requires marked { Marked (swept.is_unneeded (graph_of graph.old) (swept.reaching_outputs (graph_of graph.old))) (slot_count graph.old) unneeded.now }
     ensures { graph.new ≡ emptied (graph_of graph.old) }
 {
     let slots = slot_count(graph);
@@ -68,7 +70,7 @@ fn empty_slots(graph: &mut [u8], unneeded: &[bool; SLOT_LIMIT])
 // Sweeps the lent graph, or says what is wrong with it and leaves it as it is.
 pub fn sweep(graph: &mut [u8]) -> Reply
     ensures value { result ≡ graph_reply graph.old }
-    ensures graph_after { graph.new ≡ swept.sweepGraph graph.old }
+    ensures graph_after { graph.new ≡ swept.sweep_graph graph.old }
 {
     match check(graph) {
         Reply::Refused(refusal) => return Reply::Refused(refusal),

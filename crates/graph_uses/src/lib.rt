@@ -1,4 +1,6 @@
 // How often each slot of a graph is named, counted in one pass over the table, and the comparison with the counts that the slots store.
+#![tactic(auto)]
+
 ghost use Rattle.std.specs.Prelude.{◌≡◌, ℕ, ◌+◌, ◌<◌, length, get_or};
 ghost use Rattle.definitions.specs.Lists.{lowest};
 ghost use Rattle.definitions.specs.Graph.{slot_limit, slot_count, graph_of, true_count, bad_count};

@@ -12,7 +12,7 @@ use native.Mathlib.Omega.{arith}
 use lib.IntN.{ℤ, pos}
 use lib.ListN.{length, get_or}
 use Rattle.definitions.specs.Rule.{Expression, anything, Origin, Pattern, wildcard}
-use Rattle.definitions.specs.Attributes.{result}
+use Rattle.definitions.specs.Attributes.{result_of}
 use Rattle.definitions.specs.Rewriting.{results, index_fits, vertex_results, target_results}
 use Rattle.laws.proofs.Lists.{decided}
 
@@ -71,12 +71,12 @@ module _ (read : ℕ → ℕ → Option ℤ) where
   -- as many results as expressions, each the result of its expression
   pub results-length : (es : List Expression) (zs : List ℤ) → results read es ≡ some zs → length zs ≡ length es
   unfolding results joined
-  results-length = each_length (result read) (results read) refl (λ e es. refl)
+  results-length = each_length (result_of read) (results read) refl (λ e es. refl)
 
   pub result-at : (es : List Expression) (zs : List ℤ) (i : ℕ) → results read es ≡ some zs → i < length es
-      → result read (get_or es i anything) ≡ some (get_or zs i (pos 0))
+      → result_of read (get_or es i anything) ≡ some (get_or zs i (pos 0))
   unfolding results joined
-  result-at es zs i = each_at (result read) (results read) refl (λ e es. refl) es zs i anything (pos 0)
+  result-at es zs i = each_at (result_of read) (results read) refl (λ e es. refl) es zs i anything (pos 0)
 
   -- ---- target vertices
 

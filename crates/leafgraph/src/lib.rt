@@ -1,6 +1,7 @@
 // The operations that the app's C++ host calls, over the bytes that it lends. include/leafgraph.h has
 // their C prototypes. None has a `requires`: any bytes are answered. The contracts stand in
 // answers/specs/Statements, each with what follows from it.
+#![tactic(auto)]
 ghost use Rattle.answers.specs.Statements.{CheckedGraph, CheckedRule, Searched, Rewrote, Swept, Squeezed, Imported, Asked, Wrote, ReadText};
 
 use reply::pack;

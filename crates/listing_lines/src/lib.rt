@@ -1,4 +1,6 @@
 // A slot's line in a listing, read from behind the slot's number on into the record of the slot.
+#![tactic(auto)]
+
 ghost use Rattle.std.specs.Prelude.{◌≡◌, true, false, ◌<◌, ◌≤◌, length, take};
 ghost use Rattle.definitions.specs.Lists.{within, padded};
 ghost use Rattle.definitions.specs.Operators.{kind_const, kind_proj};
@@ -17,7 +19,7 @@ use listing_parse::{read_letters, read_operator, read_word};
 use operators::{counts_of, row_of};
 
 // What reading a line gives. Stopped: no listing goes on at next. Else the record is the slot's, and next is the place behind the line's end.
-#[derive(Drop)]
+#[derive(Clone, Copy)]
 pub struct SlotLine {
     pub stopped: bool,
     pub next: usize,
@@ -25,7 +27,7 @@ pub struct SlotLine {
 }
 
 // How many inputs and attributes a line has.
-#[derive(Drop)]
+#[derive(Clone, Copy)]
 pub struct Shape {
     pub least: usize,
     pub most: usize,

@@ -1,4 +1,6 @@
 // Lists of numbers in a listing, read up to the first byte that no such list goes on with: inputs, attributes and outputs.
+#![tactic(auto)]
+
 ghost use Rattle.std.specs.Prelude.{◌≡◌, true, ◌&&◌, ◌∷◌, ◌+◌, ◌-◌, ◌<◌, ◌≤◌, ◌^◌, leb, eqb, length, take};
 ghost use Rattle.definitions.specs.Fields.{word_of};
 ghost use Rattle.definitions.specs.Numerals.{in_field};

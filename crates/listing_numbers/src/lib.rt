@@ -1,5 +1,7 @@
 // Numbers of a listing: printed in decimal, and read byte by byte up to the first byte that no number of the field goes on with. A number
 // of a few plain digits, as most are, is read without asking at each digit what can come of it: it only has to fit in the end.
+#![tactic(auto)]
+
 ghost use Rattle.std.specs.Prelude.{◌≡◌, true, ◌+◌, ◌-◌, ◌<◌, ◌≤◌, ◌^◌, length, get_or, drop};
 ghost use Rattle.std.proofs.Math.Option.{some};
 ghost use Rattle.definitions.specs.Lists.{within};
@@ -9,7 +11,7 @@ ghost use Rattle.listing.specs.Typing.{FieldFits, is_digit, is_numeric, digits_o
 ghost use Rattle.listing_numbers.specs.State.{field_of, typed_of, after_byte, ended_so, got_of};
 
 // The numbers that a field takes: low to high, and -below to -1.
-#[derive(Drop)]
+#[derive(Clone, Copy)]
 pub struct Field {
     pub low: u64,
     pub high: u64,
@@ -18,14 +20,14 @@ pub struct Field {
 
 // A number that is being read. Stages 0 to 3: nothing yet, a minus, the digits of value, the same behind a minus. Stage 4: no
 // number of the field can come of it.
-#[derive(Drop)]
+#[derive(Clone, Copy)]
 pub struct Typing {
     pub stage: u8,
     pub value: u64,
 }
 
 // What reading a number gives: the place at which no number of the field goes on; or the number and the place behind it.
-#[derive(Drop)]
+#[derive(Clone, Copy)]
 pub enum Number {
     Stopped(usize),
     Read {
@@ -100,7 +102,7 @@ fn reaches(d: u64, low: u64, high: u64) -> bool
 }
 
 fn goes_on(d: u64, low: u64, high: u64) -> bool
-    ensures { result ≡ typing.goesOn d low high }
+    ensures { result ≡ typing.goes_on d low high }
 {
     if 0 < d {
         return reaches(d, low, high);

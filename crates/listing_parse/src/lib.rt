@@ -1,5 +1,7 @@
 // The parts of a listing's lines, read from a place on up to the first byte that no listing goes on with: fixed letters, numbers that are not
 // negative, the words of the kinds, and what follows the word.
+#![tactic(auto)]
+
 ghost use Rattle.std.specs.Prelude.{◌≡◌, true, false, ◌<◌, ◌≤◌, length};
 ghost use Rattle.definitions.specs.Lists.{within};
 ghost use Rattle.definitions.specs.Operators.{kind_const, kind_proj};
@@ -15,7 +17,7 @@ use definitions::{KIND_CALL, KIND_CONST, KIND_PROJ, KIND_TUPLE, KIND_VARIABLE, O
 use listing_numbers::{Field, Number, read_number};
 
 // What reading a part gives. Stopped: no listing goes on at next. Else value is what the part says, and next is the place behind it.
-#[derive(Drop)]
+#[derive(Clone, Copy)]
 pub struct Part {
     pub stopped: bool,
     pub next: usize,

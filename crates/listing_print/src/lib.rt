@@ -1,5 +1,7 @@
 // The parts of a listing, printed into a lent text from a place on. Each function returns the place behind its part, and writes the part
 // where it fits. So what is printed into an empty text writes nothing, and tells the length.
+#![tactic(auto)]
+
 ghost use Rattle.std.specs.Prelude.{◌≡◌, ◌∷◌, ◌++◌, map, ◌+◌, ◌*◌, ◌<◌, ◌≤◌, ◌^◌, pos, length, drop};
 ghost use Rattle.definitions.specs.Fields.{signed};
 ghost use Rattle.definitions.specs.Graph.{slot_count, graph_of, slot_of, inputs_of};
@@ -63,7 +65,7 @@ fn put_number(text: &mut [u8], at: usize, number: u32) -> usize
 // ---- rows of numbers
 
 // Numbers in a row in a block, from byte `from` on: signed ones of 32 bits where they are wide, and else of 16 bits.
-#[derive(Drop)]
+#[derive(Clone, Copy)]
 pub struct Row {
     pub from: usize,
     pub count: usize,

@@ -1,5 +1,6 @@
 // A whole listing, read in one pass from its first byte on into a table: the line of the graph, the lines of the slots, the line of the outputs,
 // and nothing behind it. The header is written when the outputs are known.
+#![tactic(auto)]
 ghost use Rattle.std.specs.Prelude.{◌≡◌, true, false, ◌≤◌, length, take};
 ghost use Rattle.definitions.specs.Lists.{within, padded};
 ghost use Rattle.definitions.specs.Graph.{slot_limit, output_limit, unused_place};
@@ -98,7 +99,7 @@ fn output_places(words: [u32; LIST_LIMIT], count: usize) -> [u16; OUTPUT_LIMIT]
 
 // What reading a listing gives. Stopped: no listing goes on at next, or the text ends there. Else the table has the block of its graph of
 // this size, with counts 0.
-#[derive(Drop)]
+#[derive(Clone, Copy)]
 pub struct Sheet {
     pub stopped: bool,
     pub next: usize,

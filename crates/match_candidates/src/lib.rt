@@ -1,5 +1,7 @@
 // The slots that pass the look for a source vertex, in ascending order. A pass over the heads finds them; of a match nothing is tried for
 // what the look turns away. An output may be named from anywhere, so that for an output these are the candidates.
+#![tactic(auto)]
+
 ghost use Rattle.definitions.specs.Graph.{slot_count, graph_of};
 ghost use Rattle.graph_fields.specs.Layout.{ReadableGraph};
 ghost use Rattle.match_look.specs.Head.{head_in};

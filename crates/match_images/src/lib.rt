@@ -1,5 +1,7 @@
 // The images that a map has so far: whether a slot is one of them, whether it is that of a source vertex, and how a map gains one
 // more. What a step of matching promises of the map stands here, too.
+#![tactic(auto)]
+
 ghost use Rattle.std.specs.Prelude.{◌≡◌, suc, ◌<◌, ◌≤◌, eqb, length, get_or};
 ghost use Rattle.definitions.specs.Lists.{any_below};
 ghost use Rattle.definitions.specs.Graph.{graph_of};

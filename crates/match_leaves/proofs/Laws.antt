@@ -16,7 +16,7 @@ use Rattle.definitions.specs.Lists.{within, build}
 use Rattle.definitions.specs.Fields.{u32_at, signed}
 use Rattle.definitions.specs.Graph.{unused_place, Slot, Graph, empty_slot, slot_count, graph_of, slot_of}
 use Rattle.definitions.specs.Rule.{source_count, node_at, anything, constant, access, form_any, form_constant, form_access, node_form, node_from, expressions, node_fits, node_by, node_left, node_right}
-use Rattle.definitions.specs.Attributes.{result}
+use Rattle.definitions.specs.Attributes.{result_of}
 use Rattle.definitions.specs.Match.{image_of, attribute_of, read_attribute}
 use Rattle.rule_fields.specs.Fixed.{nodes_in, node_in, expression_in}
 use Rattle.laws.proofs.Lists.{decided, needed}
@@ -115,20 +115,20 @@ module _ (block : List ℕ) (k : ℕ) (inside : k < nodes_in block) where
   -- ---- results, by the form
 
   module _ (read : ℕ → ℕ → Option ℤ) where
-    pub any-gives : node_form block k ≡ form_any → none ≡ result read (expression_in block k)
-    unfolding result
+    pub any-gives : node_form block k ≡ form_any → none ≡ result_of read (expression_in block k)
+    unfolding result_of
     any-gives h = rw (any-node h)
 
-    pub constant_gives : node_form block k ≡ form_constant → some (signed (u32_at block (node_at block k + 4))) ≡ result read (expression_in block k)
-    unfolding result
+    pub constant_gives : node_form block k ≡ form_constant → some (signed (u32_at block (node_at block k + 4))) ≡ result_of read (expression_in block k)
+    unfolding result_of
     constant_gives h = rw (constant_node h)
 
-    access_gives : node_form block k ≡ form_access → read (node_left block k) (node_right block k) ≡ result read (expression_in block k)
-    unfolding result
+    access_gives : node_form block k ≡ form_access → read (node_left block k) (node_right block k) ≡ result_of read (expression_in block k)
+    unfolding result_of
     access_gives h = rw (access_node h)
 
     pub read-gives : (v b : ℕ) (x : Option ℤ) → v ≡ node_left block k → b ≡ node_right block k → x ≡ read v b → node_form block k ≡ form_access
-        → x ≡ result read (expression_in block k)
+        → x ≡ result_of read (expression_in block k)
     read-gives v b x l r e h = rw (e, l, r) (access_gives h)
 
 module _ (graph rule images : List ℕ) (k : ℕ) (inside : k < nodes_in rule) where

@@ -1,4 +1,6 @@
 // What a node of an attribute expression that is no operation gives for a map: a number of the old table or of the rule, or nothing.
+#![tactic(auto)]
+
 ghost use Rattle.std.specs.Prelude.{◌≡◌, ◌<◌, length};
 ghost use Rattle.definitions.specs.Graph.{graph_of};
 ghost use Rattle.definitions.specs.Rule.{side_capacity};

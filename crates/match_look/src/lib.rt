@@ -1,5 +1,7 @@
 // What is asked of a slot before its inputs are entered: the look at its kind, operator and numbers of inputs and attributes, which turns away
 // most slots, and then how often it is named, by the count that it stores.
+#![tactic(auto)]
+
 ghost use Rattle.std.specs.Prelude.{◌≡◌, ◌<◌};
 ghost use Rattle.definitions.specs.Graph.{slot_count, graph_of, slot_of};
 ghost use Rattle.definitions.specs.Rule.{source_count, source_of};

@@ -1,5 +1,7 @@
 // Whether a map is a match. Output images fix the rest of a match, so one attempt at those that the map gives makes the only match that the
 // map can be: nothing is searched.
+#![tactic(auto)]
+
 ghost use Rattle.std.specs.Prelude.{◌≡◌, ◌*◌, ◌≤◌, eqb, length, get_or};
 ghost use Rattle.definitions.specs.Lists.{all_below};
 ghost use Rattle.definitions.specs.Fields.{u16_at};

@@ -1,5 +1,7 @@
 // Images of a rule's outputs, tried in order. Output images fix the rest of a match, so the first that leads to a match leads to the least.
 // Here is the search for a rule with one output, and what every search comes to.
+#![tactic(auto)]
+
 ghost use Rattle.std.specs.Prelude.{◌≡◌, false, [], ◌∷◌};
 ghost use Rattle.definitions.specs.Graph.{graph_of};
 ghost use Rattle.definitions.specs.Rule.{source_count};

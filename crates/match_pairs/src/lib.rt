@@ -1,4 +1,6 @@
 // The least match of a rule with two outputs: images of the first output in order, and for each of these images of the second.
+#![tactic(auto)]
+
 ghost use Rattle.std.specs.Prelude.{[], ◌∷◌};
 ghost use Rattle.definitions.specs.Graph.{graph_of};
 ghost use Rattle.definitions.specs.Rule.{source_count};

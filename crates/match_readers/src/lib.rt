@@ -1,5 +1,7 @@
 // Whether the image of a source vertex is read elsewhere: by something other than the images of source vertices that are no rule inputs, or as
 // a graph output. It is told from the rule, and from how often the image is named, which its slot stores; the graph is not looked at.
+#![tactic(auto)]
+
 ghost use Rattle.std.specs.Prelude.{◌≡◌, ◌<◌, ltb};
 ghost use Rattle.definitions.specs.Rule.{source_count};
 ghost use Rattle.rule_fields.specs.Fixed.{fixed_of};

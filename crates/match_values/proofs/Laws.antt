@@ -16,7 +16,7 @@ use lib.Seq.{get_or-set_same, get_or-set_other}
 use Rattle.definitions.specs.Lists.{build}
 use Rattle.definitions.specs.Graph.{graph_of}
 use Rattle.definitions.specs.Rule.{anything, apply, form_any, form_constant, form_access, form_index, form_sum, node_form, node_by}
-use Rattle.definitions.specs.Attributes.{combine, result}
+use Rattle.definitions.specs.Attributes.{combine, result_of}
 use Rattle.definitions.specs.Match.{read_attribute}
 use Rattle.rule_fields.specs.Fixed.{nodes_in, left_in, right_in, node_in, expression_in}
 use Rattle.laws.proofs.Lists.{decided}
@@ -54,16 +54,16 @@ module _ (block : List ℕ) (k : ℕ) (inside : k < nodes_in block) where
 
   module _ (read : ℕ → ℕ → Option ℤ) where
     operation_gives : GoodNode block k → 2 < node_form block k
-        → combine (operation_of (node_form block k)) (result read (expression_in block (left_in block k)))
-        (result read (expression_in block (right_in block k))) ≡ result read (expression_in block k)
-    unfolding result
+        → combine (operation_of (node_form block k)) (result_of read (expression_in block (left_in block k)))
+        (result_of read (expression_in block (right_in block k))) ≡ result_of read (expression_in block k)
+    unfolding result_of
     operation_gives good h = rw (operation_node good h)
 
     -- the same from what was read and worked out
     pub combined_gives : (form left right : ℕ) (x y z : Option ℤ) → GoodNode block k → 2 < node_form block k
         → form ≡ node_form block k → left ≡ left_in block k → right ≡ right_in block k
-        → x ≡ result read (expression_in block left) → y ≡ result read (expression_in block right)
-        → z ≡ combine (operation_of form) x y → z ≡ result read (expression_in block k)
+        → x ≡ result_of read (expression_in block left) → y ≡ result_of read (expression_in block right)
+        → z ≡ combine (operation_of form) x y → z ≡ result_of read (expression_in block k)
     combined_gives form left right x y z good h f l r d e g = rw (g, d, e, f, l, r) (operation_gives good h)
 
 -- ---- every result is in range
@@ -76,8 +76,8 @@ module _ (graph rule images : List ℕ) (k : ℕ) (inside : k < nodes_in rule) w
   node-bounded good =
       ⊎_elim
       (λ (t : ltb 2 (node_form rule k) ≡ true). rw (← operation_gives rule k inside read good (ltb-true 2 (node_form rule k) t))
-      (combine-bounded (operation_of (node_form rule k)) (result read (expression_in rule (left_in rule k)))
-      (result read (expression_in rule (right_in rule k)))))
+      (combine-bounded (operation_of (node_form rule k)) (result_of read (expression_in rule (left_in rule k)))
+      (result_of read (expression_in rule (right_in rule k)))))
       (λ (t : ltb 2 (node_form rule k) ≡ false). leaf_bounded graph rule images k inside (ltb-false 2 (node_form rule k) t))
       (decided (ltb 2 (node_form rule k)))
 

@@ -1,5 +1,7 @@
 // What a node of an attribute expression gives for a map: what a leaf gives, or what an operation makes of its operands' results, each
 // operation worked out once.
+#![tactic(auto)]
+
 ghost use Rattle.std.specs.Prelude.{◌≡◌, ◌<◌, ◌≤◌};
 ghost use Rattle.definitions.specs.Rule.{node_limit};
 ghost use Rattle.numbers.specs.Value.{value_of};

@@ -1,5 +1,7 @@
 // Matching a source vertex with a slot. The traversal that put the source vertices in order is followed: inputs first, left to right,
 // each vertex once, so the images found so far are those of the first `next` source vertices.
+#![tactic(auto)]
+
 ghost use Rattle.std.specs.Prelude.{suc, max, drop};
 ghost use Rattle.definitions.specs.Graph.{graph_of};
 ghost use Rattle.definitions.specs.Rule.{source_inputs};

@@ -1,4 +1,6 @@
 // The header of a graph block, written into a part that the caller lends on.
+#![tactic(auto)]
+
 ghost use Rattle.std.specs.Prelude.{◌≡◌, length};
 ghost use Rattle.definitions.specs.Graph.{header_bytes, output_limit};
 ghost use Rattle.new_header.specs.Headers.{header_with};

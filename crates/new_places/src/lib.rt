@@ -1,5 +1,7 @@
 // What the places of the new table name, all places of a record or of the header at a time: those of a slot that stays and of the
 // outputs are redirected, and those of a target vertex resolved.
+#![tactic(auto)]
+
 ghost use Rattle.std.specs.Prelude.{◌≡◌, map, ◌<◌, length, get_or};
 ghost use Rattle.definitions.specs.Lists.{padded};
 ghost use Rattle.definitions.specs.Graph.{input_limit, output_limit, unused_place, output_count, graph_of, inputs_of};

@@ -1,4 +1,6 @@
 // The record of each slot of the new table: which of those that can stand there it is.
+#![tactic(auto)]
+
 ghost use Rattle.std.specs.Prelude.{◌≡◌, not, ◌<◌, length};
 ghost use Rattle.definitions.specs.Lists.{filter, range};
 ghost use Rattle.definitions.specs.Graph.{slot_count, graph_of};

@@ -1,5 +1,7 @@
 // Which images of a match a rewriting removes. A Const that something outside the match still needs stays: the count that its slot stores
 // decides it.
+#![tactic(auto)]
+
 ghost use Rattle.std.specs.Prelude.{◌≡◌, ◌<◌, length, get_or};
 ghost use Rattle.definitions.specs.Graph.{slot_count, stored_count};
 ghost use Rattle.definitions.specs.Rule.{side_capacity, source_count};

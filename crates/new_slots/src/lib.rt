@@ -1,4 +1,6 @@
 // The lowest free slots, which the target vertices take in order.
+#![tactic(auto)]
+
 ghost use Rattle.std.specs.Prelude.{◌≡◌, ◌≤◌, length};
 ghost use Rattle.definitions.specs.Graph.{slot_limit};
 ghost use Rattle.new_slots.specs.Vacant.{marked, Lowest};

@@ -1,6 +1,8 @@
 // The new table, written whole into a block of its own: the header and every slot, each from the old table, which is only read. So
 // nothing is read from a slot that was written before, and every place is redirected once. Counts are left 0: they are known when all places
 // are.
+#![tactic(auto)]
+
 ghost use Rattle.std.specs.Prelude.{◌≡◌, cond, not, ◌++◌, ◌+◌, ◌*◌, ◌<◌, length, take};
 ghost use Rattle.definitions.specs.Lists.{filter, range};
 ghost use Rattle.definitions.specs.Graph.{header_bytes, slot_bytes, slot_limit, graph_version, slot_count, graph_of, record_block, records_block, block_as};

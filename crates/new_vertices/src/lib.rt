@@ -1,5 +1,7 @@
 // The records that a vertex of the new table can have, each made from the old table and the rule, which are only read: a vertex that
 // stays, with its places redirected, and a target vertex.
+#![tactic(auto)]
+
 ghost use Rattle.std.specs.Prelude.{◌≡◌, ◌<◌};
 ghost use Rattle.definitions.specs.Lists.{padded};
 ghost use Rattle.definitions.specs.Graph.{attribute_limit, renamed, graph_of, slot_of};

@@ -1,4 +1,6 @@
 // The word of an expression's result, and whether a result may be an attribute of a vertex.
+#![tactic(auto)]
+
 ghost use Rattle.std.specs.Prelude.{◌≡◌, true};
 ghost use Rattle.numbers.specs.Value.{value_of, bounded};
 ghost use Rattle.new_words.specs.Words.{word_of_value, index_like};

@@ -1,4 +1,6 @@
 // What an expression gives: a whole number by sign and magnitude, in range, or nothing.
+#![tactic(auto)]
+
 ghost use Rattle.std.specs.Prelude.{◌≡◌, pos, negsuc, neg_ℤ};
 ghost use Rattle.std.proofs.Math.Option.{some};
 ghost use Rattle.std.proofs.Math.IntN.{sub_ℕ};
@@ -10,7 +12,7 @@ ghost use Rattle.numbers.specs.Value.{value_of};
 use fields::Integer;
 
 // What an expression gives: Plus(n) is n, Minus(n) is -(n + 1), and Nothing where it has no result.
-#[derive(Drop)]
+#[derive(Clone, Copy)]
 pub enum Value {
     Nothing,
     Plus(u64),

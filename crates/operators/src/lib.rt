@@ -1,5 +1,7 @@
 // The table of operators, the table of kinds, and the one test of a record's counts against them.
 // Both block checks use it.
+#![tactic(auto)]
+
 ghost use Rattle.std.specs.Prelude.{◌≡◌, ◌<◌, ◌≤◌};
 ghost use Rattle.definitions.specs.Operators.{kind_call, kind_proj, operator_count, counts_of, row_of, shape_fits};
 
@@ -7,7 +9,7 @@ use definitions::{KIND_CALL, KIND_PROJ, OPERATOR_COUNT};
 
 // How many inputs and attributes an operator has. The tables are of bytes, since an array that is a constant is stored anew wherever it
 // is read.
-#[derive(Drop)]
+#[derive(Clone, Copy)]
 pub struct Counts {
     pub inputs: u8,
     pub attributes: u8,
@@ -79,7 +81,7 @@ const OPERATORS: [Counts; OPERATOR_COUNT] = [
 ];
 
 // The least and the greatest input count of a kind other than Call, and its attribute count.
-#[derive(Drop)]
+#[derive(Clone, Copy)]
 pub struct Row {
     pub least: u8,
     pub greatest: u8,

@@ -1,5 +1,7 @@
 // Quotients, rounded down, and remainders, which have the sign of the divisor, by sign and magnitude. No step makes a number that a u64
 // does not hold.
+#![tactic(auto)]
+
 ghost use Rattle.std.specs.Prelude.{◌≡◌, true};
 ghost use Rattle.definitions.specs.Rule as rules;
 ghost use Rattle.definitions.specs.Attributes as results;
@@ -12,7 +14,7 @@ use fields::Integer;
 use numbers::{Value, fit_number, negated};
 
 // A quotient, rounded down, and what it leaves.
-#[derive(Drop)]
+#[derive(Clone, Copy)]
 pub struct Division {
     pub quotient: Integer,
     pub rest: Integer,

@@ -1,5 +1,7 @@
 // What a place of the new table names: a rule input's image or a target vertex's slot, and for a place that named a replaced output the
 // slot that takes its part.
+#![tactic(auto)]
+
 ghost use Rattle.std.specs.Prelude.{◌≡◌, cond, ℕ, ◌+◌, ◌<◌, ◌≤◌, eqb};
 ghost use Rattle.definitions.specs.Rule.{side_capacity, rule_output_count, origin_by};
 ghost use Rattle.rule_fields.specs.Fixed.{fixed_of};
@@ -9,14 +11,14 @@ use definitions::SIDE_CAPACITY;
 use rule_fields::{source_output, target_output, target_split};
 
 // What names `from` is to name `to`.
-#[derive(Drop)]
+#[derive(Clone, Copy)]
 pub struct Move {
     pub from: u16,
     pub to: u16,
 }
 
 // One move for each output of the rule; where it has one output only, both are that one.
-#[derive(Drop)]
+#[derive(Clone, Copy)]
 pub struct Redirection {
     pub first: Move,
     pub second: Move,

@@ -14,7 +14,7 @@ use Rattle.definitions.specs.Fields.{signed, word_of}
 use Rattle.definitions.specs.Graph.{Graph}
 use Rattle.definitions.specs.Rule.{Expression, anything, constant, access, apply, index, sum, Rule, target_of, accesses_below}
 use Rattle.definitions.specs.FixedRule.{definite, target_uses_fit}
-use Rattle.definitions.specs.Attributes.{in_range, result}
+use Rattle.definitions.specs.Attributes.{in_range, result_of}
 use Rattle.definitions.specs.Match.{read_attribute}
 use Rattle.definitions.specs.Rewriting.{results, vertex_results, target_results}
 use Rattle.laws.proofs.Lists.{and_left, all-at, all_every}
@@ -41,13 +41,13 @@ signed_word (negsuc n) t =
 
 -- ---- every result of an expression of a sound rule is in range
 
-result-bounded : (g : Graph) (images : List ℕ) (e : Expression) → definite e ≡ true → bounded (result (read_attribute g images) e) ≡ true
-unfolding definite result bounded
+result-bounded : (g : Graph) (images : List ℕ) (e : Expression) → definite e ≡ true → bounded (result_of (read_attribute g images) e) ≡ true
+unfolding definite result_of bounded
 result-bounded g images anything h = refl
 result-bounded g images (constant z) h = h
 result-bounded g images (access v b) h = read-bounded g images v b
 result-bounded g images (apply o x y) h =
-    combine-bounded o (result (read_attribute g images) x) (result (read_attribute g images) y)
+    combine-bounded o (result_of (read_attribute g images) x) (result_of (read_attribute g images) y)
 result-bounded g images index h = refl
 result-bounded g images (sum x) h = refl
 

@@ -1,4 +1,6 @@
 // How a reply is made inside, and how it is handed to the C side as one number.
+#![tactic(auto)]
+
 ghost use Rattle.std.specs.Prelude.{◌≡◌, [], ◌∷◌, ◌<◌};
 ghost use Rattle.definitions.specs.Reply as answer;
 
@@ -60,7 +62,7 @@ pub const BAD_GRAPH_LENGTH: u8 = 46;
 
 // The refusal with this number and this place. No request names a value beside the place yet.
 pub fn refuse_at(number: u8, index: u32) -> Reply
-    ensures { result ≡ answer.refusedAt number index }
+    ensures { result ≡ answer.refused_at number index }
 {
     Reply::Refused(Refusal {
         number,
@@ -87,7 +89,7 @@ pub fn answer_with(yes: bool) -> Reply
 
 // The first of two replies that refuses, or done.
 pub fn first_refusal(one: Reply, other: Reply) -> Reply
-    ensures { result ≡ answer.firstRefusal (one ∷ other ∷ []) }
+    ensures { result ≡ answer.first_refusal (one ∷ other ∷ []) }
 {
     match one {
         Reply::Refused(refusal) => return Reply::Refused(refusal),
@@ -107,7 +109,7 @@ const VALUE_UNIT: u64 = 1099511627776;
 
 // The number in bits 0 to 7, the place in bits 8 to 39, the value in bits 40 to 63.
 pub fn pack(reply: Reply) -> u64
-    requires { answer.valueBeside reply < answer.valueLimit }
+    requires { answer.value_beside reply < answer.value_limit }
     ensures { result ≡ answer.packed reply }
 {
     match reply {

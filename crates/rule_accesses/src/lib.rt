@@ -1,5 +1,7 @@
 // The faults of a rule's attributes: whether each vertex may use the nodes that it names, by what these access, themselves or through
 // other nodes. The test gives the lowest vertex with a fault, or the number of vertices where there is none.
+#![tactic(auto)]
+
 ghost use Rattle.std.specs.Prelude.{◌≡◌, true, not, ◌+◌, ◌<◌};
 ghost use Rattle.definitions.specs.Lists.{lowest};
 ghost use Rattle.definitions.specs.Rule.{source_count, target_count, node_count, node_fits, use_fits, bad_use};

@@ -1,5 +1,7 @@
 // Checking a rule block: the five kinds of fault, in document 01's order, each with the lowest place that has it. Target vertex t counts
 // as S + t.
+#![tactic(auto)]
+
 ghost use Rattle.std.specs.Prelude.{◌≡◌};
 ghost use Rattle.definitions.specs.Rule.{rule_reply};
 

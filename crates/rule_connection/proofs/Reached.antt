@@ -29,6 +29,7 @@ any_some p (x ∷ xs) h =
 
 any_at : (p : ℕ → Bool) (xs : List ℕ) {x : ℕ} → Memᴰ x xs → p x ≡ true → any p xs ≡ true
 unfolding any
+any_at p [] m t = elim m [ ]
 any_at p (y ∷ xs) (Memᴰ.head e) t = simp (ap p (sym e) ∙ t)
 any_at p (y ∷ xs) (Memᴰ.tail m) t = ap (λ (b : Bool). p y || b) (any_at p xs m t) ∙ or-true (p y)
 

@@ -1,4 +1,6 @@
 // Whether some source vertex reaches every source output. What a vertex reaches is found from the lowest vertex up: inputs are lower.
+#![tactic(auto)]
+
 ghost use Rattle.std.specs.Prelude.{◌≡◌, false, ℕ, ◌<◌, get_or};
 ghost use Rattle.definitions.specs.Lists.{all};
 ghost use Rattle.definitions.specs.Rule.{source_count, reaches, connected};

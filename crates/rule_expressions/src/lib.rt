@@ -1,4 +1,6 @@
 // The faults of a rule's expression nodes. The test gives the lowest node with a fault, or the number of nodes where there is none.
+#![tactic(auto)]
+
 ghost use Rattle.std.specs.Prelude.{◌≡◌, ◌&&◌, ◌+◌, ◌<◌, ◌≤◌, eqb, ltb, leb, length};
 ghost use Rattle.definitions.specs.Lists.{within, lowest};
 ghost use Rattle.definitions.specs.Fields.{filled};

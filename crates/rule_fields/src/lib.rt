@@ -1,4 +1,6 @@
 // A rule block's fields by index, as fields of the rule for which the block stands.
+#![tactic(auto)]
+
 ghost use Rattle.std.specs.Prelude.{◌≡◌, ◌+◌, ◌<◌, ◌≤◌, length, get_or};
 ghost use Rattle.definitions.specs.Fields.{byte_at};
 ghost use Rattle.definitions.specs.Graph.{input_limit, attribute_limit};

@@ -1,4 +1,6 @@
 // The first kind of fault of a rule block: its length and its header.
+#![tactic(auto)]
+
 ghost use Rattle.std.specs.Prelude.{◌≡◌, ◌≤◌, eqb, length};
 ghost use Rattle.definitions.specs.Rule.{rule_header_bytes, rule_output_limit, rule_output_count, node_count, node_at, rule_sizes_fit, rule_output_places_fit, rule_header_fits};
 

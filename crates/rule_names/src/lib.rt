@@ -1,5 +1,7 @@
 // Whether some target place names every rule input and every target vertex. A place holds a number below PLACE_NUMBERS, so what is
 // named is marked at its place number, once for all.
+#![tactic(auto)]
+
 ghost use Rattle.std.specs.Prelude.{◌≡◌, ◌<◌, length};
 ghost use Rattle.definitions.specs.Lists.{all_below};
 ghost use Rattle.definitions.specs.Rule.{place_numbers, source_count, target_count, made, target_of, named, all_named};

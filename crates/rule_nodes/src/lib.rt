@@ -1,4 +1,6 @@
 // A rule block's expression nodes, field by field.
+#![tactic(auto)]
+
 ghost use Rattle.std.specs.Prelude.{◌≡◌, ◌+◌, ◌<◌, ◌≤◌, length};
 ghost use Rattle.definitions.specs.Fields.{byte_at, u32_at, signed};
 ghost use Rattle.definitions.specs.Rule.{node_bytes, node_at, node_form};

@@ -120,6 +120,7 @@ module _ (r : Rule) (next : ℕ) where
   module _ (u : ℕ) (us : List ℕ) (o : InOrder r next (u ∷ us)) where
     first_deep : (w : ℕ) → Memᴰ w (u ∷ []) → w < o.depth
     first_deep w (Memᴰ.head e) = o.deep w (Memᴰ.head e)
+    first_deep w (Memᴰ.tail m) = elim m [ ]
 
     pub in_order-first : InOrder r next (u ∷ [])
     unfolding foldl

@@ -1,6 +1,8 @@
 // The first source vertex of a rule that does not stand in visiting order: a vertex's inputs before the vertex, left to right, each
 // vertex once, from the listed outputs. As long as the order is right, the vertices visited so far are 0, 1, .. next - 1 in this order,
 // so the search keeps next alone, and enters each vertex at most once.
+#![tactic(auto)]
+
 ghost use Rattle.std.specs.Prelude.{◌≡◌, ◌≤◌, length};
 ghost use Rattle.definitions.specs.Lists.{lowest};
 ghost use Rattle.definitions.specs.Rule.{source_count, source_inputs, out_of_order};
@@ -13,7 +15,7 @@ use rule_fields::{output_count, source_input, source_input_count, source_output}
 // Whether the order is right so far, and how many vertices are visited in order. Where it is wrong, that is the first vertex in whose
 // place another one is visited; and it stays wrong, from the same vertex on, since a visit only adds vertices after those that are
 // visited.
-#[derive(Drop)]
+#[derive(Clone, Copy)]
 struct Visited {
     ok: bool,
     next: usize,

@@ -1,5 +1,7 @@
 // Whether a rule's outputs fit: the source outputs, which some source vertex reaches together, the target outputs, and that some
 // target place names every rule input and every target vertex.
+#![tactic(auto)]
+
 ghost use Rattle.std.specs.Prelude.{◌≡◌, ◌+◌, ◌<◌, length, get_or, drop};
 ghost use Rattle.definitions.specs.Lists.{all, member, distinct};
 ghost use Rattle.definitions.specs.Rule.{source_count, rule_output_count, source_inputs, origin_fits, source_outputs_fit, outputs_fit};

@@ -1,1 +1,2 @@
 // Theorems about sound rules, whatever their side limit, in proofs/. This crate has no code.
+#![tactic(auto)]

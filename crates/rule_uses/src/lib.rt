@@ -1,5 +1,7 @@
 // How often the image of each source vertex of a rule may be named, counted once, so that one comparison decides whether an image is
 // read from outside.
+#![tactic(auto)]
+
 ghost use Rattle.std.specs.Prelude.{◌≡◌, ℕ, ◌+◌, ◌<◌, length, get_or};
 ghost use Rattle.definitions.specs.Lists.{member};
 ghost use Rattle.definitions.specs.Rule.{side_capacity, source_count};

@@ -1,4 +1,6 @@
 // Runs of equal bytes in a lent block, tested byte by byte or a word at a time. Nothing here reads past what its `requires` names.
+#![tactic(auto)]
+
 ghost use Rattle.std.specs.Prelude.{◌≡◌, ◌+◌, ◌*◌, ◌≤◌, min, length};
 ghost use Rattle.definitions.specs.Fields.{filled};
 ghost use Rattle.fields.specs.Words.{word_bytes};

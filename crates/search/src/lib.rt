@@ -1,5 +1,7 @@
 // The least match from a start, by the number of a rule's outputs. The first output's candidates are looked for before anything is counted in
 // the rule: where no slot passes the look, there is no match. In the graph nothing is counted: a slot stores how often it is named.
+#![tactic(auto)]
+
 ghost use Rattle.definitions.specs.Graph.{graph_of, SoundGraph};
 ghost use Rattle.definitions.specs.Rule.{source_count};
 ghost use Rattle.definitions.specs.Match.{least_match};

@@ -17,7 +17,7 @@ use Rattle.definitions.specs.Fields.{word_of}
 use Rattle.definitions.specs.Operators.{kind_proj}
 use Rattle.definitions.specs.Graph.{attribute_limit, at_least_one}
 use Rattle.definitions.specs.Rule.{Expression, anything, Origin, Pattern, Rule, wildcard, target_of}
-use Rattle.definitions.specs.Attributes.{result}
+use Rattle.definitions.specs.Attributes.{result_of}
 use Rattle.definitions.specs.Rewriting.{results, index_fits, vertex_results, target_results}
 use Rattle.laws.proofs.Lists.{decided, true_not_false, fails, all_below_at, all_below_every, all_below_some, lowest_none, lowest-found, lowest_passed, all_every, all_fails}
 use Rattle.laws.proofs.Filling.{filled_more}
@@ -149,43 +149,43 @@ checked-joined kind (some z) (some zs) =
     ∙ ap (λ (b : Bool). index_like kind (some z) && b) (sym (given_cond (index_fits kind zs) zs))
 
 checked_given : (read : ℕ → ℕ → Option ℤ) (kind : ℕ) (es : List Expression)
-    → isGiven (checked kind (results read es)) ≡ all (λ e. index_like kind (result read e)) es
+    → isGiven (checked kind (results read es)) ≡ all (λ e. index_like kind (result_of read e)) es
 unfolding results joined kept all isGiven index_fits
 checked_given read kind [] = given_cond (index_fits kind []) [] ∙ or-true (not (eqb kind kind_proj))
 checked_given read kind (e ∷ es) =
-    checked-joined kind (result read e) (results read es)
-    ∙ ap (λ (b : Bool). index_like kind (result read e) && b) (checked_given read kind es)
+    checked-joined kind (result_of read e) (results read es)
+    ∙ ap (λ (b : Bool). index_like kind (result_of read e) && b) (checked_given read kind es)
 
 -- ---- words
 
 result_words : (read : ℕ → ℕ → Option ℤ) (es : List Expression) (zs : List ℤ) → results read es ≡ some zs
-    → map word_of zs ≡ map (λ e. word_in (result read e)) es
+    → map word_of zs ≡ map (λ e. word_in (result_of read e)) es
 unfolding results joined
 result_words read [] zs h = ap (map word_of) (sym (some-injective [] zs h))
 result_words read (e ∷ es) zs h =
-    let parts = joined_some (result read e) (results read es) zs h in
+    let parts = joined_some (result_of read e) (results read es) zs h in
     ap (map word_of) parts.4
     ∙ ap₂ ◌∷◌ (sym (ap word_in parts.2)) (result_words read es parts.1 parts.3)
 
 -- ---- one by one
 
 module _ (read : ℕ → ℕ → Option ℤ) (p : Pattern Origin) where
-  pub fit-tested : {b : Bool} (i kind : ℕ) (v : Value) → kind ≡ p.kind → value_of v ≡ result read (get_or p.attributes i anything)
+  pub fit-tested : {b : Bool} (i kind : ℕ) (v : Value) → kind ≡ p.kind → value_of v ≡ result_of read (get_or p.attributes i anything)
       → b ≡ index_like kind (value_of v) → b ≡ fit_at read p i
   fit-tested i kind v k e h = rw (h, k, e)
 
   -- the words of the first i attributes
   abbrev pub words_to : ℕ → List ℕ
-  words_to i = padded attribute_limit 0 (map (λ e. word_in (result read e)) (take i p.attributes))
+  words_to i = padded attribute_limit 0 (map (λ e. word_in (result_of read e)) (take i p.attributes))
 
-  vertex_given_lem : isGiven (vertex_results read p) ≡ all (λ e. index_like p.kind (result read e)) p.attributes
+  vertex_given_lem : isGiven (vertex_results read p) ≡ all (λ e. index_like p.kind (result_of read e)) p.attributes
   unfolding vertex_results kept
   vertex_given_lem = checked_given read p.kind p.attributes
 
   pub words_more : (i : ℕ) (v : Value) → i < length p.attributes → length p.attributes ≤ attribute_limit
-      → value_of v ≡ result read (get_or p.attributes i anything) → set (words_to i) i (word_of_value v) ≡ words_to (i + 1)
+      → value_of v ≡ result_of read (get_or p.attributes i anything) → set (words_to i) i (word_of_value v) ≡ words_to (i + 1)
   words_more i v l fits h =
-      filled_more (λ e. word_in (result read e)) anything 0 attribute_limit p.attributes i (omega arith) l
+      filled_more (λ e. word_in (result_of read e)) anything 0 attribute_limit p.attributes i (omega arith) l
       (value-word v ∙ ap word_in h) refl
 
   -- an attribute without a fit result
@@ -193,7 +193,7 @@ module _ (read : ℕ → ℕ → Option ℤ) (p : Pattern Origin) where
   vertex_lacks i words l f = record {
     found = λ t. absurd (false≢true t);
     lacking = λ _. none_given (vertex_results read p)
-        (vertex_given_lem ∙ all_fails (λ e. index_like p.kind (result read e)) anything p.attributes i l f);
+        (vertex_given_lem ∙ all_fails (λ e. index_like p.kind (result_of read e)) anything p.attributes i l f);
   }
 
   -- all attributes have fit results
@@ -201,7 +201,7 @@ module _ (read : ℕ → ℕ → Option ℤ) (p : Pattern Origin) where
       → Given (vertex_results read p) true words
   vertex-found i words m h w =
       let best = given_values (vertex_results read p)
-      (vertex_given_lem ∙ all_every (λ e. index_like p.kind (result read e)) anything p.attributes
+      (vertex_given_lem ∙ all_every (λ e. index_like p.kind (result_of read e)) anything p.attributes
       (λ k l. all_below_at (fit_at read p) i k h (omega arith))) in
       let same = result_words read p.attributes best.0
       (vertex-results read p best.0 best.1) in

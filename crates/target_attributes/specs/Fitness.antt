@@ -4,7 +4,7 @@ use Rattle.std.specs.Prelude.{◌≡◌, Bool, true, false, cond, not, ℕ, ltb,
 use Rattle.std.proofs.Math.Option.{Option}
 use Rattle.definitions.specs.Lists.{lowest}
 use Rattle.definitions.specs.Rule.{anything, Origin, Pattern, Rule, target_of}
-use Rattle.definitions.specs.Attributes.{result}
+use Rattle.definitions.specs.Attributes.{result_of}
 use Rattle.definitions.specs.Rewriting.{vertex_results}
 use Rattle.new_words.specs.Words.{index_like}
 use Rattle.target_attributes.specs.declared.Fitness.{Fitness}
@@ -14,7 +14,7 @@ use Rattle.target_attributes.specs.Words.{isGiven, Given}
 
 -- attribute i of a target vertex has a fit result
 abbrev pub fit_at : (ℕ → ℕ → Option ℤ) → Pattern Origin → ℕ → Bool
-fit_at read p i = index_like p.kind (result read (get_or p.attributes i anything))
+fit_at read p i = index_like p.kind (result_of read (get_or p.attributes i anything))
 
 -- all attributes of target vertex t have fit results
 abbrev pub vertex_given : (ℕ → ℕ → Option ℤ) → Rule → ℕ → Bool

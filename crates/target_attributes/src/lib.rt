@@ -1,4 +1,6 @@
 // The attributes of the target vertices: their expressions' results for the match, read from the old table, as 32-bit words.
+#![tactic(auto)]
+
 ghost use Rattle.std.specs.Prelude.{◌≡◌, ◌<◌};
 ghost use Rattle.definitions.specs.Graph.{graph_of};
 ghost use Rattle.definitions.specs.Rule.{target_count, target_of};
@@ -13,13 +15,13 @@ use new_words::{is_fit, word_of};
 use rule_fields::{target_attribute_count, target_count, target_kind};
 
 // The first that is unfit, by its place among those that were looked at.
-#[derive(Drop)]
+#[derive(Clone, Copy)]
 pub struct Lack {
     pub place: usize,
 }
 
 // Whether all have fit results, or the first that has none.
-#[derive(Drop)]
+#[derive(Clone, Copy)]
 pub enum Fitness {
     Fit,
     Unfit(Lack),

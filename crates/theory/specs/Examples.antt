@@ -11,7 +11,7 @@ use Rattle.definitions.specs.Fields.{u32_bytes}
 use Rattle.definitions.specs.Reply.{refused}
 use Rattle.definitions.specs.Graph.{import_version, Slot, empty_slot, block_as, graph_block}
 use Rattle.definitions.specs.Rule.{Operation, divide, remainder, Expression, constant, apply}
-use Rattle.definitions.specs.Attributes.{result}
+use Rattle.definitions.specs.Attributes.{result_of}
 use Rattle.definitions.specs.Operations.{Outcome, map_block, find_match, rewrite}
 use Rattle.definitions.specs.Import.{import_graph}
 
@@ -115,7 +115,7 @@ abbrev pub Holds : Example → Type 0
 unfolding blank
 Holds (matching graph rule start outcome) = find_match graph rule start blank ≡ outcome
 Holds (rewriting graph rule start outcome) = rewrite graph rule start blank ≡ outcome
-Holds (evaluating expression expected) = result (λ v b. none) expression ≡ expected
+Holds (evaluating expression expected) = result_of (λ v b. none) expression ≡ expected
 Holds (writing block bytes) = block ≡ bytes
 
 abbrev pub AllHold : List Example → Type 0

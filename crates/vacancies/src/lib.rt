@@ -1,4 +1,6 @@
 // The slots that are Empty after the removal.
+#![tactic(auto)]
+
 ghost use Rattle.std.specs.Prelude.{not};
 ghost use Rattle.definitions.specs.Graph.{slot_count, graph_of, is_vertex};
 ghost use Rattle.definitions.specs.Rewriting.{stays};

@@ -12,7 +12,7 @@ use Rattle.definitions.specs.Reply.{done, flag, place, judged}
 use Rattle.definitions.specs.Paths.{visit}
 use Rattle.definitions.specs.Graph.{empty_slot, slot_of, is_vertex}
 use Rattle.definitions.specs.Rule.{origin_of, operations, node_from, expressions, expression_of, pattern_from, rule_of, wildcard, source_of, target_of, input_kind, is_rule_input, rule_sizes_fit, rule_output_places_fit, origin_fits, source_inputs_fit, target_inputs_fit, traversal, out_of_order, reached, reaches, source_outputs_fit, connected, same_origin, named, all_named, outputs_fit, operand_fits, node_fits, accesses_below, use_fits, node_by, origin_by, rule_by}
-use Rattle.definitions.specs.Attributes.{in_range, fit, operate, combine, result, same_number, gives, agrees}
+use Rattle.definitions.specs.Attributes.{in_range, fit, operate, combine, result_of, same_number, gives, agrees}
 use Rattle.definitions.specs.Match.{image_of, attribute_of, read_attribute, is_interior, is_const, must_be_private, images_where, inner_images, takes, is_private, is_match, from_reader, images_from, images_for, choices_of, choices, attempt}
 use Rattle.definitions.specs.Rewriting.{results, index_fits, vertex_results, target_results}
 use Rattle.definitions.specs.Variadic.{made_of, added, source_copy, origin_copy, fields, source_names, target_names, source_order, target_order, source_number, numbered, seen, copied, expansion}
@@ -37,13 +37,13 @@ faultless = refl
 -- the least match over all n is the one for n = 3
 matches : least_of heads (fixed_rules gains) 1 0
     ≡ some (record { rule = gains_of_three; images = 0 ∷ 3 ∷ 1 ∷ 4 ∷ 2 ∷ 5 ∷ 6 ∷ 7 ∷ [] })
-unfolding all_below any_below tabulate build all any filter foldl concat_map all_pairs first_some member position distinct range u16_at u32_at signed empty_slot slot_of is_vertex origin_by operations node_by expressions expression_of pattern_from rule_by rule_of wildcard source_of target_of input_kind is_rule_input in_range fit operate combine result same_number gives agrees image_of attribute_of read_attribute is_interior is_const must_be_private images_where inner_images takes is_private is_match from_reader images_from images_for choices_of choices attempt visit made_of added source_copy origin_copy fields source_names target_names source_order target_order source_number numbered seen copied expansion is_variadic unmarked variadic_of fixed_rules found_by attempt_of attempt_all least_of
+unfolding all_below any_below tabulate build all any filter foldl concat_map all_pairs first_some member position distinct range u16_at u32_at signed empty_slot slot_of is_vertex origin_by operations node_by expressions expression_of pattern_from rule_by rule_of wildcard source_of target_of input_kind is_rule_input in_range fit operate combine result_of same_number gives agrees image_of attribute_of read_attribute is_interior is_const must_be_private images_where inner_images takes is_private is_match from_reader images_from images_for choices_of choices attempt visit made_of added source_copy origin_copy fields source_names target_names source_order target_order source_number numbered seen copied expansion is_variadic unmarked variadic_of fixed_rules found_by attempt_of attempt_all least_of
 matches = refl
 
 -- the attributes that its target takes: 1 + 2 + 3 and 10 + 20 + 30
 gives_sums : target_results (read_attribute heads (0 ∷ 3 ∷ 1 ∷ 4 ∷ 2 ∷ 5 ∷ 6 ∷ 7 ∷ [])) gains_of_three.target
     ≡ some ([] ∷ (pos 1 ∷ []) ∷ (pos 2 ∷ pos 6 ∷ pos 60 ∷ []) ∷ [])
-unfolding empty_slot slot_of signed in_range fit operate combine result image_of attribute_of read_attribute results index_fits vertex_results target_results
+unfolding empty_slot slot_of signed in_range fit operate combine result_of image_of attribute_of read_attribute results index_fits vertex_results target_results
 gives_sums = refl
 
 -- Such a rule is not its own expansion: its target would be renumbered. So a version 1 rule is kept as a case of its own.

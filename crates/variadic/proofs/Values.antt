@@ -7,20 +7,20 @@ use Prim.Native.Nat.{ℕ, zero, suc}
 use lib.IntN.{ℤ}
 use Rattle.definitions.specs.Lists.{tabulate, foldl}
 use Rattle.definitions.specs.Rule.{add, Expression, anything, constant, access, apply, index, sum}
-use Rattle.definitions.specs.Attributes.{combine, result}
+use Rattle.definitions.specs.Attributes.{combine, result_of}
 use Rattle.definitions.specs.Variadic.{VariadicRule, added, source_copy, source_number, seen}
 use Rattle.variadic.specs.Values.{added_up, value}
 
 module _ (read : ℕ → ℕ → Option ℤ) where
   fold_results : (e : Expression) (es : List Expression)
-      → result read (foldl (apply add) e es) ≡ foldl (combine add) (result read e) (map (result read) es)
-  unfolding foldl result
+      → result_of read (foldl (apply add) e es) ≡ foldl (combine add) (result_of read e) (map (result_of read) es)
+  unfolding foldl result_of
   fold_results e [] = refl
   fold_results e (x ∷ es) = fold_results (apply add e x) es
 
   -- a sum gives its terms' results, added from the first up
-  pub added-result : (es : List Expression) → result read (added es) ≡ added_up (map (result read) es)
-  unfolding added added_up result
+  pub added-result : (es : List Expression) → result_of read (added es) ≡ added_up (map (result_of read) es)
+  unfolding added added_up result_of
   added-result [] = refl
   added-result (e ∷ es) = fold_results e es
 
@@ -40,8 +40,8 @@ module _ (r : VariadicRule) (n : ℕ) (read : ℕ → ℕ → Option ℤ) where
   read_copy i v b = read (source_number r n (source_copy r n i v)) b
 
   -- The result of an expression of the fixed rule is that of the block's, by the index.
-  pub seen-result : (e : Expression) (i : ℕ) → result read (seen r n e i) ≡ value read_copy n e i
-  unfolding seen result value
+  pub seen-result : (e : Expression) (i : ℕ) → result_of read (seen r n e i) ≡ value read_copy n e i
+  unfolding seen result_of value
   seen-result anything i = refl
   seen-result (constant z) i = refl
   seen-result (access v b) i = refl
@@ -49,5 +49,5 @@ module _ (r : VariadicRule) (n : ℕ) (read : ℕ → ℕ → Option ℤ) where
   seen-result index i = refl
   seen-result (sum x) i =
       added-result read (tabulate n (λ k. seen r n x (suc k)))
-      ∙ ap added_up (mapped_tabulate (result read) n (λ k. seen r n x (suc k))
-      ∙ same_tabulate n (λ k. result read (seen r n x (suc k))) (λ k. value read_copy n x (suc k)) (λ k. seen-result x (suc k)))
+      ∙ ap added_up (mapped_tabulate (result_of read) n (λ k. seen r n x (suc k))
+      ∙ same_tabulate n (λ k. result_of read (seen r n x (suc k))) (λ k. value read_copy n x (suc k)) (λ k. seen-result x (suc k)))

@@ -1,5 +1,6 @@
 // Checking a version 2 rule block as it stands: the kinds of fault 30 to 34, in document 01's order, each with the lowest place that has it. What
 // version 1 asks is asked of the block without marks. Target vertex t counts as S + t.
+#![tactic(auto)]
 ghost use Rattle.std.specs.Prelude.{◌≡◌, true, length};
 ghost use Rattle.definitions.specs.Reply.{judged};
 ghost use Rattle.definitions.specs.VariadicBlock.{variadic_header_fits};

@@ -1,4 +1,5 @@
 // The first kind of fault of a version 2 rule block: its length and its header. And the marks of its vertices.
+#![tactic(auto)]
 ghost use Rattle.std.specs.Prelude.{◌≡◌, ◌&&◌, ◌||◌, ◌*◌, ◌<◌, ◌≤◌, eqb, ltb, length};
 ghost use Rattle.definitions.specs.Fields.{byte_at};
 ghost use Rattle.definitions.specs.Rule.{rule_header_bytes, place_numbers, source_count, target_count};

@@ -1,5 +1,6 @@
 // The layout of a fixed rule, made of a variadic rule's block: a header, a record for each copy in visiting order, and behind the nodes the
 // table of the copies' attributes. The nodes between records and table are another's to write, and stay as they are.
+#![tactic(auto)]
 ghost use Rattle.std.specs.Prelude.{◌≡◌, cond, suc, ◌+◌, ◌*◌, ◌/◌, ◌%◌, ◌<◌, ◌≤◌, eqb, length, get_or};
 ghost use Rattle.definitions.specs.Rule.{rule_header_bytes, pattern_bytes, node_bytes, node_limit, node_count, vertex_at, node_at};
 ghost use Rattle.definitions.specs.Variadic.{copy_index, source_order, target_order};
@@ -42,7 +43,7 @@ const TARGET_OUTPUTS: usize = 12;
 
 // A side of the block in the made layout: its vertices have the place numbers from `split` on; the source has `inputs` copies, which are
 // numbered for the places that name rule inputs, and the side has `count`.
-#[derive(Drop)]
+#[derive(Clone, Copy)]
 struct Part {
     side: Side,
     split: usize,

@@ -1,5 +1,6 @@
 // The faults of a version 2 rule's expression nodes, and of the attributes that use them. Beside the forms of version 1 there are the index and
 // the sum; a vertex that is no template may use neither the index nor a template's attribute outside of a sum.
+#![tactic(auto)]
 ghost use Rattle.std.specs.Prelude.{◌≡◌, true, not, ◌+◌, ◌<◌};
 ghost use Rattle.definitions.specs.Lists.{lowest};
 ghost use Rattle.definitions.specs.Rule.{source_count, target_count, node_count};

@@ -1,5 +1,6 @@
 // The copies of a variadic rule's vertices in visiting order, on either side: what a copy names comes before the copy, left to right, each
 // copy once, from the listed outputs. A shared vertex is its own number, and copy i of a template v is v + 16 i.
+#![tactic(auto)]
 ghost use Rattle.std.specs.Prelude.{◌≡◌, ◌+◌, ◌*◌, ◌<◌, ◌≤◌, length};
 ghost use Rattle.definitions.specs.Graph.{input_limit};
 ghost use Rattle.definitions.specs.Rule.{pattern_bytes, target_base, source_count, target_count, vertex_at};
@@ -25,7 +26,7 @@ pub const EXPANDED_LIMIT: usize = SIDE_CAPACITY;
 
 // A side of the block: the record of its vertex u is record first + u; an input place from base on names vertex place - base, and a
 // lower one a rule input, which is not visited; tuple is the number of its named Tuple.
-#[derive(Drop)]
+#[derive(Clone, Copy)]
 pub struct Side {
     pub first: usize,
     pub base: usize,

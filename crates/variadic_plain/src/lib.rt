@@ -1,4 +1,5 @@
 // A version 2 rule block as a version 1 block, without marks and named Tuples, so that what version 1 asks can be asked of it.
+#![tactic(auto)]
 ghost use Rattle.std.specs.Prelude.{◌≡◌, ◌<◌, ◌≤◌, length};
 ghost use Rattle.definitions.specs.Rule.{rule_header_bytes, node_at};
 ghost use Rattle.variadic_plain.specs.Plain.{plain_header_byte, plain_byte, plain_block};

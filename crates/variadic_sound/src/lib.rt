@@ -1,5 +1,6 @@
 // Whether a fixed rule that was made of a variadic one is sound: the tests of a lent rule, on the made layout. What its maker leaves is not asked
 // again: places that are unused, and expressions that are any as a whole or definite.
+#![tactic(auto)]
 ghost use Rattle.std.specs.Prelude.{◌≡◌, ◌<◌, ltb, length};
 ghost use Rattle.definitions.specs.Lists.{all, all_below};
 ghost use Rattle.definitions.specs.Rule.{side_capacity, source_count, target_count};

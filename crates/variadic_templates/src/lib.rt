@@ -1,5 +1,6 @@
 // What a version 2 rule block asks of its templates: that no shared vertex but a named Tuple names one, that a named Tuple is a shared Tuple of one
 // field, and that no output is one.
+#![tactic(auto)]
 ghost use Rattle.std.specs.Prelude.{◌≡◌, not, ◌+◌, ◌<◌, ◌≤◌, length};
 ghost use Rattle.definitions.specs.Lists.{lowest};
 ghost use Rattle.definitions.specs.Fields.{byte_at};

@@ -1,4 +1,5 @@
 // The expression nodes of a fixed rule, made of those of a variadic rule's block and written one after the other.
+#![tactic(auto)]
 ghost use Rattle.std.specs.Prelude.{◌≡◌, false, ℕ, ◌+◌, ◌*◌, ◌<◌, ◌≤◌, eqb, length};
 ghost use Rattle.definitions.specs.Rule.{node_bytes, side_capacity, source_count, node_count, form_access, form_sum, node_form};
 ghost use Rattle.definitions.specs.Variadic.{source_copy};

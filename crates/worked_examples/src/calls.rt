@@ -1,13 +1,16 @@
 // The calls, read line by line and made.
+ghost use Rattle.std.specs.Prelude.{◌≡◌, ◌≢◌, ℕ, ◌<◌, ◌≤◌, length, slice_index};
+
 use crate::lines::{graph_lines, number, print_numbers, print_reply};
 use definitions::MAP_BYTES;
 use leafgraph::{lg_check_graph, lg_check_rule, lg_find_match, lg_rewrite};
+use std::io;
 
 // The length of a block that cannot be read. No block has it.
 const UNREAD: usize = 18446744073709551615;
 
 // What has been read of a call: the lengths of its graph, its rule and its start. Whether the call before could be made.
-#[derive(Drop)]
+#[derive(Clone, Copy)]
 pub struct Call {
     pub graph: usize,
     pub rule: usize,
@@ -53,105 +56,142 @@ fn append(text: &[u8], block: &mut [u8], from: usize) -> usize {
 }
 
 // Asks the library and prints what it answers, without the last line's end. False where no operation has this letter.
-fn ask(letter: u8, graph: &mut [u8], rule: &[u8], start: usize, map: &mut [u8]) -> bool {
+fn ask(
+    rt: &impl Print,
+    letter: u8,
+    graph: &mut [u8],
+    rule: &[u8],
+    start: usize,
+    map: &mut [u8],
+) -> io::Result<bool> {
     if letter == b'G' {
-        print_reply(lg_check_graph(graph));
-        return true;
+        print_reply(rt, lg_check_graph(graph))?;
+        return Ok(true);
     }
     if letter == b'R' {
-        print_reply(lg_check_rule(rule));
-        return true;
+        print_reply(rt, lg_check_rule(rule))?;
+        return Ok(true);
     }
     if letter == b'F' {
-        print_reply(lg_find_match(graph, rule, start, map));
-        return true;
+        print_reply(rt, lg_find_match(graph, rule, start, map))?;
+        return Ok(true);
     }
     if letter == b'M' {
-        print_reply(lg_find_match(graph, rule, start, map));
-        io::write_all(1, b"\nmap:");
-        print_numbers(map, 0, map.len(), 2);
-        return true;
+        print_reply(rt, lg_find_match(graph, rule, start, map))?;
+        rt.write_all(b"\nmap:")?;
+        print_numbers(rt, map, 0, map.len(), 2)?;
+        return Ok(true);
     }
     if letter == b'W' {
-        print_reply(lg_rewrite(graph, rule, start, map));
-        io::write_all(1, b"\nmap:");
-        print_numbers(map, 0, map.len(), 2);
-        graph_lines(graph);
-        return true;
+        print_reply(rt, lg_rewrite(graph, rule, start, map))?;
+        rt.write_all(b"\nmap:")?;
+        print_numbers(rt, map, 0, map.len(), 2)?;
+        graph_lines(rt, graph)?;
+        return Ok(true);
     }
-    false
+    Ok(false)
 }
 
 // Makes the call that has been read. False where a block of it cannot be read, or no operation has this letter. Every byte of the map is
 // 170 before, so that a refusal is seen to keep it.
 fn make_call(
+    rt: &impl Print,
     letter: u8,
     name: &[u8],
     graph: &mut [u8],
     rule: &[u8],
     start: &[u8],
     call: Call,
-) -> bool {
+) -> io::Result<bool> {
     let graph_length = call.graph;
     if graph.len() < graph_length {
-        return false;
+        return Ok(false);
     }
     let rule_length = call.rule;
     if rule.len() < rule_length {
-        return false;
+        return Ok(false);
     }
     let start_length = call.start;
     if start.len() < start_length {
-        return false;
+        return Ok(false);
     }
     let from = number(start, 0, start_length) as usize;
     let mut map = [170u8; MAP_BYTES];
-    io::write_all(1, name);
-    io::write_all(1, b": ");
+    rt.write_all(name)?;
+    rt.write_all(b": ")?;
     let is_answered = ask(
+        rt,
         letter,
         &mut graph[0..graph_length],
         &rule[0..rule_length],
         from,
         &mut map,
-    );
-    io::write_all(1, b"\n");
-    is_answered
+    )?;
+    rt.write_all(b"\n")?;
+    Ok(is_answered)
 }
 
 // Reads a line: bytes of a block, or the operation, with which the call is made and nothing is read of the next one.
-fn read_line(text: &[u8], graph: &mut [u8], rule: &mut [u8], start: &mut [u8], call: Call) -> Call {
+fn read_line(
+    rt: &impl Print,
+    text: &[u8],
+    graph: &mut [u8],
+    rule: &mut [u8],
+    start: &mut [u8],
+    call: Call,
+) -> io::Result<Call> {
     let mut next = call;
     if text.len() < 2 {
-        return next;
+        return Ok(next);
     }
     let letter = text[0];
     if letter == b'#' {
-        return next;
+        return Ok(next);
     }
     let rest = &text[2..];
     if letter == b'g' {
         next.graph = append(rest, graph, call.graph);
-        return next;
+        return Ok(next);
     }
     if letter == b'r' {
         next.rule = append(rest, rule, call.rule);
-        return next;
+        return Ok(next);
     }
     if letter == b's' {
         next.start = append(rest, start, call.start);
-        return next;
+        return Ok(next);
     }
-    Call {
+    Ok(Call {
         graph: 0,
         rule: 0,
         start: 0,
-        is_sound: make_call(letter, rest, graph, rule, start, call),
+        is_sound: make_call(rt, letter, rest, graph, rule, start, call)?,
+    })
+}
+
+// The first place from `at` on where the text has a line's end, or the text's length where it has none.
+fn line_end(text: &[u8], at: usize) -> usize
+    requires { at ≤ length text.now }
+    ensures from { at ≤ result }
+    ensures within { result ≤ length text.now }
+    ensures before { (k : ℕ) → at ≤ k → k < result → slice_index text.now k ≢ 10 }
+    ensures found { result < length text.now → slice_index text.now result ≡ 10 }
+{
+    let mut end = at;
+    while end < text.len() && text[end] != b'\n' {
+        end += 1;
     }
+    end
 }
 
 // Makes the calls of a text, up to the first one that cannot be read.
-pub fn make_calls(text: &[u8], graph: &mut [u8], rule: &mut [u8], start: &mut [u8]) {
+pub fn make_calls(
+    rt: &impl Print,
+    text: &[u8],
+    graph: &mut [u8],
+    rule: &mut [u8],
+    start: &mut [u8],
+) -> io::Result<()> {
     let mut call = Call {
         graph: 0,
         rule: 0,
@@ -160,17 +200,18 @@ pub fn make_calls(text: &[u8], graph: &mut [u8], rule: &mut [u8], start: &mut [u
     };
     let mut at = 0;
     while at < text.len() {
-        let end = bytes::scan::find(text, at, text.len(), b'\n');
-        call = read_line(&text[at..end], graph, rule, start, call);
+        let end = line_end(text, at);
+        call = read_line(rt, &text[at..end], graph, rule, start, call)?;
         if !call.is_sound {
-            io::write_all(1, b"cannot be read: ");
-            io::write_all(1, &text[at..end]);
-            io::write_all(1, b"\n");
-            return;
+            rt.write_all(b"cannot be read: ")?;
+            rt.write_all(&text[at..end])?;
+            rt.write_all(b"\n")?;
+            return Ok(());
         }
         if end == text.len() {
-            return;
+            return Ok(());
         }
         at = end + 1;
     }
+    Ok(())
 }

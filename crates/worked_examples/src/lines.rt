@@ -2,6 +2,7 @@
 ghost use Rattle.std.specs.Prelude.{◌+◌, ◌<◌, ◌≤◌, length};
 
 use definitions::{HEADER_BYTES, INPUT_LIMIT, OUTPUT_LIMIT, SLOT_BYTES};
+use std::io;
 
 // Where a header has its outputs, and a slot its inputs and its attributes.
 const OUTPUTS_AT: usize = 10;
@@ -24,47 +25,56 @@ pub fn number(block: &[u8], at: usize, width: usize) -> u64
 }
 
 // Prints the numbers of so many bytes each that stand between two places, with a space before each.
-pub fn print_numbers(block: &[u8], from: usize, to: usize, width: usize)
+pub fn print_numbers(
+    rt: &impl Print,
+    block: &[u8],
+    from: usize,
+    to: usize,
+    width: usize,
+) -> io::Result<()>
     requires from_le_to { from ≤ to }
     requires to_in_bounds { to ≤ length block.now }
     requires width_nonzero { 0 < width }
 {
     let mut at = from;
     while width <= to - at {
-        io::write_all(1, b" ");
-        io::print_decimal(1, number(block, at, width));
+        rt.write_all(b" ")?;
+        rt.print(number(block, at, width))?;
         at += width;
     }
+    Ok(())
 }
 
 // Prints a reply: its number, and its place where that is not 0. No reply has a value yet.
-pub fn print_reply(reply: u64) {
-    io::print_decimal(1, reply % 256);
+pub fn print_reply(rt: &impl Print, reply: u64) -> io::Result<()> {
+    rt.print(reply % 256)?;
     let place = reply / 256;
     if place != 0 {
-        io::write_all(1, b" at ");
-        io::print_decimal(1, place);
+        rt.write_all(b" at ")?;
+        rt.print(place)?;
     }
+    Ok(())
 }
 
 // A line for a graph's outputs, and one for each slot: its number, kind, operator, first two input places and first attribute. Each
 // follows a line's end.
-pub fn graph_lines(graph: &[u8]) {
+pub fn graph_lines(rt: &impl Print, graph: &[u8]) -> io::Result<()> {
     if graph.len() < HEADER_BYTES {
-        return;
+        return Ok(());
     }
-    io::write_all(1, b"\noutputs:");
-    print_numbers(graph, OUTPUTS_AT, OUTPUTS_AT + 2 * OUTPUT_LIMIT, 2);
+    rt.write_all(b"\noutputs:")?;
+    print_numbers(rt, graph, OUTPUTS_AT, OUTPUTS_AT + 2 * OUTPUT_LIMIT, 2)?;
     let mut k: u64 = 0;
     let mut at = HEADER_BYTES;
     while SLOT_BYTES <= graph.len() - at {
-        io::write_all(1, b"\nslot ");
-        io::print_decimal(1, k);
-        io::write_all(1, b":");
-        print_numbers(graph, at, at + 2, 1);
-        print_numbers(graph, at + INPUTS_AT, at + INPUTS_AT + 4, 2);
-        print_numbers(graph, at + ATTRIBUTES_AT, at + ATTRIBUTES_AT + 4, 4);
+        rt.write_all(b"\nslot ")?;
+        rt.print(k)?;
+        rt.write_all(b":")?;
+        print_numbers(rt, graph, at, at + 2, 1)?;
+        print_numbers(rt, graph, at + INPUTS_AT, at + INPUTS_AT + 4, 2)?;
+        print_numbers(rt, graph, at + ATTRIBUTES_AT, at + ATTRIBUTES_AT + 4, 4)?;
         k += 1;
         at += SLOT_BYTES;
     }
+    Ok(())
 }

@@ -1,4 +1,6 @@
 // Numbers, zeros and other bytes, written into a part of a block that the caller lends on, and one number at its place in a block.
+#![tactic(auto)]
+
 ghost use Rattle.std.specs.Prelude.{◌≡◌, ◌+◌, ◌*◌, ◌≤◌, length, replicate};
 ghost use Rattle.definitions.specs.Lists.{concat_map};
 ghost use Rattle.definitions.specs.Fields.{u16_bytes, u32_bytes};

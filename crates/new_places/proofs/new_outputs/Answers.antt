@@ -1,0 +1,17 @@
+use mathlib.Core.Path.{refl, sym, ◌∙◌}
+use Prim.Native.Nat.{◌-◌}
+use native.Mathlib.Omega.{arith}
+use borrow.Author.Rules.{rules}
+use Rattle.definitions.specs.Lists.{padded}
+use Rattle.definitions.specs.Graph.{output_limit, unused_place, graph_of}
+use Rattle.laws.proofs.Graph.{length-outputs}
+use Rattle.laws.proofs.Filling.{Filling, filling_none, filling_more, filling_all}
+use Rattle.redirection.specs.Moves.{moved}
+use Rattle.new_places.proofs.new_outputs.Goals as goal
+
+pub loop-i-init : goal.loop-i-init
+unfolding padded
+loop-i-init c = filling_none (c.output_count-count.ensures.0 ∙ sym (length-outputs c.args.graph.now)) (omega (arith, c.output_count-count.ensures.0, c.requires.outputs)) refl
+
+pub loop-i-preserved : goal.loop-i-preserved
+loop-i-preserved c = filling_more unused_place c.loop-i.invariant c.loop-i-test.true c.output_after.ensures

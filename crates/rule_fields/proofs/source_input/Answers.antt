@@ -1,0 +1,22 @@
+-- An input place stands in its byte of the record.
+use mathlib.Core.Path.{◌≡◌, ◌∙◌, sym, ap}
+use Prim.Native.Nat.{◌+◌, ◌<◌}
+use native.Mathlib.Omega.{arith}
+use Rattle.definitions.specs.Fields.{byte_at}
+use Rattle.definitions.specs.Graph.{input_limit}
+use Rattle.definitions.specs.Rule.{vertex_at}
+use Rattle.rule_fields.proofs.Fixed.{source-count-at, source_input_at}
+use Rattle.rule_fields.proofs.source_input.Goals as goal
+
+pub overflow_add-i : goal.overflow_add-i
+overflow_add-i c = let few : c.args.i < input_limit = omega (arith, c.requires.readable_rule.inputs c.args.j (omega arith), source-count-at c.args.rule.now c.args.j c.requires.j_bound) in
+    omega (arith, few)
+
+pub returns : goal.returns
+returns c = let place : c.source_byte.result ≡ byte_at c.args.rule.now (vertex_at c.args.j + 4 + c.args.i) =
+    c.source_byte.ensures.0 ∙ ap (byte_at c.args.rule.now) (omega arith) in
+    (place ∙ sym (source_input_at c.args.rule.now c.args.j c.args.i 255 c.requires.j_bound c.requires.i_in_bounds), c.source_byte.ensures.1)
+
+pub source_byte-requires-clause-i_lt_pattern_bytes : goal.source_byte-requires-clause-i_lt_pattern_bytes
+source_byte-requires-clause-i_lt_pattern_bytes c = let few : c.args.i < input_limit = omega (arith, c.requires.readable_rule.inputs c.args.j (omega arith), source-count-at c.args.rule.now c.args.j c.requires.j_bound) in
+    omega (arith, few)

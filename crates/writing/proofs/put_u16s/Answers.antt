@@ -1,0 +1,25 @@
+use mathlib.Core.Path.{◌≡◌, sym, ◌∙◌, refl, ap}
+use Prim.Native.Nat.{◌+◌, ◌-◌, ◌*◌, ◌≤◌}
+use native.Mathlib.Numerals.{add-one}
+use native.Mathlib.Omega.{arith}
+use lib.ListN.{length, take, length-set}
+use lib.Seq.{take_all}
+use Rattle.definitions.specs.Lists.{concat_map}
+use Rattle.definitions.specs.Fields.{u16_bytes}
+use Rattle.writing.proofs.Written.{written_more}
+use Rattle.writing.proofs.put_u16s.Goals as goal
+
+pub loop-i-init : goal.loop-i-init
+unfolding concat_map
+loop-i-init c = (omega arith, c.requires, refl)
+
+pub loop-i-preserved : goal.loop-i-preserved
+unfolding u16_bytes
+loop-i-preserved c = let l = c.loop-i in
+    let numbers = c.args.numbers.now in
+    let next : 2 * (l.i + 1) ≡ 2 * l.i + 2 = omega arith in (
+      omega arith,
+      simp (length-set, l.invariant.1),
+      rw (next, add-one (2 * l.i))
+          (written_more u16_bytes numbers 0 l.part l.i (2 * l.i) (omega arith) (omega (arith, l.invariant.1)) l.invariant.2),
+    )
