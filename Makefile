@@ -1,7 +1,7 @@
 # Host side of leafgraph: the demo, the tests and the gate.
 #
-# The toolchain owns target/ and clears it in `rt ci`, so everything built
-# here goes to build/. What each part needs stands in make/, a file for each.
+# The toolchain keeps its work in crates/*/out/, and everything built here goes
+# to build/. What each part needs stands in make/, a file for each.
 
 SHELL := bash
 .SHELLFLAGS := -euo pipefail -c
@@ -21,9 +21,11 @@ CXX_WARNINGS := $(WARNINGS) -Wshadow -Wconversion -Wold-style-cast
 CFLAGS ?= -O2
 CXXFLAGS ?= -O2
 
-ARCHIVE := target/staticlib/libleafgraph.a
+# The library for C, under the name that its users link.
+ARCHIVE := build/lib/libleafgraph.a
 HEADERS := include/leafgraph.h include/leafgraph.hpp
 RT_LOG := build/rt-ci.log
+RT_BEGUN := build/rt-ci.begun
 
 include make/host.mk
 include make/package.mk
@@ -45,23 +47,21 @@ help:
 	@echo 'make benchmark-report  the same, into docs/PERFORMANCE.md with its plots'
 	@echo 'make fuzz              look for a difference for SECONDS=60'
 	@echo 'make blocks            the example blocks anew from their sources'
-	@echo 'make clean             remove build/ and target/'
+	@echo 'make clean             remove build/, and what the toolchain keeps in crates/*/out/'
 
-# The gate. The order is fixed: `rt ci` clears target/, so the archive is made
-# after it. Each step is a line of its own, so that none can hide another's
-# failure.
-test:
-	$(RT) fmt --check
-	$(MAKE) reference-tests
-	mkdir -p build
+# The gate. `rt ci` comes first, on the checkout as it is. Each step is a line of
+# its own, so that none can hide another's failure.
+test: | build
+	@touch $(RT_BEGUN)
 	time { $(RT) ci 2>&1 | tee $(RT_LOG); }
-	$(PYTHON) make/must_fail_reasons.py target
-	$(RT) staticlib leafgraph
+	$(PYTHON) -B make/must_fail_reasons.py $(RT_LOG)
+	$(PYTHON) -B make/archive.py $(ARCHIVE) --since $(RT_BEGUN) || echo 'an archive that is missing or old is made by rt lib'
+	$(MAKE) reference-tests
 	$(MAKE) tests-beside
 	@# Last, the toolchain's own verdict again; with a failure it is one.
-	@grep -E '[0-9]+ passed, [0-9]+ failed' $(RT_LOG) | tail -n 1 > build/verdict
+	@tail -n 1 $(RT_LOG) > build/verdict
 	@cat build/verdict
-	@grep -qE '[0-9]+ passed, 0 failed' build/verdict
+	@grep -qxE '[0-9]+ passed, 0 failed' build/verdict
 
 # Every test that is no proof, in a minute or two: what a change of the host
 # side wants.
@@ -75,16 +75,16 @@ tests-beside: $(ARCHIVE)
 	$(MAKE) comparison
 
 # Anew when a source is newer than the archive. Every crate below it is proved
-# first, which takes minutes; the screen gets a line for each. `rt staticlib` would
-# prove one crate after the other, `rt check` proves as many at once as there are
-# processors.
-$(ARCHIVE): $(shell find crates crates.txt -type f 2>/dev/null) | build
-	@echo 'proving and compiling the library; the whole log is build/staticlib.log'
-	@{ $(RT) check leafgraph && $(RT) staticlib leafgraph; } 2>&1 | tee build/staticlib.log \
-		| $(PYTHON) make/progress.py leafgraph || { cat build/staticlib.log; exit 1; }
+# first, which takes minutes; the screen gets a line for each.
+$(ARCHIVE): $(shell find crates crates.txt -name out -prune -o -type f -print 2>/dev/null) | build
+	@echo 'proving and compiling the library; the whole log is build/library.log'
+	@{ cd crates/leafgraph_c && $(RT) lib; } 2>&1 | tee build/library.log \
+		| $(PYTHON) -B make/progress.py leafgraph_c || { cat build/library.log; exit 1; }
+	@mkdir -p $(@D)
+	@cp crates/leafgraph_c/out/libleafgraph_c.a $@
 
 build:
 	mkdir -p $@
 
 clean:
-	rm -rf build target
+	rm -rf build crates/*/out

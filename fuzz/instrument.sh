@@ -3,10 +3,11 @@
 #
 #     fuzz/instrument.sh FOLDER
 #
-# writes FOLDER/libleafgraph.a. It asks the toolchain for what `rt staticlib`
-# asks for, but gives it a folder of links to its own tools in which clang is
-# a script that adds a flag. target/ is read and not written, and nothing of
-# the toolchain is copied.
+# writes FOLDER/libleafgraph.a. make/archive.py asks the toolchain for what `rt lib`
+# asks for, but here with a folder of links to the toolchain's own tools in which
+# clang is a script that adds a flag. The folder is none of the repository's, since
+# `rt ci` refuses links to folders there, and goes again. crates/*/out/ is read and
+# not written, and nothing of the toolchain is copied.
 set -euo pipefail
 
 die() {
@@ -20,42 +21,27 @@ mkdir -p "$1"
 folder=$(cd "$1" && pwd)
 
 rt=$(command -v rt) || die "no rt on the path: the library cannot be compiled again"
-kit=${RATTLE_HOME:-$(dirname "$(dirname "$(readlink -f "$rt")")")}
-own=$kit/on/$(uname -m)
-tools=$own/toolchain
-for part in "$own/bin/rattle" "$own/logic-built" "$own/rlib" "$tools/bin/clang" "$kit/logic/antt-project.json"; do
-    [ -e "$part" ] || die "the toolchain has no $part, so it is not one that this script knows"
-done
+tools=$(dirname "$(dirname "$(readlink -f "$rt")")")/toolchain
+[ -e "$tools/bin/clang" ] || die "the toolchain has no $tools/bin/clang, so it is not one that this script knows"
 
-rm -rf "$folder/toolchain"
-mkdir -p "$folder/toolchain/bin"
+links=$(mktemp -d)
+trap 'rm -rf "$links"' EXIT
+mkdir "$links/bin"
 for part in "$tools"/* "$tools"/bin/*; do
     name=${part#"$tools"/}
     case $name in
     bin | bin/clang) ;;
-    *) ln -s "$part" "$folder/toolchain/$name" ;;
+    *) ln -s "$part" "$links/$name" ;;
     esac
 done
-cat >"$folder/toolchain/bin/clang" <<END
+cat >"$links/bin/clang" <<END
 #!/bin/sh
 exec "$tools/bin/clang" -fsanitize-coverage=inline-8bit-counters,pc-table,trace-cmp "\$@"
 END
-chmod +x "$folder/toolchain/bin/clang"
+chmod +x "$links/bin/clang"
 
-externs=(--extern "std=$own/rlib/std.rlib")
-for crate in $(sed -n 's/^leafgraph: *//p' crates.txt); do
-    [ -d "target/rlib/$crate.rlib" ] || die "target/rlib has no $crate: prove the library first"
-    externs+=(--extern "$crate=target/rlib/$crate.rlib")
-done
-
-"$own/bin/rattle" build --crate-name leafgraph crates/leafgraph/src/lib.rt "${externs[@]}" \
-    -L dependency=target/rlib -L "dependency=$own/rlib" \
-    --antt-project "$kit/logic/antt-project.json" --logic-built "$own/logic-built" \
-    --toolchain "$folder/toolchain" --crate-type staticlib -o "$folder/libleafgraph.a" \
-    >"$folder/log" 2>&1 || {
-    cat "$folder/log" >&2
+"${PYTHON:-python3}" -B make/archive.py "$folder/libleafgraph.a" --toolchain "$links" ||
     die "the library could not be compiled again"
-}
 grep -q __sanitizer_cov_8bit_counters_init "$folder/libleafgraph.a" || {
     rm -f "$folder/libleafgraph.a"
     die "the archive has no counters: the toolchain's clang ignored the flag"

@@ -23,8 +23,8 @@ ifneq ($(FUZZ_ARCHIVE),$(ARCHIVE))
 	$(REFERENCE_BIN)/fuzz_replay fuzz/corpus build/fuzz/corpus
 endif
 
-$(FUZZ_INSTRUMENTED): $(ARCHIVE) fuzz/instrument.sh
-	fuzz/instrument.sh $(dir $@)
+$(FUZZ_INSTRUMENTED): $(ARCHIVE) fuzz/instrument.sh make/archive.py
+	PYTHON="$(PYTHON)" fuzz/instrument.sh $(dir $@)
 
 # Part of the gate, and needs cargo only: every kept input once.
 fuzz-replay: fuzz-replay-build

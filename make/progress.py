@@ -1,45 +1,37 @@
 #!/usr/bin/env python3
 """Says how far a proof has come, while it runs.
 
-    rt check NAME 2>&1 | progress.py NAME
+    (cd crates/NAME && rt lib) 2>&1 | progress.py NAME
 
-Prints a line for each crate that is proved, with how many of those that NAME
-needs are proved by then. Of all else only rt's own lines are printed, such as that
-a crate is not proved; the prover's are for a log. Run from the repository's root.
+Prints a line for each crate that is proved, with how many NAME needs at most: for one that was proved
+before there is no line. Of all else only rt's own lines are printed; the prover's are for a log. Run
+from the repository's root.
 """
 
 import re
 import sys
-from pathlib import Path
 
-PROVED = re.compile(r"rt: (\w+) proved \(")
+from crates_file import needed_by
 
-
-def needed_by(name):
-    """The crate and all crates of the repository below it."""
-    text = Path("crates.txt").read_text(encoding="utf-8")
-    cites = dict(re.findall(r"^(\w+):(.*)$", text, re.MULTILINE))
-    needed, waiting = set(), [name]
-    while waiting:
-        crate = waiting.pop()
-        if crate in cites and crate not in needed:
-            needed.add(crate)
-            waiting += cites[crate].split()
-    return needed
+# What the prover says of a crate before its verdict, and the verdict.
+CRATE = re.compile(r"crate (\w+): modules ")
+PROVED = "logic=proved "
+# Of rt's own lines, those that only say how many processes it takes, and where it begins.
+QUIET = re.compile(r"rt: chose --jobs |rt: \w+: begins with ")
 
 
 def main():
     if len(sys.argv) != 2:
         sys.exit(__doc__)
-    needed = needed_by(sys.argv[1])
-    waiting = set(needed)
+    needed, proved, crate = needed_by(sys.argv[1]), [], None
     for line in sys.stdin:
-        match = PROVED.match(line)
-        if match and match[1] in waiting:  # it may be told once more, and counts once
-            waiting.remove(match[1])
-            done = len(needed) - len(waiting)
-            print(f"{done} of {len(needed)} crates proved: {match[1]}", flush=True)
-        elif line.startswith("rt: ") and not match:
+        match = CRATE.match(line)
+        if match:
+            crate = match[1]
+        elif line.startswith(PROVED) and crate in needed and crate not in proved:
+            proved.append(crate)
+            print(f"{len(proved)} of at most {len(needed)} crates proved: {crate}", flush=True)
+        elif line.startswith("rt: ") and not QUIET.match(line):
             print(line, end="", flush=True)
 
 

@@ -7,7 +7,7 @@ LOCKED := --offline --locked $(CARGO_FLAGS)
 # Given to cargo only, not to the toolchain. The comparison and the benchmark
 # link the archive made here, whatever the environment says.
 IN_REFERENCE := cd reference && CARGO_TARGET_DIR=$(CURDIR)/build/reference \
-	LEAFGRAPH_LIB_DIR=$(CURDIR)/target/staticlib $(CARGO)
+	LEAFGRAPH_LIB_DIR=$(CURDIR)/$(patsubst %/,%,$(dir $(ARCHIVE))) $(CARGO)
 REFERENCE_BIN := build/reference/release
 
 .PHONY: reference-tests run-only-test comparison benchmark benchmark-report

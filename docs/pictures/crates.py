@@ -55,9 +55,10 @@ def crate_lines():
         heading = HEADING.match(line)
         if heading:
             group = heading[1]
-        name, colon, rest = line.split("#")[0].partition(":")
+        head, colon, rest = line.split("#")[0].partition(":")
         if colon:
-            yield group, name.strip(), rest.split()
+            # Behind the name may stand what kind of crate it is, as staticlib.
+            yield group, head.split()[0], rest.split()
 
 
 def read_crates():

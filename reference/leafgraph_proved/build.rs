@@ -1,5 +1,5 @@
 //! Tells the linker where the proved library's archive is: in the folder that
-//! LEAFGRAPH_LIB_DIR names, else where the toolchain puts it.
+//! LEAFGRAPH_LIB_DIR names, else where the Makefile puts it.
 
 use std::env;
 use std::path::{Path, PathBuf};
@@ -10,7 +10,7 @@ fn main() {
         Some(folder) => PathBuf::from(folder),
         None => {
             let package = env::var_os("CARGO_MANIFEST_DIR").expect("cargo sets this");
-            Path::new(&package).join("../../target/staticlib")
+            Path::new(&package).join("../../build/lib")
         }
     };
     let archive = folder.join("libleafgraph.a");

@@ -1,6 +1,7 @@
 // The lines of a listing's slots, read in one pass into the records of a table, with Empty ones between them. Counts are left 0: they are made
 // when the graph is known to be sound.
 #![tactic(auto)]
+
 ghost use Rattle.std.specs.Prelude.{◌≡◌, true, not, ◌&&◌, ◌+◌, ◌-◌, ◌<◌, ◌≤◌, ltb, length};
 ghost use Rattle.definitions.specs.Graph.{slot_limit, record_at};
 ghost use Rattle.definitions.specs.Sheet.{slot_field};

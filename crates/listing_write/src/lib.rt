@@ -1,6 +1,7 @@
 // The listing of a graph, written into a lent text. Where the text has room for any listing, it is printed into it at once. Else it is
 // printed twice by the same code: into an empty part, which tells the length and writes nothing, and then, where it fits, into the text.
 #![tactic(auto)]
+
 ghost use Rattle.std.specs.Prelude.{◌≡◌, ◌+◌, ◌<◌, ◌≤◌, length};
 ghost use Rattle.definitions.specs.Graph.{slot_count, graph_of};
 ghost use Rattle.definitions.specs.Listing.{listing, write_reply, write_text};
