@@ -20,7 +20,8 @@ KEPT = {"getD": "get_or"}
 # Lemmas that port.py gave the new name of their function.
 LEMMAS = {"first_some", "turned_down", "source_fits", "target_fits"}
 FUNCTIONS = set("length append take drop eqb ltb leb get_or replicate cond suc concat filter reverse range".split())
-DEFINED = re.compile(r"^[ \t]*(?:(?:pub|abbrev|unfoldable|data|record|open)\s+)*(" + WORD + r")\s+:(?=\s)", re.M)
+DEFINED = re.compile(r"^[ \t]*(?:(?:pub|abbrev|unfoldable|data|record|open)\s+)*(" + WORD + r")(?:\s+\{[^}]*\})?\s+:(?=\s)", re.M)
+CLAUSE = re.compile(r"^[ \t]*" + WORD + r"((?:[ \t]+" + WORD + r")+)[ \t]+=(?=\s)", re.M)
 DEFINITION = re.compile(r"^[ \t]*(?:pub\s+)?(?:abbrev|unfoldable)\s+(?:pub\s+)?(" + WORD + r")\s+:(?=\s)", re.M)
 BINDER = re.compile(r"[({]((?:" + WORD + r"\s+)+):(?=\s)|λ\s*((?:" + WORD + r"\s+)*" + WORD + r")\.(?=\s)|\blet\s+(" + WORD + r")\s")
 USE = re.compile(r"^[ \t]*(?:pub\s+)?(?:ghost\s+)?use\s+([\w.+'-]+)\.\{([^}]*)\}", re.M)
@@ -75,6 +76,8 @@ def table():
         t = COMMENT.sub("", text(path))
         own |= set(DEFINED.findall(t)) | set(FIELD.findall(t))
         names |= {n for n in DEFINITION.findall(t) if "-" not in n}
+        for binders in CLAUSE.findall(t):
+            own |= {w for w in binders.split() if re.search(r"[a-z][A-Z]", w)}
         for groups in BINDER.findall(t):
             own |= {w for g in groups for w in g.split()}
     rows = {n: respelled(n, names) for n in own - library}

@@ -18,7 +18,7 @@ use Rattle.definitions.specs.Match.{read_attribute}
 use Rattle.definitions.specs.Rewriting.{vertex_results, target_results}
 use Rattle.laws.proofs.Lists.{decided, true_not_false, option_either, all_below_some}
 use Rattle.new_words.specs.Words.{index_like}
-use Rattle.target_attributes.specs.Words.{isGiven}
+use Rattle.target_attributes.specs.Words.{is_given}
 use Rattle.target_attributes.specs.Fitness.{fit_at, vertex_given}
 use Rattle.target_attributes.proofs.Laws.{none_given, told_given, target_lacks, target_found, words_to, vertex_lacks, vertex-found}
 use Rattle.answers.specs.Rewritten.{target_result, NoFit}
@@ -50,7 +50,7 @@ module _ (g : Graph) (r : Rule) (images : List ℕ) where
 
   -- Where some attribute is unfit, its vertex has no results, so the target has none.
   pub unfit_none : NoFit g r images → target_results read r.target ≡ none
-  unfolding isGiven
+  unfolding is_given
   unfit_none u =
       let p : Pattern Origin = target_of r u.vertex in
       let fails : fit_at read p u.place ≡ false =
@@ -60,7 +60,7 @@ module _ (g : Graph) (r : Rule) (images : List ℕ) where
 
   -- Where the target has no results, some vertex has none, and so some attribute of it is unfit.
   pub none_unfit : target_results read r.target ≡ none → NoFit g r images
-  unfolding isGiven
+  unfolding is_given
   none_unfit e =
       let vertex = all_below_some (vertex_given read r) (length r.target) (λ t.
       true_not_false (sym (target_found read r (length r.target) (omega arith) t)) (rw e)) in

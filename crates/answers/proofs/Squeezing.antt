@@ -318,7 +318,7 @@ module _ (graph moves : List ℕ) (reply : ℕ) (graph_after moves_after : List 
 
 pub squeeze_twice : (graph moves : List ℕ) (reply : ℕ) (graph_after moves_after : List ℕ) → Squeezed graph moves reply graph_after moves_after
     → number_in reply ≡ 0 → SqueezedTwice graph_after moves_after
-squeeze_twice graph moves reply graph_after moves_after contract h list again graphAgain listAgain second size =
+squeeze_twice graph moves reply graph_after moves_after contract h list again graph_again list_again second size =
     let first = squeezes graph moves reply graph_after moves_after contract h in
     let table = table graph moves reply graph_after moves_after contract h in
     let block = left graph moves reply graph_after moves_after contract h in
@@ -326,13 +326,13 @@ squeeze_twice graph moves reply graph_after moves_after contract h list again gr
     let slots : slot_count graph_after ≡ slot_count graph =
     sym (length-slots graph_after) ∙ ap (λ (t : Graph). length t.slots) same ∙ squeezed_size (graph_of graph) ∙ length-slots graph in
     let enough : length list ≡ 2 * slot_count graph_after = size ∙ first.moves_size ∙ ap (λ (n : ℕ). 2 * n) (sym slots) in
-    let number = to-done graph_after list again graphAgain listAgain second
-    (answer graph_after list again graphAgain listAgain second) (first.sound, enough) in (
+    let number = to-done graph_after list again graph_again list_again second
+    (answer graph_after list again graph_again list_again second) (first.sound, enough) in (
       number,
-      left graph_after list again graphAgain listAgain second number
+      left graph_after list again graph_again list_again second number
           ∙ ap (λ (t : Graph). graph_block (squeeze t)) same ∙ ap graph_block (squeezed_twice (graph_of graph) table) ∙ sym block,
       λ v t.
-          went graph_after list again graphAgain listAgain second number v t
+          went graph_after list again graph_again list_again second number v t
           ∙ ap (λ (t : Graph). moved_to t v) same
           ∙ moved_self (graph_of graph) v (subst (λ (t : Graph). is_vertex t v ≡ true) same t),
     )

@@ -121,11 +121,11 @@ module _ (graph : List ℕ) (reply : ℕ) (graph_after : List ℕ) (contract : S
 
 pub sweep_twice : (graph : List ℕ) (reply : ℕ) (graph_after : List ℕ) → Swept graph reply graph_after → number_in reply ≡ 0
     → SweptTwice graph_after
-sweep_twice graph reply graph_after contract h again graphAgain second =
-    let number = (judged graph_after again graphAgain second).done.1 (after-sound graph reply graph_after contract h) in
+sweep_twice graph reply graph_after contract h again graph_again second =
+    let number = (judged graph_after again graph_again second).done.1 (after-sound graph reply graph_after contract h) in
     let table = table_of graph (sound graph reply graph_after contract h) in (
       number,
-      left graph_after again graphAgain second number
+      left graph_after again graph_again second number
           ∙ ap (λ (t : Graph). graph_block (sweep t)) (same_table graph reply graph_after contract h)
           ∙ ap graph_block (swept_twice (graph_of graph) table)
           ∙ sym (left graph reply graph_after contract h),

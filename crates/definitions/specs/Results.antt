@@ -16,9 +16,9 @@ pub record Meaning {ℓ} (R : Type ℓ) : Type ℓ where
   pub variable : ℕ → R
 
 -- a target place has the rule input's result or the target vertex's
-unfoldable pub originResult {ℓ} : {R : Type ℓ} → (ℕ → R) → (ℕ → R) → Origin → R
-originResult source target (given j) = source j
-originResult source target (made t) = target t
+unfoldable pub origin_result {ℓ} : {R : Type ℓ} → (ℕ → R) → (ℕ → R) → Origin → R
+origin_result source target (given j) = source j
+origin_result source target (made t) = target t
 
 module _ {ℓ} {R : Type ℓ} (m : Meaning R) where
   -- what the result of vertex v is, given those of its inputs
@@ -45,7 +45,7 @@ module _ {ℓ} {R : Type ℓ} (m : Meaning R) where
   AreTargetResults r values source target =
       (t : ℕ) → t < length r.target
       → target t ≡ m.function (target_of r t).kind (target_of r t).operator (map word_of (get_or values t []))
-      (map (originResult source target) (target_of r t).inputs)
+      (map (origin_result source target) (target_of r t).inputs)
 
   -- The hypothesis of demand 3: whatever results the rule's inputs take, each target output has the same result as its source output,
   -- with the attributes of this match.
@@ -53,7 +53,7 @@ module _ {ℓ} {R : Type ℓ} (m : Meaning R) where
   SameOutputs g r images values =
       (source target : ℕ → R) → AreSourceResults g r images source → AreTargetResults r values source target
       → (k : ℕ) → k < length r.source_outputs
-      → originResult source target (get_or r.target_outputs k (made 0)) ≡ source (get_or r.source_outputs k 0)
+      → origin_result source target (get_or r.target_outputs k (made 0)) ≡ source (get_or r.source_outputs k 0)
 
 -- Where slots get new numbers, `to v` for v, "a Variable's result follows it to its new number": `after` has the functions of m, and
 -- gives at `to v` what m gives at v, for every Variable v.

@@ -53,8 +53,8 @@ module _ (r : VariadicRule) (n : ℕ) where
 
   -- what a vertex of index i names, `naming` by index; the named Tuple's field stands n times, once for each index from 1 to n
   unfoldable pub fields : {P : Type 0} → Bool → (ℕ → P → P) → ℕ → List P → List P
-  fields isTuple naming i places =
-      cond isTuple (concat_map (λ p. tabulate n (λ k. naming (suc k) p)) places) (map (naming i) places)
+  fields is_tuple naming i places =
+      cond is_tuple (concat_map (λ p. tabulate n (λ k. naming (suc k) p)) places) (map (naming i) places)
 
   -- ---- the vertices of the fixed rule, as copies: what each names, and their order
 

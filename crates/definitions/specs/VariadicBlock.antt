@@ -95,9 +95,9 @@ module _ (r : VariadicRule) where
 
   -- a named Tuple is "an unmarked Tuple with n 1"; another vertex names a template only where it is one
   unfoldable pub templates_fit : {P : Type 0} → Bool → Bool → (P → Bool) → Pattern P → Bool
-  templates_fit isTuple isTemplate names p =
-      cond isTuple (not isTemplate && eqb p.kind kind_tuple && eqb (length p.inputs) 1)
-      (isTemplate || not (any names p.inputs))
+  templates_fit is_tuple is_template names p =
+      cond is_tuple (not is_template && eqb p.kind kind_tuple && eqb (length p.inputs) 1)
+      (is_template || not (any names p.inputs))
 
   unfoldable pub source_templates_fit : ℕ → Bool
   source_templates_fit j = templates_fit (eqb j r.source_tuple) (r.source_template j) r.source_template (source_of r.plain j)

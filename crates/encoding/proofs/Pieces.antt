@@ -13,7 +13,7 @@ use lib.Dec.{ltb}
 use lib.ListN.{length, get_or, take, drop, length-append, length-drop, get_or-append}
 use lib.Seq.{length-take-le, get_or-take, get_or-drop, get_or-append-add, ext_get_or}
 use Rattle.definitions.specs.Lists.{tabulate, concat_map}
-use Rattle.laws.proofs.Lists.{decided, length-tabulate, get_d_tabulate}
+use Rattle.laws.proofs.Lists.{decided, length-tabulate, get_or_tabulate}
 use Rattle.laws.proofs.Pieces.{length_pieces}
 
 -- ---- what holds of every index below a bound
@@ -68,7 +68,7 @@ module _ {A : Type 0} where
       ext_get_or d (tabulate n f) xs (length-tabulate n f ∙ e)
       (λ i l.
       let m : i < n = omega (arith, length-tabulate n f) in
-      get_d_tabulate n f i d m ∙ same i (omega arith))
+      get_or_tabulate n f i d m ∙ same i (omega arith))
 
 -- ---- pieces of one size
 
@@ -91,7 +91,7 @@ module _ {A : Type 0} {B : Type 0} (f : A → List B) (size n : ℕ) (h : ℕ �
   each_sized : (k : ℕ) → k < length (tabulate n h) → length (f (get_or (tabulate n h) k (h 0))) ≡ size
   each_sized k l =
       let inside : k < n = omega (arith, length-tabulate n h) in
-      ap (λ (x : A). length (f x)) (get_d_tabulate n h k (h 0) inside) ∙ sized k inside
+      ap (λ (x : A). length (f x)) (get_or_tabulate n h k (h 0) inside) ∙ sized k inside
 
   pub length-numbered : length (concat_map f (tabulate n h)) ≡ size * n
   length-numbered =
@@ -100,7 +100,7 @@ module _ {A : Type 0} {B : Type 0} (f : A → List B) (size n : ℕ) (h : ℕ �
   pub numbered-at : (k i : ℕ) (b : B) → k < n → i < size → get_or (concat_map f (tabulate n h)) (size * k + i) b ≡ get_or (f (h k)) i b
   numbered-at k i b l m =
       piece_at f size (h 0) (tabulate n h) each_sized k i b (omega (arith, length-tabulate n h)) m
-      ∙ ap (λ (x : A). get_or (f x) i b) (get_d_tabulate n h k (h 0) l)
+      ∙ ap (λ (x : A). get_or (f x) i b) (get_or_tabulate n h k (h 0) l)
 
 -- and of pieces that stand behind a head
 module _ {B : Type 0} (head : List B) (from size n : ℕ) (f : ℕ → List B) (start : length head ≡ from)

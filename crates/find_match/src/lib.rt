@@ -1,5 +1,6 @@
 // Finding a match in lent blocks: the replies about the blocks, then 4, and the map of the least match where there is one.
 #![tactic(auto)]
+
 ghost use Rattle.std.specs.Prelude.{◌≡◌};
 ghost use Rattle.definitions.specs.Operations as operation;
 

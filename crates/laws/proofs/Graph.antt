@@ -14,7 +14,7 @@ use Rattle.definitions.specs.Fields.{byte_at, u16_at, u32_at}
 use Rattle.definitions.specs.Operators.{shape_fits}
 use Rattle.definitions.specs.Paths.{Reads}
 use Rattle.definitions.specs.Graph.{slot_limit, output_limit, slot_count, output_count, record_at, Slot, Graph, empty_slot, slot_from, graph_of, slot_of, inputs_of, is_vertex, output_places_fit, header_fits, record_fits}
-use Rattle.laws.proofs.Lists.{decided, true_not_false, and_right, needed, length-tabulate, get_d_tabulate}
+use Rattle.laws.proofs.Lists.{decided, true_not_false, and_right, needed, length-tabulate, get_or_tabulate}
 
 -- ---- any graph: past the last slot there is nothing
 
@@ -57,11 +57,11 @@ module _ (block : List ℕ) where
   -- slot k is read from its record
   pub slot_of_lem : (k : ℕ) → k < slot_count block → slot_of (graph_of block) k ≡ slot_from block (record_at k)
   unfolding graph_of slot_of
-  slot_of_lem k h = get_d_tabulate (slot_count block) (λ j. slot_from block (record_at j)) k empty_slot h
+  slot_of_lem k h = get_or_tabulate (slot_count block) (λ j. slot_from block (record_at j)) k empty_slot h
 
   pub output_of : (i d : ℕ) → i < output_count block → get_or (graph_of block).outputs i d ≡ u16_at block (10 + 2 * i)
   unfolding graph_of
-  output_of i d h = get_d_tabulate (output_count block) (λ j. u16_at block (10 + 2 * j)) i d h
+  output_of i d h = get_or_tabulate (output_count block) (λ j. u16_at block (10 + 2 * j)) i d h
 
   pub length-inputs : (at : ℕ) → length (slot_from block at).inputs ≡ byte_at block (at + 2)
   unfolding slot_from
@@ -69,7 +69,7 @@ module _ (block : List ℕ) where
 
   pub input_of : (at i d : ℕ) → i < byte_at block (at + 2) → get_or (slot_from block at).inputs i d ≡ u16_at block (at + 4 + 2 * i)
   unfolding slot_from
-  input_of at i d h = get_d_tabulate (byte_at block (at + 2)) (λ j. u16_at block (at + 4 + 2 * j)) i d h
+  input_of at i d h = get_or_tabulate (byte_at block (at + 2)) (λ j. u16_at block (at + 4 + 2 * j)) i d h
 
   pub length-attributes : (at : ℕ) → length (slot_from block at).attributes ≡ byte_at block (at + 3)
   unfolding slot_from
@@ -78,7 +78,7 @@ module _ (block : List ℕ) where
   pub attribute_of_lem : (at i d : ℕ) → i < byte_at block (at + 3)
       → get_or (slot_from block at).attributes i d ≡ u32_at block (at + 16 + 4 * i)
   unfolding slot_from
-  attribute_of_lem at i d h = get_d_tabulate (byte_at block (at + 3)) (λ j. u32_at block (at + 16 + 4 * j)) i d h
+  attribute_of_lem at i d h = get_or_tabulate (byte_at block (at + 3)) (λ j. u32_at block (at + 16 + 4 * j)) i d h
 
   -- ---- what a header that fits says, and a record that follows its kind
 

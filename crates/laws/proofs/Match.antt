@@ -14,7 +14,7 @@ use Rattle.definitions.specs.Graph.{unused_place, Graph, inputs_of, is_vertex}
 use Rattle.definitions.specs.Rule.{Rule, source_inputs, is_rule_input}
 use Rattle.definitions.specs.Match.{image_of, images_where, inner_images, Match}
 use Rattle.definitions.specs.Operations.{images_in}
-use Rattle.laws.proofs.Lists.{true_not_false, get_d_any, length-tabulate, get_d_tabulate}
+use Rattle.laws.proofs.Lists.{true_not_false, get_or_any, length-tabulate, get_or_tabulate}
 use Rattle.laws.proofs.Graph.{vertex-inside}
 use Rattle.laws.proofs.Rule.{wild_input}
 use Rattle.laws.proofs.Members.{holds, mem_range, range_mem}
@@ -23,7 +23,7 @@ use Rattle.laws.proofs.Filtered.{filter_mem, filter-holds, mem_filter, distinct-
 -- an image, as it is read from an array
 pub image-at : (images : List ℕ) (j : ℕ) → j < length images → image_of images j ≡ get_or images j 0
 unfolding image_of
-image-at images j l = get_d_any images j unused_place 0 l
+image-at images j l = get_or_any images j unused_place 0 l
 
 -- the images that a map holds
 module _ (map : List ℕ) (n : ℕ) where
@@ -34,7 +34,7 @@ module _ (map : List ℕ) (n : ℕ) where
   -- number j has its low byte at 2j and its high byte after that
   pub images-at : (j d : ℕ) → j < n → get_or (images_in map n) j d ≡ u16_at map (2 * j)
   unfolding images_in
-  images-at j d l = rw get_d_tabulate
+  images-at j d l = rw get_or_tabulate
 
 -- a match's images are slots
 pub image-inside : (g : Graph) (r : Rule) (images : List ℕ) (j : ℕ) → Match g r images → j < length r.source

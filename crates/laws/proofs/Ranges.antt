@@ -10,7 +10,7 @@ use borrow.Author.Tests.{eq-eqb, eqb-true}
 use lib.Dec.{eqb}
 use lib.ListN.{length, get_or}
 use Rattle.definitions.specs.Lists.{tabulate, all_pairs, range}
-use Rattle.laws.proofs.Lists.{and_left, and_right, length-tabulate, get_d_tabulate}
+use Rattle.laws.proofs.Lists.{and_left, and_right, length-tabulate, get_or_tabulate}
 
 pub length-range : (n : ℕ) → length (range 0 n) ≡ n
 unfolding range
@@ -18,7 +18,7 @@ length-range n = length-tabulate (n - 0) (λ i. 0 + i) ∙ sub-zero n
 
 pub range_at : (n i d : ℕ) → i < n → get_or (range 0 n) i d ≡ i
 unfolding range
-range_at n i d h = get_d_tabulate (n - 0) (λ k. 0 + k) i d (omega arith) ∙ zero-add i
+range_at n i d h = get_or_tabulate (n - 0) (λ k. 0 + k) i d (omega arith) ∙ zero-add i
 
 pub tabulate-more {ℓ} : {A : Type ℓ} (n : ℕ) (f : ℕ → A) → tabulate (suc n) f ≡ tabulate n f ++ f n ∷ []
 unfolding tabulate

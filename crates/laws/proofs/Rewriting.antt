@@ -14,7 +14,7 @@ use Rattle.definitions.specs.Rule.{Rule, is_rule_input}
 use Rattle.definitions.specs.Match.{image_of, read_attribute, is_const, images_where, is_private}
 use Rattle.definitions.specs.Rewriting.{target_results, goes, is_removed, has_room, new_slot, new_graph}
 use Rattle.definitions.specs.Operations.{accepted, turned_down, rewritten_with, rewritten}
-use Rattle.laws.proofs.Lists.{needed, and_left, length-tabulate, get_d_tabulate}
+use Rattle.laws.proofs.Lists.{needed, and_left, length-tabulate, get_or_tabulate}
 use Rattle.laws.proofs.Members.{member_mem, mem_member}
 use Rattle.laws.proofs.Match.{where_image, image_where}
 
@@ -58,7 +58,7 @@ module _ (g : Graph) (r : Rule) (images : List ℕ) where
 
     pub new-slot-at : (k : ℕ) → k < length g.slots → slot_of (new_graph g r images values) k ≡ new_slot g r images values k
     unfolding new_graph slot_of
-    new-slot-at k l = get_d_tabulate (length g.slots) (new_slot g r images values) k empty_slot l
+    new-slot-at k l = get_or_tabulate (length g.slots) (new_slot g r images values) k empty_slot l
 
   -- ---- the tests, in document 01's order
 

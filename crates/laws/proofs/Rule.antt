@@ -14,7 +14,7 @@ use Rattle.definitions.specs.Paths.{Reads}
 use Rattle.definitions.specs.Fields.{byte_at}
 use Rattle.definitions.specs.Operators.{kind_empty, shape_fits}
 use Rattle.definitions.specs.Rule.{rule_output_limit, source_count, target_count, rule_output_count, node_count, vertex_at, Expression, Origin, Pattern, Rule, origin_of, attribute_in, pattern_from, rule_by, rule_of, wildcard, source_of, target_of, source_inputs, input_kind, is_rule_input, rule_sizes_fit, rule_output_places_fit, rule_header_fits, pattern_fits, source_inputs_fit, use_fits}
-use Rattle.laws.proofs.Lists.{decided, and_left, needed, length-tabulate, get_d_tabulate, all_every, all-member, all_below_at}
+use Rattle.laws.proofs.Lists.{decided, and_left, needed, length-tabulate, get_or_tabulate, all_every, all-member, all_below_at}
 
 -- past the last source vertex nothing is read
 pub source-reader : (r : Rule) (j u : ℕ) → Reads (source_inputs r) j u → j < length r.source
@@ -63,22 +63,22 @@ module _ (naming : ℕ → Origin) (attribute : ℕ → ℕ → Expression) (blo
   -- a source or target vertex is read from its record
   pub source-by : (j : ℕ) → j < source_count block → source_of read j ≡ pattern_from (λ p. p) (attribute j) block (vertex_at j)
   unfolding rule_by source_of
-  source-by j h = get_d_tabulate (source_count block) (λ v. pattern_from (λ p. p) (attribute v) block (vertex_at v)) j wildcard h
+  source-by j h = get_or_tabulate (source_count block) (λ v. pattern_from (λ p. p) (attribute v) block (vertex_at v)) j wildcard h
 
   pub target-by : (t : ℕ) → t < target_count block
       → target_of read t ≡ pattern_from naming (attribute (source_count block + t)) block (vertex_at (source_count block + t))
   unfolding rule_by target_of
   target-by t h =
-      get_d_tabulate (target_count block) (λ v. pattern_from naming (attribute (source_count block + v)) block (vertex_at (source_count block + v))) t
+      get_or_tabulate (target_count block) (λ v. pattern_from naming (attribute (source_count block + v)) block (vertex_at (source_count block + v))) t
       wildcard h
 
   pub source-output-by : (i d : ℕ) → i < rule_output_count block → get_or read.source_outputs i d ≡ byte_at block (10 + i)
   unfolding rule_by
-  source-output-by i d h = get_d_tabulate (rule_output_count block) (λ k. byte_at block (10 + k)) i d h
+  source-output-by i d h = get_or_tabulate (rule_output_count block) (λ k. byte_at block (10 + k)) i d h
 
   pub target-output-by : (i : ℕ) (d : Origin) → i < rule_output_count block → get_or read.target_outputs i d ≡ naming (byte_at block (12 + i))
   unfolding rule_by
-  target-output-by i d h = get_d_tabulate (rule_output_count block) (λ k. naming (byte_at block (12 + k))) i d h
+  target-output-by i d h = get_or_tabulate (rule_output_count block) (λ k. naming (byte_at block (12 + k))) i d h
 
 -- a vertex that is read from the record that starts at `at`, field by field
 module _ (block : List ℕ) {P : Type 0} (naming : ℕ → P) (attribute : ℕ → Expression) (at : ℕ) {p : Pattern P}
@@ -101,7 +101,7 @@ module _ (block : List ℕ) {P : Type 0} (naming : ℕ → P) (attribute : ℕ �
   unfolding pattern_from
   input_at i d l =
       ap (λ (q : Pattern P). get_or q.inputs i d) read
-      ∙ get_d_tabulate (byte_at block (at + 2)) (λ k. naming (byte_at block (at + 4 + k))) i d (rw inputs-at at l)
+      ∙ get_or_tabulate (byte_at block (at + 2)) (λ k. naming (byte_at block (at + 4 + k))) i d (rw inputs-at at l)
 
   attributes-at : length p.attributes ≡ byte_at block (at + 3)
   unfolding pattern_from
@@ -111,7 +111,7 @@ module _ (block : List ℕ) {P : Type 0} (naming : ℕ → P) (attribute : ℕ �
   unfolding pattern_from
   attribute_at i d l =
       ap (λ (q : Pattern P). get_or q.attributes i d) read
-      ∙ get_d_tabulate (byte_at block (at + 3)) attribute i d (rw attributes-at at l)
+      ∙ get_or_tabulate (byte_at block (at + 3)) attribute i d (rw attributes-at at l)
 
 -- the same of a source or target vertex, by its number
 module _ (naming : ℕ → Origin) (attribute : ℕ → ℕ → Expression) (block : List ℕ) where

@@ -14,7 +14,7 @@ use Rattle.definitions.specs.Lists.{all, filter, tabulate, range}
 use Rattle.definitions.specs.Fields.{signed, word_of}
 use Rattle.definitions.specs.Operators.{kind_empty}
 use Rattle.definitions.specs.Graph.{Slot, Graph, empty_slot, slot_of, is_vertex}
-use Rattle.laws.proofs.Lists.{decided, and_left, and_right, length-tabulate, get_d_tabulate}
+use Rattle.laws.proofs.Lists.{decided, and_left, and_right, length-tabulate, get_or_tabulate}
 use Rattle.definitions.specs.Numerals.{in_field}
 use Rattle.definitions.specs.Sheet.{Line, Sheet, place_field, attribute_field, LineFits, LinesFit, SheetFits}
 use Rattle.definitions.specs.Listing.{line_of, sheet_of, slot_line, slot_in, graph_in}
@@ -98,7 +98,7 @@ module _ (s : Sheet) where
 
   pub slot_back : (v : ℕ) → 0 ≤ v → v < s.size → slot_of (graph_in s) v ≡ slot_in s.lines v
   unfolding graph_in slot_of
-  slot_back v low below = get_d_tabulate s.size (slot_in s.lines) v empty_slot below
+  slot_back v low below = get_or_tabulate s.size (slot_in s.lines) v empty_slot below
 
 module _ (s : Sheet) (fits : SheetFits s) where
   sheet-lines : (sheet_of (graph_in s)).lines ≡ s.lines

@@ -16,7 +16,7 @@ use Rattle.definitions.specs.Lists.{within, all, filter, tabulate, range}
 use Rattle.definitions.specs.Fields.{Bytes, signed, word_of}
 use Rattle.definitions.specs.Operators.{kind_empty, kind_proj, kind_call, kinds, row_of, shape_fits}
 use Rattle.definitions.specs.Graph.{Slot, Graph, empty_slot, slot_of, is_vertex, graph_of, graph_block, SoundGraph}
-use Rattle.laws.proofs.Lists.{decided, and_left, all_members, length-tabulate, get_d_tabulate, length_none}
+use Rattle.laws.proofs.Lists.{decided, and_left, all_members, length-tabulate, get_or_tabulate, length_none}
 use Rattle.laws.proofs.Graph.{vertex-inside}
 use Rattle.encoding.specs.Tables.{slot_fits, Table, Words}
 use Rattle.encoding.proofs.Graphs.{table_of, words_of, canonical}
@@ -222,7 +222,7 @@ module _ (g : Graph) (table : Table g) (words : Words g) where
       ext_get_or empty_slot (tabulate (length g.slots) (slot_in (sheet_of g).lines)) g.slots (length-tabulate (length g.slots) (slot_in (sheet_of g).lines))
       (λ i l.
       let inside : i < length g.slots = omega (arith, length-tabulate (length g.slots) (slot_in (sheet_of g).lines)) in
-      get_d_tabulate (length g.slots) (slot_in (sheet_of g).lines) i empty_slot inside
+      get_or_tabulate (length g.slots) (slot_in (sheet_of g).lines) i empty_slot inside
       ∙ found (length g.slots - 0) 0 (λ j. 0 + j) (λ j. refl) (omega arith) i (omega arith) inside)
 
   pub graph_same : graph_in (sheet_of g) ≡ g

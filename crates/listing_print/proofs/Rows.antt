@@ -14,7 +14,7 @@ use Rattle.definitions.specs.Numerals.{numeral}
 use Rattle.definitions.specs.Sheet.{spaced, joined}
 use Rattle.definitions.specs.Fields.{byte_at, u16_at, u32_at, signed}
 use Rattle.definitions.specs.Graph.{inputs_offset, attributes_offset, outputs_offset, slot_count, output_count, record_at, Slot, slot_from, graph_of, slot_of, inputs_of}
-use Rattle.laws.proofs.Lists.{length_none, length-tabulate, get_d_tabulate}
+use Rattle.laws.proofs.Lists.{length_none, length-tabulate, get_or_tabulate}
 use Rattle.laws.proofs.Pieces.{concat_more}
 use Rattle.laws.proofs.Graph.{slot_of_lem, length-inputs, length-attributes}
 use Rattle.listing_print.specs.declared.Row.{Row}
@@ -66,7 +66,7 @@ module _ (block : List ℕ) (row : Row) where
 
   pub row_at : (i : ℕ) (d : ℤ) → i < row.count → get_or (numbers_in block row) i d ≡ number_in block row.from row.wide i
   unfolding numbers_in
-  row_at i d inside = get_d_tabulate row.count (number_in block row.from row.wide) i d inside
+  row_at i d inside = get_or_tabulate row.count (number_in block row.from row.wide) i d inside
 
 -- ---- numbers that are printed one behind the other
 

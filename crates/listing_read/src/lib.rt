@@ -1,6 +1,7 @@
 // Reading a listing into a lent graph. The whole text is read into a table beside it, and the table's graph judged there; the lent graph is written
 // last, once the answer is sure.
 #![tactic(auto)]
+
 ghost use Rattle.definitions.specs.Listing.{ReadListing};
 ghost use Rattle.listing_read.specs.Taken.{SheetBlock, Taken};
 

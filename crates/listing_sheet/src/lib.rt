@@ -1,6 +1,7 @@
 // A whole listing, read in one pass from its first byte on into a table: the line of the graph, the lines of the slots, the line of the outputs,
 // and nothing behind it. The header is written when the outputs are known.
 #![tactic(auto)]
+
 ghost use Rattle.std.specs.Prelude.{◌≡◌, true, false, ◌≤◌, length, take};
 ghost use Rattle.definitions.specs.Lists.{within, padded};
 ghost use Rattle.definitions.specs.Graph.{slot_limit, output_limit, unused_place};

@@ -30,7 +30,7 @@ use Rattle.new_slots.specs.Vacant.{Lowest}
 use Rattle.new_removal.specs.Removal.{Removable}
 use Rattle.vacancies.proofs.Laws.{lowest-places}
 use Rattle.redirection.proofs.Laws.{sound_resolvable}
-use Rattle.target_attributes.specs.Words.{isGiven}
+use Rattle.target_attributes.specs.Words.{is_given}
 use Rattle.target_attributes.proofs.Laws.{none_given}
 use Rattle.new_vertices.specs.Slots.{values_of, fit_results, Prepared}
 use Rattle.new_vertices.proofs.Values.{known_values}
@@ -77,12 +77,12 @@ module _ (graph rule images : List ℕ) (is_matched : Matched graph rule images)
         inputs = λ j l h. rw (fun_ext same) (match_inputs g r found is_matched.is_match j (inside j l) h);
       }
 
-  pub unfit : isGiven (fit_results graph rule images) ≡ false → rewritten g r found ≡ turned_down (refusal no_result)
+  pub unfit : is_given (fit_results graph rule images) ≡ false → rewritten g r found ≡ turned_down (refusal no_result)
   unfolding fit_results
   unfit h =
       sym (rewritten_same g r images found same) ∙ rewritten-unfit g r images (none_given (fit_results graph rule images) h)
 
-  module _ (fit : isGiven (fit_results graph rule images) ≡ true) where
+  module _ (fit : is_given (fit_results graph rule images) ≡ true) where
     abbrev values : List (List ℤ)
     values = values_of (fit_results graph rule images)
 

@@ -1,5 +1,6 @@
 // The plan of a rewriting at one match: replies 5, 6 and 7 in order, and the new table in a block of its own. The graph is only read.
 #![tactic(auto)]
+
 ghost use Rattle.std.specs.Prelude.{◌≡◌, length, take};
 ghost use Rattle.definitions.specs.Graph.{graph_of};
 ghost use Rattle.definitions.specs.Rule.{source_count};

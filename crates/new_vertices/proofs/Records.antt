@@ -17,7 +17,7 @@ use Rattle.definitions.specs.Rewriting.{vertex_results, target_results, resolve}
 use Rattle.rule_fields.specs.Fixed.{fixed_of}
 use Rattle.rule_fields.proofs.Fixed.{length-target}
 use Rattle.replacement.proofs.Values.{target-values, value-count}
-use Rattle.target_attributes.specs.Words.{isGiven, Given}
+use Rattle.target_attributes.specs.Words.{is_given, Given}
 use Rattle.target_attributes.proofs.Laws.{told_given}
 use Rattle.redirection.specs.Moves.{resolve_in}
 use Rattle.new_places.proofs.Laws.{inputs_same}
@@ -29,12 +29,12 @@ use Rattle.new_vertices.proofs.Values.{known_values}
 -- the words told of results that there are
 told_words : (best : Option (List ℤ)) (zs : List ℤ) (ok : Bool) (words : List ℕ) → best ≡ some zs → Given best ok words
     → words ≡ padded attribute_limit 0 (map word_of zs)
-unfolding isGiven
+unfolding is_given
 told_words best zs ok words h g =
-    let told = g.found (sym (told_given best ok words g) ∙ ap isGiven h) in
+    let told = g.found (sym (told_given best ok words g) ∙ ap is_given h) in
     told.2 ∙ ap (λ (ys : List ℤ). padded attribute_limit 0 (map word_of ys)) (some-injective told.0 zs (sym told.1 ∙ h))
 
-module _ (graph rule images : List ℕ) (t : ℕ) (known : isGiven (fit_results graph rule images) ≡ true) (l : t < target_count rule) where
+module _ (graph rule images : List ℕ) (t : ℕ) (known : is_given (fit_results graph rule images) ≡ true) (l : t < target_count rule) where
   abbrev read : ℕ → ℕ → Option ℤ
   read = read_attribute (graph_of graph) images
 

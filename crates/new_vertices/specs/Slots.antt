@@ -10,7 +10,7 @@ use Rattle.rule_fields.specs.Fixed.{fixed_of}
 use Rattle.graph_fields.specs.Layout.{ReadableGraph}
 use Rattle.rule_fields.specs.Layout.{ReadableRule}
 use Rattle.rule_nodes.specs.Working.{Evaluable}
-use Rattle.target_attributes.specs.Words.{isGiven}
+use Rattle.target_attributes.specs.Words.{is_given}
 use Rattle.redirection.specs.Moves.{Movable}
 
 -- the results, where there are such
@@ -29,4 +29,4 @@ pub record Prepared (graph rule images places : List ℕ) : Type 0 where
   pub evaluable : Evaluable rule
   pub moves : Movable rule images places
   pub placed : (t : ℕ) → t < side_capacity → get_or places t unused_place ≡ place_of (graph_of graph) (fixed_of rule) images t
-  pub known : isGiven (fit_results graph rule images) ≡ true
+  pub known : is_given (fit_results graph rule images) ≡ true

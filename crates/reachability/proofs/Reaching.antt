@@ -13,7 +13,7 @@ use lib.Dec.{ltb}
 use lib.ListN.{length, get_or-eq_default}
 use Rattle.definitions.specs.Lists.{any_below, tabulate, member}
 use Rattle.definitions.specs.Paths.{Reads, here, onward, ReachesOne, is_marked, grown, grown_by, reaching}
-use Rattle.laws.proofs.Lists.{decided, true_not_false, and_left, and_right, any_below-found, any_below_some, length-tabulate, get_d_tabulate}
+use Rattle.laws.proofs.Lists.{decided, true_not_false, and_left, and_right, any_below-found, any_below_some, length-tabulate, get_or_tabulate}
 use Rattle.laws.proofs.Members.{member_mem, mem_member}
 use Rattle.theory.proofs.Paths.{Table, reaches_trans}
 use Rattle.reachability.specs.Marks.{Marks}
@@ -22,7 +22,7 @@ use Rattle.reachability.proofs.Marks.{marked-reaches, reaches-marked}
 
 -- marks that are made by index: within, and past the end
 tabulated_at : (n : ℕ) (f : ℕ → Bool) (v : ℕ) → v < n → is_marked (tabulate n f) v ≡ f v
-tabulated_at n f v l = get_d_tabulate n f v false l
+tabulated_at n f v l = get_or_tabulate n f v false l
 
 tabulated_inside : (n : ℕ) (f : ℕ → Bool) (v : ℕ) → is_marked (tabulate n f) v ≡ true → v < n
 tabulated_inside n f v t = ⊎_elim

@@ -1,6 +1,7 @@
 // Asking of a match in lent blocks whether the image of a source vertex is read elsewhere: the replies about the blocks, then 41, 42, or the
 // answer. Nothing is written.
 #![tactic(auto)]
+
 ghost use Rattle.std.specs.Prelude.{◌≡◌, length};
 ghost use Rattle.definitions.specs.Graph.{SoundGraph};
 ghost use Rattle.definitions.specs.Rule.{SoundRule};

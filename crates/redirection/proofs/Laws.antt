@@ -17,7 +17,7 @@ use Rattle.definitions.specs.FixedRule.{SoundFixed}
 use Rattle.definitions.specs.Match.{image_of, output_images}
 use Rattle.definitions.specs.Rewriting.{place_of, resolve, redirect}
 use Rattle.rule_fields.specs.Fixed.{fixed_of}
-use Rattle.laws.proofs.Lists.{decided, and_right, get_d_any, all-at}
+use Rattle.laws.proofs.Lists.{decided, and_right, get_or_any, all-at}
 use Rattle.laws.proofs.Members.{position-inside}
 use Rattle.laws.proofs.Rule.{input_inside}
 use Rattle.rule_fields.proofs.Fixed.{length-target, length-source-outputs, length-target-outputs}
@@ -38,12 +38,12 @@ inside-place split p h =
 pub resolve_given : (images places : List ℕ) (split p : ℕ) → split ≤ side_capacity → p < split → length images ≡ side_capacity
     → get_or images p 0 ≡ resolve_in images places (origin_by split p)
 unfolding resolve_in origin_by image_of
-resolve_given images places split p l h n = rw (lt-ltb p split h) (get_d_any images p 0 unused_place (omega arith))
+resolve_given images places split p l h n = rw (lt-ltb p split h) (get_or_any images p 0 unused_place (omega arith))
 
 pub resolve-made : (images places : List ℕ) (split p : ℕ) → split ≤ p → p < split + side_capacity → length places ≡ side_capacity
     → get_or places (p - split) 0 ≡ resolve_in images places (origin_by split p)
 unfolding resolve_in origin_by
-resolve-made images places split p h l n = rw (le-ltb p split h) (get_d_any places (p - split) 0 unused_place (omega arith))
+resolve-made images places split p h l n = rw (le-ltb p split h) (get_or_any places (p - split) 0 unused_place (omega arith))
 
 -- ---- one or two outputs, one or two moves
 
@@ -111,7 +111,7 @@ redirect_same g block images places inside h v =
     ⊎_elim (λ (t : member v replaced ≡ true).
     let few : position v replaced < rule_output_count block =
     omega (arith, position-inside v replaced t, length-map r.source_outputs (image_of images), length-source-outputs block) in
-    let named = get_d_any r.target_outputs (position v replaced) (made 255) none (omega (arith, length-target-outputs block)) in
+    let named = get_or_any r.target_outputs (position v replaced) (made 255) none (omega (arith, length-target-outputs block)) in
     rw t (resolve_same g r images places h (get_or r.target_outputs (position v replaced) none)
     (rw named at (inside.outputs (position v replaced) few))))
     (λ (t : member v replaced ≡ false). simp t)

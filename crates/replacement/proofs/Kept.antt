@@ -22,7 +22,7 @@ use Rattle.definitions.specs.Graph.{unused_place, Slot, Graph, renamed, slot_of,
 use Rattle.definitions.specs.Rule.{Origin, given, made, Rule, source_of, target_of, is_rule_input, origin_fits}
 use Rattle.definitions.specs.Match.{image_of, output_images}
 use Rattle.definitions.specs.Rewriting.{stays, place_of, resolve, redirect, target_slot, staying_slot, new_graph}
-use Rattle.definitions.specs.Results.{Meaning, originResult, result_at, AreResults, AreSourceResults, AreTargetResults, SameOutputs, Untouched, KeepsUntouched, KeepsStaying, KeepsOutputs}
+use Rattle.definitions.specs.Results.{Meaning, origin_result, result_at, AreResults, AreSourceResults, AreTargetResults, SameOutputs, Untouched, KeepsUntouched, KeepsStaying, KeepsOutputs}
 use Rattle.laws.proofs.Lists.{decided, map_at, map_same, all-member}
 use Rattle.laws.proofs.Members.{holds, true_holds, mem-at, no_member}
 use Rattle.theory.proofs.Results.{along-edges}
@@ -37,7 +37,7 @@ module _ {ℓ} {R : Type ℓ} (g : Graph) (r : Rule) (images : List ℕ) (values
   target_at : (ℕ → R) → ℕ → R
   target_at target t =
       m.function (target_of r t).kind (target_of r t).operator (map word_of (get_or values t []))
-      (map (originResult source target) (target_of r t).inputs)
+      (map (origin_result source target) (target_of r t).inputs)
 
   -- results by evaluating n names deep; of target vertex n and of later ones, the result means nothing
   deep : ℕ → ℕ → R
@@ -46,8 +46,8 @@ module _ {ℓ} {R : Type ℓ} (g : Graph) (r : Rule) (images : List ℕ) (values
 
   -- a place that fits target vertex t has the same result for two ways to give results that agree on the earlier vertices
   earlier_agree : (one other : ℕ → R) (t : ℕ) → ((u : ℕ) → u < t → one u ≡ other u)
-      → (o : Origin) → origin_fits r t o ≡ true → originResult source one o ≡ originResult source other o
-  unfolding origin_fits originResult
+      → (o : Origin) → origin_fits r t o ≡ true → origin_result source one o ≡ origin_result source other o
+  unfolding origin_fits origin_result
   earlier_agree one other t same (given j) h = refl
   earlier_agree one other t same (made u) h = same u (ltb-true u t h)
 
@@ -57,7 +57,7 @@ module _ {ℓ} {R : Type ℓ} (g : Graph) (r : Rule) (images : List ℕ) (values
   deep_settled zero t l inside = absurd (not-suc-le-zero l)
   deep_settled (suc n) t l inside =
       ap (m.function (target_of r t).kind (target_of r t).operator (map word_of (get_or values t [])))
-      (map_same (originResult source (deep n)) (originResult source (deep (suc n))) (target_of r t).inputs (λ o e.
+      (map_same (origin_result source (deep n)) (origin_result source (deep (suc n))) (target_of r t).inputs (λ o e.
       earlier_agree (deep n) (deep (suc n)) t (λ u k. deep_settled n u (omega arith) (omega arith)) o
       (all-member (origin_fits r t) (site.target_inputs t inside) e)))
 
@@ -133,16 +133,16 @@ module _ {ℓ} {R : Type ℓ} (g : Graph) (r : Rule) (images : List ℕ) (values
 
   -- the place of a target vertex has the rule's result where its inputs have the rule's results
   target-result : (t : ℕ) → t < length r.target
-      → ((o : Origin) → Memᴰ o (target_of r t).inputs → after (resolve g r images o) ≡ originResult source target o)
+      → ((o : Origin) → Memᴰ o (target_of r t).inputs → after (resolve g r images o) ≡ origin_result source target o)
       → after (place_of g r images t) ≡ target t
   unfolding result_at is_variable target_slot
   target-result t l same =
       let v : ℕ = place_of g r images t in
       let s : Slot = target_slot g r images values t in
       let inputs : map after (map (resolve g r images) (target_of r t).inputs)
-      ≡ map (originResult source target) (target_of r t).inputs =
+      ≡ map (origin_result source target) (target_of r t).inputs =
       map-map after (resolve g r images) (target_of r t).inputs
-      ∙ map_same (λ o. after (resolve g r images o)) (originResult source target) (target_of r t).inputs same in
+      ∙ map_same (λ o. after (resolve g r images o)) (origin_result source target) (target_of r t).inputs same in
       new v (true_holds (is_vertex (new_graph g r images values) v) (target-vertex g r images values site t l))
       ∙ ap (λ (k : Slot). slot_result m k v (map after k.inputs)) (slot-target g r images values site t l)
       ∙ function_result m s v (map after s.inputs) (other_kinds (target_of r t).kind (site.target_kinds t l)).1
@@ -158,8 +158,8 @@ module _ {ℓ} {R : Type ℓ} (g : Graph) (r : Rule) (images : List ℕ) (values
 
   -- so a target place that fits has, in the new table, the result that the rule gives it
   resolved : (o : Origin) → origin_fits r (length r.target) o ≡ true → Right (resolve g r images o)
-      → after (resolve g r images o) ≡ originResult source target o
-  unfolding origin_fits resolve originResult source
+      → after (resolve g r images o) ≡ origin_result source target o
+  unfolding origin_fits resolve origin_result source
   resolved (given j) h right = right.0 (input_stays g r images site j h)
   resolved (made t) h right = right.1 t (ltb-true t (length r.target) h) refl
 

@@ -18,7 +18,7 @@ use Rattle.definitions.specs.Graph.{unused_place, Slot, Graph, empty_slot, renam
 use Rattle.definitions.specs.Rule.{Origin, given, made, Rule, source_of, target_of, input_kind, is_rule_input, origin_fits}
 use Rattle.definitions.specs.Match.{image_of, is_interior, is_const, must_be_private, inner_images, Private, output_images}
 use Rattle.definitions.specs.Rewriting.{is_removed, stays, free_slots, place_of, resolve, has_room, redirect, target_slot, staying_slot, new_slot, new_graph}
-use Rattle.laws.proofs.Lists.{decided, true_not_false, fails, and_left, and_right, get_d_any, map_at, all-member}
+use Rattle.laws.proofs.Lists.{decided, true_not_false, fails, and_left, and_right, get_or_any, map_at, all-member}
 use Rattle.laws.proofs.Members.{holds, true_holds, mem_member, member_mem, mem-at, mem_range, position_at, position-inside}
 use Rattle.laws.proofs.Filtered.{mem_filter, filtered_holds, filtered_below, filtered_place}
 use Rattle.laws.proofs.Graph.{slot_past, reader-inside, vertex-inside}
@@ -199,7 +199,7 @@ module _ (g : Graph) (r : Rule) (images : List ℕ) (site : Site g r images) whe
         inside = inside;
         source = sym (map_at (image_of images) r.source_outputs k unused_place 0 inside)
             ∙ position_at v (output_images r images) unused_place h;
-        target = rw h (ap (resolve g r images) (get_d_any r.target_outputs k (made (length r.target)) (made 0) within));
+        target = rw h (ap (resolve g r images) (get_or_any r.target_outputs k (made (length r.target)) (made 0) within));
         fits = all-member (origin_fits r (length r.target)) site.target_outputs (mem-at r.target_outputs k (made 0) within);
       }
 

@@ -1,6 +1,7 @@
 // Rewriting in lent blocks: the replies about the blocks, then 4 to 7, in order. The new table is made beside the old one and judged there; the lent blocks are
 // written last, once the answer is sure.
 #![tactic(auto)]
+
 ghost use Rattle.std.specs.Prelude.{◌≡◌, take};
 ghost use Rattle.definitions.specs.Graph.{graph_of};
 ghost use Rattle.definitions.specs.Rule.{source_count};

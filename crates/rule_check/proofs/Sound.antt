@@ -17,7 +17,7 @@ use Rattle.definitions.specs.Paths.{Reads}
 use Rattle.definitions.specs.Reply.{bad_rule_record, bad_rule_order, bad_rule_expression, done, refused_at}
 use Rattle.definitions.specs.Rule.{side_limit, source_count, target_count, node_count, vertex_at, Rule, rule_of, source_inputs, rule_header_fits, origin_fits, source_inputs_fit, target_inputs_fit, bad_vertex, traversal, out_of_order, reaches, source_outputs_fit, connected, all_named, outputs_fit, node_fits, bad_node, use_fits, bad_use, rule_reply, GoodOutputs, SoundRule, bad_vertex_of}
 use Rattle.definitions.specs.Faults.{None, BadVertex, Misplaced, BadNode, BadUse, RuleFault, header, vertex, order, outputs, node, attribute}
-use Rattle.laws.proofs.Lists.{decided, passes, fails, true_not_false, needed, all-member, all_members, all_below_at, all_below_some, any_below-found, any_below_some, get_d_any}
+use Rattle.laws.proofs.Lists.{decided, passes, fails, true_not_false, needed, all-member, all_members, all_below_at, all_below_some, any_below-found, any_below_some, get_or_any}
 use Rattle.laws.proofs.Faults.{by_place, Decides, found-lowest, found_none, lowest_is, lowest-inside, none_found, Ruling, good, bad, Judges, done_only, done_every}
 use Rattle.laws.proofs.Ranges.{length-range, range_at}
 use Rattle.laws.proofs.Rule.{length-source, length-target, outputs_below, inputs_lower}
@@ -60,7 +60,7 @@ module _ (block : List ℕ) where
 
   order_decided : Decides (out_of_order r) (source_count block) (Misplaced block)
   order_decided = record {
-    only = λ j l t. (l, λ seen. true_not_false t (in_place r j (get_d_any (traversal r) j (length r.source) 0 seen.0 ∙ seen.1)));
+    only = λ j l t. (l, λ seen. true_not_false t (in_place r j (get_or_any (traversal r) j (length r.source) 0 seen.0 ∙ seen.1)));
     every = λ j b. (b.0, passes (λ f. b.1 (visited_in_order r j (rw (length-source block) b.0) f)));
   }
 

@@ -17,7 +17,7 @@ use Rattle.definitions.specs.Paths.{Reads, visit}
 use Rattle.definitions.specs.Rule.{Rule, source_inputs, traversal, out_of_order}
 use Rattle.definitions.specs.Faults.{VisitedInOrder}
 use Rattle.laws.proofs.Faults.{by_place}
-use Rattle.laws.proofs.Lists.{decided, true_not_false, get_d_any}
+use Rattle.laws.proofs.Lists.{decided, true_not_false, get_or_any}
 use Rattle.laws.proofs.Members.{mem_member, distinct_last}
 use Rattle.laws.proofs.Ranges.{length-range, range_at}
 use Rattle.laws.proofs.Sums.{distinct_few}
@@ -101,7 +101,7 @@ module _ (r : Rule) where
       let here : get_or (traversal r) j s ≡ j = eqb-true _ _ (not-false (eqb (get_or (traversal r) j s) j) f) in
       let inside : j < length (traversal r) = by_place (length (traversal r)) j (λ l. l)
       (λ past. absurd (omega (arith, sym here ∙ get_or-eq_default (traversal r) s past))) in
-      (inside, get_d_any (traversal r) j 0 s inside ∙ here)
+      (inside, get_or_any (traversal r) j 0 s inside ∙ here)
 
   -- Where none is out of order, the traversal is 0, 1, .. S - 1.
   pub traversal-whole : ((j u : ℕ) → Reads (source_inputs r) j u → u < j)

@@ -29,29 +29,29 @@ use Rattle.new_words.proofs.Laws.{word_in, value-word}
 use Rattle.target_attributes.specs.declared.Lack.{Lack}
 use Rattle.target_attributes.specs.declared.Fitness.{Fitness}
 use Rattle.target_attributes.specs.declared.Fitness.TheVariants.{Fit, Unfit}
-use Rattle.target_attributes.specs.Words.{isGiven, Given}
+use Rattle.target_attributes.specs.Words.{is_given, Given}
 use Rattle.target_attributes.specs.Fitness.{fit_at, vertex_given, is_fit, first_unfit, vertex_fitness, target_fitness, Told}
 
 -- ---- what is given
 
 module _ {A : Type 0} where
-  pub given_values : (best : Option A) → isGiven best ≡ true → (x : A) × (best ≡ some x)
-  unfolding isGiven
+  pub given_values : (best : Option A) → is_given best ≡ true → (x : A) × (best ≡ some x)
+  unfolding is_given
   given_values none h = absurd (false≢true h)
   given_values (some x) h = (x, refl)
 
-  pub none_given : (best : Option A) → isGiven best ≡ false → best ≡ none
-  unfolding isGiven
+  pub none_given : (best : Option A) → is_given best ≡ false → best ≡ none
+  unfolding is_given
   none_given none h = refl
   none_given (some x) h = absurd (true≢false h)
 
-  given_cond : (b : Bool) (x : A) → isGiven (cond b (some x) none) ≡ b
-  unfolding isGiven
+  given_cond : (b : Bool) (x : A) → is_given (cond b (some x) none) ≡ b
+  unfolding is_given
   given_cond true x = refl
   given_cond false x = refl
 
-  joined_given : (x : Option A) (xs : Option (List A)) → isGiven (joined x xs) ≡ (isGiven x && isGiven xs)
-  unfolding isGiven joined
+  joined_given : (x : Option A) (xs : Option (List A)) → is_given (joined x xs) ≡ (is_given x && is_given xs)
+  unfolding is_given joined
   joined_given none xs = refl
   joined_given (some y) none = refl
   joined_given (some y) (some ys) = refl
@@ -85,27 +85,27 @@ module _ (fit : ℕ → Bool) (n : ℕ) where
 
 -- there are results of all where each has its own
 target_given : (read : ℕ → ℕ → Option ℤ) (ps : List (Pattern Origin))
-    → isGiven (target_results read ps) ≡ all (λ p. isGiven (vertex_results read p)) ps
-unfolding target_results joined all isGiven
+    → is_given (target_results read ps) ≡ all (λ p. is_given (vertex_results read p)) ps
+unfolding target_results joined all is_given
 target_given read [] = refl
 target_given read (p ∷ ps) =
     joined_given (vertex_results read p) (target_results read ps)
-    ∙ ap (λ (b : Bool). isGiven (vertex_results read p) && b) (target_given read ps)
+    ∙ ap (λ (b : Bool). is_given (vertex_results read p) && b) (target_given read ps)
 
 module _ (read : ℕ → ℕ → Option ℤ) (r : Rule) where
-  pub target_lacks : (t : ℕ) → t < length r.target → vertex_given read r t ≡ false → false ≡ isGiven (target_results read r.target)
+  pub target_lacks : (t : ℕ) → t < length r.target → vertex_given read r t ≡ false → false ≡ is_given (target_results read r.target)
   unfolding target_of
   target_lacks t l f =
-      sym (target_given read r.target ∙ all_fails (λ p. isGiven (vertex_results read p)) wildcard r.target t l f)
+      sym (target_given read r.target ∙ all_fails (λ p. is_given (vertex_results read p)) wildcard r.target t l f)
 
-  pub target_found : (t : ℕ) → length r.target ≤ t → all_below (vertex_given read r) t ≡ true → true ≡ isGiven (target_results read r.target)
+  pub target_found : (t : ℕ) → length r.target ≤ t → all_below (vertex_given read r) t ≡ true → true ≡ is_given (target_results read r.target)
   unfolding target_of
   target_found t m h =
-      sym (target_given read r.target ∙ all_every (λ p. isGiven (vertex_results read p)) wildcard r.target
+      sym (target_given read r.target ∙ all_every (λ p. is_given (vertex_results read p)) wildcard r.target
       (λ k l. all_below_at (vertex_given read r) t k h (omega arith)))
 
   -- all are fit exactly where there are results of all
-  pub target_fitness_lem : is_fit (target_fitness read r) ≡ isGiven (target_results read r.target)
+  pub target_fitness_lem : is_fit (target_fitness read r) ≡ is_given (target_results read r.target)
   unfolding target_fitness
   target_fitness_lem =
       fit_below (vertex_given read r) (length r.target)
@@ -118,17 +118,17 @@ module _ (read : ℕ → ℕ → Option ℤ) (r : Rule) where
 
   -- so what is answered says whether there are such
   pub unfit_lacks : {answer : Fitness} {lack : Lack} → answer ≡ target_fitness read r → answer ≡ Unfit lack
-      → isGiven (target_results read r.target) ≡ false
+      → is_given (target_results read r.target) ≡ false
   unfolding is_fit
   unfit_lacks e f = sym target_fitness_lem ∙ ap is_fit (sym e ∙ f)
 
-  pub fit_found : {answer : Fitness} → answer ≡ target_fitness read r → answer ≡ Fit → isGiven (target_results read r.target) ≡ true
+  pub fit_found : {answer : Fitness} → answer ≡ target_fitness read r → answer ≡ Fit → is_given (target_results read r.target) ≡ true
   unfolding is_fit
   fit_found e f = sym target_fitness_lem ∙ ap is_fit (sym e ∙ f)
 
 -- what is told of the results of one says whether there are such
-pub told_given : (best : Option (List ℤ)) (ok : Bool) (words : List ℕ) → Given best ok words → isGiven best ≡ ok
-unfolding isGiven
+pub told_given : (best : Option (List ℤ)) (ok : Bool) (words : List ℕ) → Given best ok words → is_given best ≡ ok
+unfolding is_given
 told_given best true words g = rw (g.found refl).1
 told_given best false words g = rw (g.lacking refl)
 
@@ -139,8 +139,8 @@ abbrev checked : ℕ → Option (List ℤ) → Option (List ℤ)
 checked kind best = kept (index_fits kind) best
 
 checked-joined : (kind : ℕ) (x : Option ℤ) (xs : Option (List ℤ))
-    → isGiven (checked kind (joined x xs)) ≡ (index_like kind x && isGiven (checked kind xs))
-unfolding isGiven joined kept index_like index_fits all
+    → is_given (checked kind (joined x xs)) ≡ (index_like kind x && is_given (checked kind xs))
+unfolding is_given joined kept index_like index_fits all
 checked-joined kind none xs = refl
 checked-joined kind (some z) none = sym (and-false (index_like kind (some z)))
 checked-joined kind (some z) (some zs) =
@@ -149,8 +149,8 @@ checked-joined kind (some z) (some zs) =
     ∙ ap (λ (b : Bool). index_like kind (some z) && b) (sym (given_cond (index_fits kind zs) zs))
 
 checked_given : (read : ℕ → ℕ → Option ℤ) (kind : ℕ) (es : List Expression)
-    → isGiven (checked kind (results read es)) ≡ all (λ e. index_like kind (result_of read e)) es
-unfolding results joined kept all isGiven index_fits
+    → is_given (checked kind (results read es)) ≡ all (λ e. index_like kind (result_of read e)) es
+unfolding results joined kept all is_given index_fits
 checked_given read kind [] = given_cond (index_fits kind []) [] ∙ or-true (not (eqb kind kind_proj))
 checked_given read kind (e ∷ es) =
     checked-joined kind (result_of read e) (results read es)
@@ -178,7 +178,7 @@ module _ (read : ℕ → ℕ → Option ℤ) (p : Pattern Origin) where
   abbrev pub words_to : ℕ → List ℕ
   words_to i = padded attribute_limit 0 (map (λ e. word_in (result_of read e)) (take i p.attributes))
 
-  vertex_given_lem : isGiven (vertex_results read p) ≡ all (λ e. index_like p.kind (result_of read e)) p.attributes
+  vertex_given_lem : is_given (vertex_results read p) ≡ all (λ e. index_like p.kind (result_of read e)) p.attributes
   unfolding vertex_results kept
   vertex_given_lem = checked_given read p.kind p.attributes
 

@@ -10,7 +10,7 @@ use Rattle.new_words.specs.Words.{index_like}
 use Rattle.target_attributes.specs.declared.Fitness.{Fitness}
 use Rattle.target_attributes.specs.declared.Fitness.TheVariants.{Fit, Unfit}
 use Rattle.target_attributes.specs.declared.Words.{Words}
-use Rattle.target_attributes.specs.Words.{isGiven, Given}
+use Rattle.target_attributes.specs.Words.{is_given, Given}
 
 -- attribute i of a target vertex has a fit result
 abbrev pub fit_at : (ℕ → ℕ → Option ℤ) → Pattern Origin → ℕ → Bool
@@ -18,7 +18,7 @@ fit_at read p i = index_like p.kind (result_of read (get_or p.attributes i anyth
 
 -- all attributes of target vertex t have fit results
 abbrev pub vertex_given : (ℕ → ℕ → Option ℤ) → Rule → ℕ → Bool
-vertex_given read r t = isGiven (vertex_results read (target_of r t))
+vertex_given read r t = is_given (vertex_results read (target_of r t))
 
 -- whether an answer says that all are fit
 unfoldable pub is_fit : Fitness → Bool

@@ -6,9 +6,9 @@ use Rattle.definitions.specs.Lists.{padded}
 use Rattle.definitions.specs.Fields.{word_of}
 use Rattle.definitions.specs.Graph.{attribute_limit}
 
-unfoldable pub isGiven {ℓ} : {A : Type ℓ} → Option A → Bool
-isGiven none = false
-isGiven (some x) = true
+unfoldable pub is_given {ℓ} : {A : Type ℓ} → Option A → Bool
+is_given none = false
+is_given (some x) = true
 
 -- `best` are the results, where there are such; then these are their words, and zero stands in the unused places
 pub record Given (best : Option (List ℤ)) (ok : Bool) (words : List ℕ) : Type 0 where

@@ -15,7 +15,7 @@ use Rattle.definitions.specs.Lists.{filter, member, position, range}
 use Rattle.definitions.specs.Paths.{Reads, Acyclic}
 use Rattle.definitions.specs.Graph.{unused_place, Slot, Graph, empty_slot, renamed, slot_of, inputs_of, is_vertex}
 use Rattle.definitions.specs.Squeeze.{vertices_of, moved_to, squeezed_slot, squeeze}
-use Rattle.laws.proofs.Lists.{decided, true_not_false, length-tabulate, get_d_tabulate, map_same}
+use Rattle.laws.proofs.Lists.{decided, true_not_false, length-tabulate, get_or_tabulate, map_same}
 use Rattle.laws.proofs.Graph.{slot_past, vertex-inside}
 use Rattle.laws.proofs.Members.{mem_range, mem_member, position_at, position-inside}
 use Rattle.laws.proofs.Filtered.{mem_filter, filtered_most, filtered_after, filtered_all, filtered_holds, filtered_place, filtered_position}
@@ -86,13 +86,13 @@ module _ (g : Graph) where
   pub squeezed_slot_lem : (k : ℕ) → k < vertex_count → slot_of (squeeze g) k ≡ renamed (moved_to g) (slot_of g (comes_from k))
   unfolding squeeze squeezed_slot slot_of
   squeezed_slot_lem k l =
-      get_d_tabulate slots (squeezed_slot g) k empty_slot (omega (arith, count_most)) ∙ rw (lt-ltb k vertex_count l)
+      get_or_tabulate slots (squeezed_slot g) k empty_slot (omega (arith, count_most)) ∙ rw (lt-ltb k vertex_count l)
 
   pub squeezed_empty : (k : ℕ) → vertex_count ≤ k → slot_of (squeeze g) k ≡ empty_slot
   unfolding squeeze squeezed_slot slot_of
   squeezed_empty k l = ⊎_elim
       (λ (t : ltb k slots ≡ true).
-      get_d_tabulate slots (squeezed_slot g) k empty_slot (ltb-true k slots t) ∙ rw (le-ltb k vertex_count l))
+      get_or_tabulate slots (squeezed_slot g) k empty_slot (ltb-true k slots t) ∙ rw (le-ltb k vertex_count l))
       (λ (t : ltb k slots ≡ false). slot_past (squeeze g) k (omega (arith, squeezed_size, ltb-false k slots t)))
       (decided (ltb k slots))
 

@@ -15,7 +15,7 @@ use Rattle.definitions.specs.Operators.{kind_empty, kind_variable, kind_call, ro
 use Rattle.definitions.specs.Paths.{Reads, Reaches, here, onward, ReachesOne, Acyclic, is_marked}
 use Rattle.definitions.specs.Graph.{Slot, Graph, empty_slot, slot_of, inputs_of, is_vertex, is_variable}
 use Rattle.definitions.specs.Sweep.{Unneeded, reaching_outputs, is_unneeded, swept_slot, sweep}
-use Rattle.laws.proofs.Lists.{decided, true_not_false, fails, and_left, and_right, length-tabulate, get_d_tabulate, length_none}
+use Rattle.laws.proofs.Lists.{decided, true_not_false, fails, and_left, and_right, length-tabulate, get_or_tabulate, length_none}
 use Rattle.laws.proofs.Graph.{slot_past, reader-inside, vertex-inside}
 use Rattle.laws.proofs.Operators.{row-inputs}
 use Rattle.theory.proofs.Paths.{reaches_trans}
@@ -74,7 +74,7 @@ module _ (g : Graph) (table : Table g) where
   unfolding sweep slot_of swept_slot
   swept_at v = ⊎_elim
       (λ (t : ltb v (length g.slots) ≡ true).
-      get_d_tabulate (length g.slots) (swept_slot g marks) v empty_slot (ltb-true v (length g.slots) t))
+      get_or_tabulate (length g.slots) (swept_slot g marks) v empty_slot (ltb-true v (length g.slots) t))
       (λ (t : ltb v (length g.slots) ≡ false).
       let past = ltb-false v (length g.slots) t in
       slot_past (sweep g) v (omega (arith, swept_size)) ∙ sym (both v (is_unneeded g marks v) refl past))

@@ -16,7 +16,7 @@ use Rattle.definitions.specs.Paths.{Reads}
 use Rattle.definitions.specs.Graph.{unused_place, Graph, inputs_of}
 use Rattle.definitions.specs.Rule.{side_limit, Pattern, Rule, wildcard, source_of, source_inputs}
 use Rattle.definitions.specs.Match.{image_of, Match, output_images, from_reader, images_from, images_for}
-use Rattle.laws.proofs.Lists.{decided, true_not_false, fails, length-tabulate, get_d_tabulate, map_same}
+use Rattle.laws.proofs.Lists.{decided, true_not_false, fails, length-tabulate, get_or_tabulate, map_same}
 use Rattle.laws.proofs.Members.{member_mem, mem_member, mem-place, position-image}
 use Rattle.laws.proofs.Rule.{source-reader}
 use Rattle.theory.proofs.Fixing.{from-reader}
@@ -48,7 +48,7 @@ module _ (g : Graph) (p : Rule) (f : ℕ → ℕ) (low : ℕ) (chosen : List ℕ
       let below : w < length p.source = source-reader p w v m in
       let same : suc v + (w - suc v) ≡ w = omega arith in
       from-reader g f v ps (later (suc v) k) (size ∙ sym (length-tabulate k (λ i. f (suc v + i)))) (λ i b t.
-      rw (get_d_tabulate k (λ i. f (suc v + i)) i unused_place (rw size at b), get_or-drop (suc v) p.source i wildcard)
+      rw (get_or_tabulate k (λ i. f (suc v + i)) i unused_place (rw size at b), get_or-drop (suc v) p.source i wildcard)
       (reads (suc v + i) v l (member_mem v (source_inputs p (suc v + i)) (rw (get_or-drop (suc v) p.source i wildcard) at t))))
       (w - suc v) (omega arith) (rw (get_or-drop (suc v) p.source (w - suc v) wildcard, same) (mem_member m))
 

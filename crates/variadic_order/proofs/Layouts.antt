@@ -14,7 +14,7 @@ use Rattle.definitions.specs.Fields.{byte_at}
 use Rattle.definitions.specs.Operators.{shape_fits}
 use Rattle.definitions.specs.Rule.{side_limit, target_base, rule_output_limit, source_count, target_count, rule_output_count, node_count, vertex_at, node_at, made, origin_by, origin_of, Rule, rule_of, target_of, rule_sizes_fit, rule_output_places_fit, origin_fits, source_inputs_fit, target_inputs_fit, outputs_fit}
 use Rattle.definitions.specs.VariadicBlock.{template_mark, variadic_of, unmarked, variadic_header_fits, marked_pattern_fits}
-use Rattle.laws.proofs.Lists.{decided, needed, length-tabulate, get_d_tabulate, all-at, all_below_at}
+use Rattle.laws.proofs.Lists.{decided, needed, length-tabulate, get_or_tabulate, all-at, all_below_at}
 use Rattle.laws.proofs.Operators.{few_inputs_lem}
 use Rattle.laws.proofs.Rule.{length-target, length-target-outputs, target-output_of}
 use Rattle.variadic_order.specs.Sides.{place_count, place_of, SideLayout, OutputLayout}
@@ -23,7 +23,7 @@ use Rattle.variadic_order.proofs.Sides.{source-inputs, target-inputs}
 -- a test that holds of all elements of a list that is given by their numbers
 each : {A : Type 0} (p : A → Bool) (m : ℕ) (f : ℕ → A) (i : ℕ) → all p (tabulate m f) ≡ true → i < m → p (f i) ≡ true
 each p m f i h l =
-    ap p (sym (get_d_tabulate m f i (f i) l)) ∙ all-at p (f i) (tabulate m f) i h (rw (length-tabulate m f) l)
+    ap p (sym (get_or_tabulate m f i (f i) l)) ∙ all-at p (f i) (tabulate m f) i h (rw (length-tabulate m f) l)
 
 -- a place of the target that fits names a rule input, or a target vertex below t
 place_below_lem : (r : Rule) (t p : ℕ) → origin_fits r t (origin_of p) ≡ true → p < target_base + t

@@ -15,7 +15,7 @@ use Rattle.definitions.specs.Lists.{tabulate, foldl, concat_map, member, range}
 use Rattle.definitions.specs.Fields.{byte_at}
 use Rattle.definitions.specs.Paths.{visit}
 use Rattle.definitions.specs.Rule.{side_limit, target_base, source_count, target_count, rule_output_count, vertex_at, Origin, origin_by, origin_of, Pattern, attribute_in, pattern_from, rule_by, rule_of, wildcard, source_of, target_of, source_inputs}
-use Rattle.definitions.specs.Variadic.{copy, original, copy_index, made_of, VariadicRule, source_copy, origin_copy, fields, source_names, target_names, source_order, target_order}
+use Rattle.definitions.specs.Variadic.{original, copy_index, made_of, VariadicRule, source_copy, origin_copy, fields, source_names, target_names, source_order, target_order}
 use Rattle.definitions.specs.VariadicBlock.{unmarked, variadic_of}
 use Rattle.laws.proofs.Lists.{decided}
 use Rattle.laws.proofs.Members.{concat_mem, range_mem}

@@ -1,6 +1,7 @@
 // The copies of a variadic rule's vertices in visiting order, on either side: what a copy names comes before the copy, left to right, each
 // copy once, from the listed outputs. A shared vertex is its own number, and copy i of a template v is v + 16 i.
 #![tactic(auto)]
+
 ghost use Rattle.std.specs.Prelude.{◌≡◌, ◌+◌, ◌*◌, ◌<◌, ◌≤◌, length};
 ghost use Rattle.definitions.specs.Graph.{input_limit};
 ghost use Rattle.definitions.specs.Rule.{pattern_bytes, target_base, source_count, target_count, vertex_at};

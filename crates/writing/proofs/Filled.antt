@@ -13,16 +13,16 @@ use Rattle.writing.proofs.Written.{take_sets}
 pub filled_up : (l head xs ys zs : List ℕ) (a b c n : ℕ) → a ≤ b → b ≤ c → c ≤ n → length l ≡ n
     → length head ≡ a → length xs ≡ b - a → length ys ≡ c - b → length zs ≡ n - c
     → put_part c n (put_part b c (put_part a b (sets l 0 head) xs) ys) zs ≡ head ++ xs ++ ys ++ zs
-filled_up l head xs ys zs a b c n ab bc cn size headSize xsSize ysSize zsSize =
+filled_up l head xs ys zs a b c n ab bc cn size head_size xs_size ys_size zs_size =
     let none : 0 + length head ≡ a = omega arith in
     let h : length (sets l 0 head) ≡ n = length-sets l 0 head ∙ size in
     let first : take a (sets l 0 head) ≡ head = rw none at (take_sets head l 0 (omega arith)) in
     let second = put_part a b (sets l 0 head) xs in
-    let i : length second ≡ n = length_part a b (sets l 0 head) xs ab xsSize (omega arith) ∙ h in
+    let i : length second ≡ n = length_part a b (sets l 0 head) xs ab xs_size (omega arith) ∙ h in
     let third = put_part b c second ys in
-    let j : length third ≡ n = length_part b c second ys bc ysSize (omega arith) ∙ i in
-    let k : length (put_part c n third zs) ≡ n = length_part c n third zs cn zsSize (omega arith) ∙ j in
+    let j : length third ≡ n = length_part b c second ys bc ys_size (omega arith) ∙ i in
+    let k : length (put_part c n third zs) ≡ n = length_part c n third zs cn zs_size (omega arith) ∙ j in
     sym (take_all n (put_part c n third zs) (omega arith))
-    ∙ part_more c n third zs cn zsSize (head ++ xs ++ ys) (omega arith)
-    (part_more b c second ys bc ysSize (head ++ xs) (omega arith)
-    (part_more a b (sets l 0 head) xs ab xsSize head (omega arith) first))
+    ∙ part_more c n third zs cn zs_size (head ++ xs ++ ys) (omega arith)
+    (part_more b c second ys bc ys_size (head ++ xs) (omega arith)
+    (part_more a b (sets l 0 head) xs ab xs_size head (omega arith) first))

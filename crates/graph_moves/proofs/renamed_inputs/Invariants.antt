@@ -6,7 +6,7 @@ use lib.ListN.{get_or, take}
 use lib.Seq.{length-take-le, get_or-take}
 use Rattle.definitions.specs.Lists.{padded}
 use Rattle.definitions.specs.Graph.{slot_limit, input_limit, unused_place}
-use Rattle.laws.proofs.Lists.{get_d_any}
+use Rattle.laws.proofs.Lists.{get_or_any}
 use Rattle.laws.proofs.Filling.{Filling, filling_none, filling_more, filling_all}
 use Rattle.graph_moves.specs.Moving.{name_in}
 use Rattle.graph_moves.proofs.renamed_inputs.Given as goal

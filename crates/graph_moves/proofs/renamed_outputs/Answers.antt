@@ -3,7 +3,7 @@ use Prim.Native.Nat.{ℕ, ◌-◌, ◌<◌, ◌≤◌}
 use native.Mathlib.Omega.{arith}
 use Rattle.definitions.specs.Lists.{padded}
 use Rattle.definitions.specs.Graph.{slot_limit, output_limit, unused_place, output_count, graph_of}
-use Rattle.laws.proofs.Lists.{get_d_any}
+use Rattle.laws.proofs.Lists.{get_or_any}
 use Rattle.laws.proofs.Graph.{length-outputs}
 use Rattle.laws.proofs.Filling.{Filling, filling_none, filling_more, filling_all}
 use Rattle.graph_moves.specs.Moving.{name_in}
@@ -21,4 +21,4 @@ loop-i-preserved c = let one_left : c.loop-i.i < output_count c.args.graph.now =
     let named : c.output_at.result < slot_limit = rw c.output_at.ensures.0
     (below_limit (c.requires.outputs_named.named _ (omega (arith, one_left))) c.requires.whole_graph.slots) in
     filling_more unused_place c.loop-i.invariant c.loop-i-test.true
-    (get_d_any c.args.to.now c.output_at.result 0 unused_place (omega (arith, named, c.requires.to_len)) ∙ ap (name_in c.args.to.now) c.output_at.ensures.0)
+    (get_or_any c.args.to.now c.output_at.result 0 unused_place (omega (arith, named, c.requires.to_len)) ∙ ap (name_in c.args.to.now) c.output_at.ensures.0)

@@ -4,7 +4,7 @@ use Prim.Native.Nat.{ℕ, ◌-◌, ◌<◌, ◌≤◌}
 use native.Mathlib.Omega.{arith}
 use Rattle.definitions.specs.Lists.{padded}
 use Rattle.definitions.specs.Graph.{slot_limit, output_limit, unused_place, output_count, graph_of}
-use Rattle.laws.proofs.Lists.{get_d_any}
+use Rattle.laws.proofs.Lists.{get_or_any}
 use Rattle.laws.proofs.Graph.{length-outputs}
 use Rattle.laws.proofs.Filling.{Filling, filling_none, filling_more, filling_all}
 use Rattle.graph_moves.specs.Moving.{name_in}

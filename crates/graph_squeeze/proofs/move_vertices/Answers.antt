@@ -9,7 +9,7 @@ use Rattle.definitions.specs.Lists.{padded}
 use Rattle.definitions.specs.Fields.{Bytes}
 use Rattle.definitions.specs.Graph.{header_bytes, slot_limit, output_limit, unused_place, graph_version, slot_count, record_at, graph_of, block_as}
 use Rattle.definitions.specs.Squeeze.{squeeze}
-use Rattle.laws.proofs.Lists.{get_d_any}
+use Rattle.laws.proofs.Lists.{get_or_any}
 use Rattle.laws.proofs.Padded.{length-padded}
 use Rattle.laws.proofs.Parts.{put_part, length_part}
 use Rattle.laws.proofs.Graph.{length-outputs}
@@ -51,7 +51,7 @@ loop-k-preserved c = let inside : c.loop-k.k < slot_count c.args.graph.now = ome
       omega (arith, c.loop-k-test.true),
       elim c.if-k-count.branch [
         | goal.then-k-count w ↦ let named : w.widened.result ≡ name_in c.args.from.now c.loop-k.k =
-            w.widened.ensures ∙ get_d_any c.args.from.now c.loop-k.k 0 unused_place (omega (arith, low, c.requires.moving.from_size)) in
+            w.widened.ensures ∙ get_or_any c.args.from.now c.loop-k.k 0 unused_place (omega (arith, low, c.requires.moving.from_size)) in
             rw w.graph-is (step-vertex c.args.graph.now c.requires.sound_graph (λ at. omega (arith, c.slice_known-1.given at)) c.args.count c.args.from.now c.args.to.now c.requires.moving c.loop-k.k inside c.loop-k.invariant.1 w.if-k-count.true
             (rw named at w.move_slot.ensures))
         | goal.else-k-count w ↦ rw w.graph-is (step_empty c.args.graph.now c.requires.sound_graph (λ at. omega (arith, c.slice_known-1.given at)) c.args.count c.args.from.now c.args.to.now c.requires.moving c.loop-k.k inside c.loop-k.invariant.1 w.if-k-count.false
@@ -87,7 +87,7 @@ pub move_slot-requires-clause-held_slot : goal.move_slot-requires-clause-held_sl
 move_slot-requires-clause-held_slot c = let inside : c.loop-k.k < slot_count c.args.graph.now = omega (arith, c.loop-k-test.true, c.slot_count-slots.ensures.0) in
     let whole : WholeGraph c.args.graph.now = (graph_readable c.args.graph.now c.requires.sound_graph).whole in
     let low : c.loop-k.k < slot_limit = omega (arith, inside, whole.slots) in
-    let looked_up : c.widened.result ≡ name_in c.args.from.now c.loop-k.k = c.widened.ensures ∙ get_d_any c.args.from.now c.loop-k.k 0 unused_place (omega (arith, low, c.requires.moving.from_size)) in
+    let looked_up : c.widened.result ≡ name_in c.args.from.now c.loop-k.k = c.widened.ensures ∙ get_or_any c.args.from.now c.loop-k.k 0 unused_place (omega (arith, low, c.requires.moving.from_size)) in
     let graph-length : length c.loop-k.graph ≡ record_at (slot_count c.args.graph.now) = c.loop-k.invariant.1.size ∙ middle-length c.args.graph.now c.requires.sound_graph (λ at. omega (arith, c.slice_known-1.given at)) in
     let ready = move_ready c.args.graph.now c.requires.sound_graph (λ at. omega (arith, c.slice_known-1.given at)) c.args.count c.args.from.now c.args.to.now c.requires.moving c.loop-k.k inside c.loop-k.invariant.1
     c.if-k-count.true in rw looked_up ready.0
@@ -96,7 +96,7 @@ pub move_slot-requires-clause-k_le_v : goal.move_slot-requires-clause-k_le_v
 move_slot-requires-clause-k_le_v c = let inside : c.loop-k.k < slot_count c.args.graph.now = omega (arith, c.loop-k-test.true, c.slot_count-slots.ensures.0) in
     let whole : WholeGraph c.args.graph.now = (graph_readable c.args.graph.now c.requires.sound_graph).whole in
     let low : c.loop-k.k < slot_limit = omega (arith, inside, whole.slots) in
-    let looked_up : c.widened.result ≡ name_in c.args.from.now c.loop-k.k = c.widened.ensures ∙ get_d_any c.args.from.now c.loop-k.k 0 unused_place (omega (arith, low, c.requires.moving.from_size)) in
+    let looked_up : c.widened.result ≡ name_in c.args.from.now c.loop-k.k = c.widened.ensures ∙ get_or_any c.args.from.now c.loop-k.k 0 unused_place (omega (arith, low, c.requires.moving.from_size)) in
     let graph-length : length c.loop-k.graph ≡ record_at (slot_count c.args.graph.now) = c.loop-k.invariant.1.size ∙ middle-length c.args.graph.now c.requires.sound_graph (λ at. omega (arith, c.slice_known-1.given at)) in
     let ready = move_ready c.args.graph.now c.requires.sound_graph (λ at. omega (arith, c.slice_known-1.given at)) c.args.count c.args.from.now c.args.to.now c.requires.moving c.loop-k.k inside c.loop-k.invariant.1
     c.if-k-count.true in rw looked_up ready.1
@@ -105,7 +105,7 @@ pub move_slot-requires-clause-v_in_bounds : goal.move_slot-requires-clause-v_in_
 move_slot-requires-clause-v_in_bounds c = let inside : c.loop-k.k < slot_count c.args.graph.now = omega (arith, c.loop-k-test.true, c.slot_count-slots.ensures.0) in
     let whole : WholeGraph c.args.graph.now = (graph_readable c.args.graph.now c.requires.sound_graph).whole in
     let low : c.loop-k.k < slot_limit = omega (arith, inside, whole.slots) in
-    let looked_up : c.widened.result ≡ name_in c.args.from.now c.loop-k.k = c.widened.ensures ∙ get_d_any c.args.from.now c.loop-k.k 0 unused_place (omega (arith, low, c.requires.moving.from_size)) in
+    let looked_up : c.widened.result ≡ name_in c.args.from.now c.loop-k.k = c.widened.ensures ∙ get_or_any c.args.from.now c.loop-k.k 0 unused_place (omega (arith, low, c.requires.moving.from_size)) in
     let graph-length : length c.loop-k.graph ≡ record_at (slot_count c.args.graph.now) = c.loop-k.invariant.1.size ∙ middle-length c.args.graph.now c.requires.sound_graph (λ at. omega (arith, c.slice_known-1.given at)) in
     let ready = move_ready c.args.graph.now c.requires.sound_graph (λ at. omega (arith, c.slice_known-1.given at)) c.args.count c.args.from.now c.args.to.now c.requires.moving c.loop-k.k inside c.loop-k.invariant.1
     c.if-k-count.true in rw looked_up (omega (arith, ready.2, graph-length))

@@ -10,7 +10,7 @@ use Rattle.definitions.specs.Lists.{padded}
 use Rattle.definitions.specs.Fields.{Bytes}
 use Rattle.definitions.specs.Graph.{header_bytes, slot_limit, output_limit, unused_place, graph_version, slot_count, record_at, graph_of, block_as}
 use Rattle.definitions.specs.Squeeze.{squeeze}
-use Rattle.laws.proofs.Lists.{get_d_any}
+use Rattle.laws.proofs.Lists.{get_or_any}
 use Rattle.laws.proofs.Padded.{length-padded}
 use Rattle.laws.proofs.Parts.{put_part, length_part}
 use Rattle.laws.proofs.Graph.{length-outputs}

@@ -6,7 +6,7 @@ use lib.ListN.{take}
 use lib.Seq.{length-take-le, get_or-take}
 use Rattle.definitions.specs.Lists.{padded}
 use Rattle.definitions.specs.Graph.{unused_place}
-use Rattle.laws.proofs.Lists.{get_d_any}
+use Rattle.laws.proofs.Lists.{get_or_any}
 use Rattle.laws.proofs.Filling.{Filling, filling_none, filling_more, filling_all}
 use Rattle.listing_lists.specs.Lists.{list_limit}
 use Rattle.listing_lines.proofs.places_of.Goals as goal
@@ -18,7 +18,7 @@ loop-i-init c = filling_none (sym (length-take-le c.args.count c.args.«words» 
 pub loop-i-preserved : goal.loop-i-preserved
 loop-i-preserved c = let few : c.loop-i.i < list_limit = omega (arith, c.loop-i-test.true, c.requires.count_le_list_limit) in
     filling_more unused_place c.loop-i.invariant c.loop-i-test.true
-    (get_d_any c.args.«words» c.loop-i.i 0 unused_place (omega (arith, few, c.requires.words_len))
+    (get_or_any c.args.«words» c.loop-i.i 0 unused_place (omega (arith, few, c.requires.words_len))
     ∙ sym (get_or-take c.args.count c.args.«words» c.loop-i.i unused_place c.loop-i-test.true))
 
 pub returns : goal.returns

@@ -7,7 +7,7 @@ use lib.ListN.{take}
 use lib.Seq.{length-take-le, get_or-take}
 use Rattle.definitions.specs.Lists.{padded}
 use Rattle.definitions.specs.Graph.{unused_place}
-use Rattle.laws.proofs.Lists.{get_d_any}
+use Rattle.laws.proofs.Lists.{get_or_any}
 use Rattle.laws.proofs.Filling.{Filling, filling_none, filling_more, filling_all}
 use Rattle.listing_lists.specs.Lists.{list_limit}
 use Rattle.listing_lines.proofs.places_of.Given as goal

@@ -17,7 +17,7 @@ use Rattle.listing_slots.proofs.Stopping.{no_lines}
 use Rattle.listing_slots.proofs.read_lines.Given as goal
 
 abbrev pub invariant-loop-table : goal.invariant-loop-table
-invariant-loop-table l = (place ≤ length l.text) × (length l.from ≡ length l.initial.table) × Going l.size l.text l.at l.place place l.from
+invariant-loop-table l = (l.place ≤ length l.text) × (length l.table ≡ length l.initial.table) × Going l.size l.text l.at l.from l.place l.table
 
 abbrev pub decreases-loop-table : goal.decreases-loop-table
-decreases-loop-table l = l.size - l.place
+decreases-loop-table l = l.size - l.from

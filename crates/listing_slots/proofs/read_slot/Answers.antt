@@ -29,18 +29,18 @@ use Rattle.listing_slots.proofs.read_slot.Goals as goal
 
 pub returns-then-number : goal.returns-then-number
 returns-then-number c = no_slot c.args.from c.args.size c.args.text.now c.args.at c.args.table.now c.read_natural-number.result.next c.read_natural-number.ensures.next_in_bounds
-    (λ f. (let numbered : answer_from (number (slot_field c.args.from c.args.size) nothing (λ z. (λ v. line_form v f) (magnitude z))) c.args.at
-    (drop c.args.at c.args.text.now) ≡ go_on (λ v. line_form v f) c.args.text.now (part_of c.read_natural-number.result) = ap (λ (F : Field). answer_from (number F nothing (λ z. (λ v. line_form v f) (magnitude z))) c.args.at (drop c.args.at c.args.text.now)) (sym c.slot_field.ensures)
-    ∙ c.read_natural-number.ensures.part_read (λ v. line_form v f) in numbered)
-    ∙ go_stopped (λ v. line_form v f) c.args.text.now c.read_natural-number.result.value c.read_natural-number.result.next c.if-number.true)
+    (λ f. (let numbered : answer_from (number (slot_field c.args.from c.args.size) nothing (λ z. (λ (v : ℕ). line_form v f) (magnitude z))) c.args.at
+    (drop c.args.at c.args.text.now) ≡ go_on (λ (v : ℕ). line_form v f) c.args.text.now (part_of c.read_natural-number.result) = ap (λ (F : Field). answer_from (number F nothing (λ z. (λ (v : ℕ). line_form v f) (magnitude z))) c.args.at (drop c.args.at c.args.text.now)) (sym c.slot_field.ensures)
+    ∙ c.read_natural-number.ensures.part_read (λ (v : ℕ). line_form v f) in numbered)
+    ∙ go_stopped (λ (v : ℕ). line_form v f) c.args.text.now c.read_natural-number.result.value c.read_natural-number.result.next c.if-number.true)
 
 pub returns-then-line : goal.returns-then-line
 returns-then-line c = no_slot c.args.from c.args.size c.args.text.now c.args.at c.args.table.now c.read_line-line.result.next (c.read_line-line.ensures c.read_natural-number.result.value).next
     (λ f. (let lined : answer_from (slot_form c.args.from c.args.size f) c.args.at (drop c.args.at c.args.text.now)
-    ≡ go_on f c.args.text.now (got_if c.read_line-line.result.stopped (c.read_line-line.ensures c.read_natural-number.result.value).line c.read_line-line.result.next) = (let numbered : answer_from (number (slot_field c.args.from c.args.size) nothing (λ z. (λ k. line_form k f) (magnitude z))) c.args.at
-    (drop c.args.at c.args.text.now) ≡ go_on (λ k. line_form k f) c.args.text.now (part_of c.read_natural-number.result) = ap (λ (F : Field). answer_from (number F nothing (λ z. (λ k. line_form k f) (magnitude z))) c.args.at (drop c.args.at c.args.text.now)) (sym c.slot_field.ensures)
-    ∙ c.read_natural-number.ensures.part_read (λ k. line_form k f) in numbered)
-    ∙ go_behind (λ k. line_form k f) c.args.text.now c.read_natural-number.result.value c.read_natural-number.result.next c.if-number.false
+    ≡ go_on f c.args.text.now (got_if c.read_line-line.result.stopped (c.read_line-line.ensures c.read_natural-number.result.value).line c.read_line-line.result.next) = (let numbered : answer_from (number (slot_field c.args.from c.args.size) nothing (λ z. (λ (k : ℕ). line_form k f) (magnitude z))) c.args.at
+    (drop c.args.at c.args.text.now) ≡ go_on (λ (k : ℕ). line_form k f) c.args.text.now (part_of c.read_natural-number.result) = ap (λ (F : Field). answer_from (number F nothing (λ z. (λ (k : ℕ). line_form k f) (magnitude z))) c.args.at (drop c.args.at c.args.text.now)) (sym c.slot_field.ensures)
+    ∙ c.read_natural-number.ensures.part_read (λ (k : ℕ). line_form k f) in numbered)
+    ∙ go_behind (λ (k : ℕ). line_form k f) c.args.text.now c.read_natural-number.result.value c.read_natural-number.result.next c.if-number.false
     ∙ (c.read_line-line.ensures c.read_natural-number.result.value).goes f in lined) ∙ go_stopped f c.args.text.now (c.read_line-line.ensures c.read_natural-number.result.value).line c.read_line-line.result.next c.if-line.true)
 
 pub returns : goal.returns
@@ -54,12 +54,12 @@ returns c = let inside : (c.args.from ≤ c.read_natural-number.result.value) ×
     omega (arith, b.1, c.requires.from_lt_size.1, c.requires.table_len, c.clear_slots.ensures.size) in
     record {
       line = (c.read_line-line.ensures c.read_natural-number.result.value).line;
-      c.if-line.false = λ f. (let lined : answer_from (slot_form c.args.from c.args.size f) c.args.at (drop c.args.at c.args.text.now)
-    ≡ go_on f c.args.text.now (got_if c.read_line-line.result.stopped (c.read_line-line.ensures c.read_natural-number.result.value).line c.read_line-line.result.next) = (let numbered : answer_from (number (slot_field c.args.from c.args.size) nothing (λ z. (λ k. line_form k f) (magnitude z))) c.args.at
-    (drop c.args.at c.args.text.now) ≡ go_on (λ k. line_form k f) c.args.text.now (part_of c.read_natural-number.result) = ap (λ (F : Field). answer_from (number F nothing (λ z. (λ k. line_form k f) (magnitude z))) c.args.at (drop c.args.at c.args.text.now)) (sym c.slot_field.ensures)
-    ∙ c.read_natural-number.ensures.part_read (λ k. line_form k f) in numbered)
-    ∙ go_behind (λ k. line_form k f) c.args.text.now c.read_natural-number.result.value c.read_natural-number.result.next c.if-number.false
-    ∙ (c.read_line-line.ensures c.read_natural-number.result.value).goes f in lined) ∙ go_behind f c.args.text.now (c.read_line-line.ensures c.read_natural-number.result.value).line c.read_line-line.result.next c.if-line.false
+      goes = λ f. (let lined : answer_from (slot_form c.args.from c.args.size f) c.args.at (drop c.args.at c.args.text.now)
+          ≡ go_on f c.args.text.now (got_if c.read_line-line.result.stopped (c.read_line-line.ensures c.read_natural-number.result.value).line c.read_line-line.result.next) = (let numbered : answer_from (number (slot_field c.args.from c.args.size) nothing (λ z. (λ (k : ℕ). line_form k f) (magnitude z))) c.args.at
+          (drop c.args.at c.args.text.now) ≡ go_on (λ (k : ℕ). line_form k f) c.args.text.now (part_of c.read_natural-number.result) = ap (λ (F : Field). answer_from (number F nothing (λ z. (λ (k : ℕ). line_form k f) (magnitude z))) c.args.at (drop c.args.at c.args.text.now)) (sym c.slot_field.ensures)
+          ∙ c.read_natural-number.ensures.part_read (λ (k : ℕ). line_form k f) in numbered)
+          ∙ go_behind (λ (k : ℕ). line_form k f) c.args.text.now c.read_natural-number.result.value c.read_natural-number.result.next c.if-number.false
+          ∙ (c.read_line-line.ensures c.read_natural-number.result.value).goes f in lined) ∙ go_behind f c.args.text.now (c.read_line-line.ensures c.read_natural-number.result.value).line c.read_line-line.result.next c.if-line.false
           ∙ sym (go_behind f c.args.text.now (c.read_line-line.ensures c.read_natural-number.result.value).line c.read_line-line.result.next refl);
       next = (c.read_line-line.ensures c.read_natural-number.result.value).next;
       kept = written-length c.write_slot.ensures fits (record_length (replicate tail_bytes 0) c.read_line-line.result.record refl p.0 p.1) ∙ c.clear_slots.ensures.size;

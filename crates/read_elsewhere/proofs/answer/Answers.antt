@@ -50,8 +50,11 @@ is_match-matches-requires-clause-working_rule c = working c.args.rule.now c.requ
 
 pub is_match-matches-requires-clause-map_fits : goal.is_match-matches-requires-clause-map_fits
 is_match-matches-requires-clause-map_fits c = record {
-  enough = omega (arith, few_vertices_lem c.args.graph.now c.args.rule.now c.args.map.now c.args.vertex c.requires.sound_rule,
-      c.requires.map_len);
+  enough = omega (
+    arith,
+    few_vertices_lem c.args.graph.now c.args.rule.now c.args.map.now c.args.vertex c.requires.sound_rule,
+    c.requires.map_len,
+  );
   few = omega (arith, c.requires.map_len);
 }
 
@@ -76,13 +79,20 @@ returns-then-not-inner c =
 
 pub overflow_mul-vertex : goal.overflow_mul-vertex
 overflow_mul-vertex c =
-    omega (arith, few c.args.graph.now c.args.rule.now c.args.map.now c.args.vertex c.requires.sound_rule c.is_inner-inner.result
-    c.is_inner-inner.ensures c.if-not-inner.false)
+    omega (
+      arith,
+      few c.args.graph.now c.args.rule.now c.args.map.now c.args.vertex c.requires.sound_rule c.is_inner-inner.result
+          c.is_inner-inner.ensures c.if-not-inner.false,
+    )
 
 pub u16_at-image-requires : goal.u16_at-image-requires
 u16_at-image-requires c =
-    omega (arith, few c.args.graph.now c.args.rule.now c.args.map.now c.args.vertex c.requires.sound_rule c.is_inner-inner.result
-    c.is_inner-inner.ensures c.if-not-inner.false, c.requires.map_len)
+    omega (
+      arith,
+      few c.args.graph.now c.args.rule.now c.args.map.now c.args.vertex c.requires.sound_rule c.is_inner-inner.result
+          c.is_inner-inner.ensures c.if-not-inner.false,
+      c.requires.map_len,
+    )
 
 pub stored_count-count-requires-clause-whole_graph : goal.stored_count-count-requires-clause-whole_graph
 stored_count-count-requires-clause-whole_graph c = (graph_readable c.args.graph.now c.requires.sound_graph).whole
@@ -90,9 +100,9 @@ stored_count-count-requires-clause-whole_graph c = (graph_readable c.args.graph.
 pub stored_count-count-requires-clause-k_bound : goal.stored_count-count-requires-clause-k_bound
 stored_count-count-requires-clause-k_bound c =
     let within = inside c.args.graph.now c.args.rule.now c.args.map.now c.args.vertex c.requires.sound_rule c.is_inner-inner.result
-        c.is_inner-inner.ensures c.if-not-inner.false in
+    c.is_inner-inner.ensures c.if-not-inner.false in
     let is = matched c.args.graph.now c.args.rule.now c.args.map.now c.args.vertex c.requires.sound_rule c.requires.map_len
-        c.is_match-matches.result c.is_match-matches.ensures c.if-not-matches.false in
+    c.is_match-matches.result c.is_match-matches.ensures c.if-not-matches.false in
     rw c.u16_at-image.ensures.0 (asked_slot c.args.graph.now c.args.rule.now c.args.map.now c.args.vertex within is)
 
 pub named_elsewhere-requires-clause-working_rule : goal.named_elsewhere-requires-clause-working_rule
@@ -107,17 +117,17 @@ pub returns : goal.returns
 unfolding elsewhere_answer
 returns c =
     let within = inside c.args.graph.now c.args.rule.now c.args.map.now c.args.vertex c.requires.sound_rule c.is_inner-inner.result
-        c.is_inner-inner.ensures c.if-not-inner.false in
+    c.is_inner-inner.ensures c.if-not-inner.false in
     let is = matched c.args.graph.now c.args.rule.now c.args.map.now c.args.vertex c.requires.sound_rule c.requires.map_len
-        c.is_match-matches.result c.is_match-matches.ensures c.if-not-matches.false in
+    c.is_match-matches.result c.is_match-matches.ensures c.if-not-matches.false in
     let slot : c.u16_at-image.result < slot_count c.args.graph.now
-        = rw c.u16_at-image.ensures.0 (asked_slot c.args.graph.now c.args.rule.now c.args.map.now c.args.vertex within is) in
+    = rw c.u16_at-image.ensures.0 (asked_slot c.args.graph.now c.args.rule.now c.args.map.now c.args.vertex within is) in
     let image : image_of (images_in c.args.map.now (source_count c.args.rule.now)) c.args.vertex ≡ c.u16_at-image.result
-        = asked_image c.args.graph.now c.args.rule.now c.args.map.now c.args.vertex within ∙ sym c.u16_at-image.ensures.0 in
+    = asked_image c.args.graph.now c.args.rule.now c.args.map.now c.args.vertex within ∙ sym c.u16_at-image.ensures.0 in
     let count : true_count (graph_of c.args.graph.now)
-        (image_of (images_in c.args.map.now (source_count c.args.rule.now)) c.args.vertex) ≡ c.stored_count-count.result
-        = ap (true_count (graph_of c.args.graph.now)) image ∙ sym (c.requires.sound_graph.counts c.u16_at-image.result slot)
-        ∙ sym c.stored_count-count.ensures.0 in
+    (image_of (images_in c.args.map.now (source_count c.args.rule.now)) c.args.vertex) ≡ c.stored_count-count.result
+    = ap (true_count (graph_of c.args.graph.now)) image ∙ sym (c.requires.sound_graph.counts c.u16_at-image.result slot)
+    ∙ sym c.stored_count-count.ensures.0 in
     c.answer_with.ensures
     ∙ ap answered (rw (rule_same c.args.rule.now c.requires.sound_rule) at (c.named_elsewhere.ensures.means (graph_of c.args.graph.now)
     (images_in c.args.map.now (source_count c.args.rule.now)) (rw (rule_same c.args.rule.now c.requires.sound_rule) is) count))
