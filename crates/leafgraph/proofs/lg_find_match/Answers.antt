@@ -11,5 +11,5 @@ pack-requires c = valueless_fits (ap (λ (o : Outcome). o.reply) c.find_match.en
 
 pub returns : goal.returns
 unfolding returned
-returns c = ap (λ n. at_return n c.args.graph.now c.find_match.new.1.1.1.0) c.pack.ensures
+returns c = ap (λ n. at_return n c.args.graph.now c.find_match.new.map) c.pack.ensures
     ∙ ap returned c.find_match.ensures

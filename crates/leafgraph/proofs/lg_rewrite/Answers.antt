@@ -13,7 +13,7 @@ pack-requires c = valueless_fits (ap (λ (o : Outcome). o.reply) c.rewrite.ensur
 pub returns : goal.returns
 unfolding returned
 returns c = record {
-  outcome = ap (λ n. at_return n c.rewrite.new.graph c.rewrite.new.map.1.1.0) c.pack.ensures ∙ ap returned c.rewrite.ensures;
+  outcome = ap (λ n. at_return n c.rewrite.new.graph c.rewrite.new.map) c.pack.ensures ∙ ap returned c.rewrite.ensures;
   lent_graph = λ at. omega (arith, c.slice_known-1.given at);
   lent_rule = λ at. omega (arith, c.shared_slice_known-1.given at);
   lent_map = λ at. omega (arith, c.slice_known-2-1.given at);

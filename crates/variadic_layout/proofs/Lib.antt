@@ -1,0 +1,13 @@
+pub mod Bytes
+pub mod Runs
+pub mod Inside
+pub mod Numbers
+pub mod Parts
+pub mod Heads
+pub mod Laying
+pub mod Rows
+pub mod Patterns
+pub mod Expanded
+pub mod Complete
+pub mod Numbered
+pub mod Layouts

@@ -1,0 +1,6 @@
+pub mod Terms
+pub mod Bytes
+pub mod Written
+pub mod Laid
+pub mod Parts
+pub mod Templates
