@@ -32,7 +32,9 @@ fn is_taken(images: &[u16; SIDE_CAPACITY], next: usize, v: usize) -> bool
 }
 
 // Gives source vertex j, a candidate whose inputs have their images, the image v: where v is no lower vertex's image, and the
-// attributes agree.
+// attributes agree. It is kept out of its caller, which calls itself, so that the room in which attributes are worked out is on the
+// stack once and not at every level.
+#[inline(never)]
 pub fn settle(
     graph: &[u8],
     rule: &[u8],
