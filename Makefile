@@ -78,7 +78,7 @@ tests-beside: $(ARCHIVE)
 # first, which takes minutes; the screen gets a line for each.
 $(ARCHIVE): $(shell find crates crates.txt -name out -prune -o -type f -print 2>/dev/null) | build
 	@echo 'proving and compiling the library; the whole log is build/library.log'
-	@{ cd crates/leafgraph_c && $(RT) lib; } 2>&1 | tee build/library.log \
+	@{ cd crates/leafgraph_c && $(RT) lib --cpu=x86-64; } 2>&1 | tee build/library.log \
 		| $(PYTHON) -B make/progress.py leafgraph_c || { cat build/library.log; exit 1; }
 	@mkdir -p $(@D)
 	@cp crates/leafgraph_c/out/libleafgraph_c.a $@

@@ -22,6 +22,8 @@ from pathlib import Path
 from crates_file import citations, needed_by
 
 CRATE = "leafgraph_c"
+# Every x86-64 processor runs it; what the toolchain takes unasked does not. The Makefile asks `rt lib` for the same.
+CPU = "x86-64"
 
 
 class Fault(Exception):
@@ -61,7 +63,7 @@ def words(tools, toolchain, mark, to):
             asked += ["--extern", f"{crate}={folder / crate}.rlib"]
         asked += ["-L", f"dependency={folder}"]
     return [*asked, "--antt-project", tools / "rattle/logic/antt-project.json", "--logic-built", tools / "logic_built",
-            "--crate-type", "staticlib", "--backend", "llvm", "--toolchain", toolchain, "-o", to]
+            "--crate-type", "staticlib", "--cpu", CPU, "--backend", "llvm", "--toolchain", toolchain, "-o", to]
 
 
 def compile_archive(file, toolchain, mark):
