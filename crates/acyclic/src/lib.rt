@@ -14,7 +14,8 @@ use graph_fields::{input_at, input_count, slot_count};
 use graph_sorted::is_sorted;
 
 // A slot's progress is 0 before it is entered, 1 + i once i of its inputs are known to lead to no cycle, and this when the slot
-// itself is known to. It has at most 6 inputs, so the three do not overlap.
+// itself is known to. It has at most 6 inputs, so the three do not overlap. It is a number and not an enum: every turn adds to it, and the
+// sum of all slots' progress is what shows that the search ends.
 const FINISHED: u8 = 8;
 
 // Whether root leads to a cycle. Where it does not, every slot to which it leads is finished. For an entered slot that is not
@@ -73,12 +74,10 @@ pub fn has_cycle(graph: &[u8]) -> bool
     let count = slot_count(graph);
     let mut progress = [0u8; SLOT_LIMIT];
     let mut parent = [0u16; SLOT_LIMIT];
-    let mut root = 0;
-    while root < count {
+    for root in 0..count {
         if finds_cycle(graph, root, &mut progress, &mut parent) {
             return true;
         }
-        root += 1;
     }
     false
 }

@@ -10,10 +10,9 @@ use native.Mathlib.Omega.{arith}
 use borrow.Author.Tests.{eqb-true, eq-eqb, ltb-true, ltb-false, lt-ltb, le-ltb, not-true}
 use lib.Dec.{eqb, ltb}
 use lib.ListN.{length}
-use Rattle.definitions.specs.declared.Reply.{Reply}
 use Rattle.definitions.specs.Lists.{all_below, member}
 use Rattle.definitions.specs.Fields.{u16_at}
-use Rattle.definitions.specs.Reply.{not_amatch, no_such_vertex, answered, refusal_at, refused, number_of, index_of, value_beside, number_in, value_in}
+use Rattle.definitions.specs.Reply.{Reply, not_amatch, no_such_vertex, answered, refusal_at, refused, number_of, index_of, value_beside, number_in, value_in}
 use Rattle.definitions.specs.Graph.{unused_place, stored_count, Graph, graph_of, true_count}
 use Rattle.definitions.specs.Rule.{side_limit, source_count, Rule, rule_of, is_rule_input}
 use Rattle.definitions.specs.Match.{is_const, must_be_private, places_of, is_match}

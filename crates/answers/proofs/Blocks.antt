@@ -12,10 +12,9 @@ use borrow.Author.Tests.{eq-eqb, eqb-true, eqb-false}
 use lib.Dec.{eqb}
 use lib.ListN.{length}
 use Rattle.definitions.specs.declared.Refusal.{Refusal}
-use Rattle.definitions.specs.declared.Reply.{Reply}
-use Rattle.definitions.specs.declared.Reply.TheVariants.{Refused}
+use Rattle.std.specs.Prelude.{Err}
 use Rattle.definitions.specs.Lists.{member}
-use Rattle.definitions.specs.Reply.{done, bad_map_length, refusal_at, refused_at, refused, number_of, index_of, value_beside, packed, number_in, place_in, value_in, first_refusal}
+use Rattle.definitions.specs.Reply.{Reply, done, bad_map_length, refusal_at, refused_at, refused, number_of, index_of, value_beside, packed, number_in, place_in, value_in, first_refusal}
 use Rattle.definitions.specs.Graph.{graph_reply, SoundGraph}
 use Rattle.definitions.specs.Rule.{rule_reply, SoundRule}
 use Rattle.definitions.specs.Faults.{GraphFault, RuleFault}
@@ -158,7 +157,7 @@ module _ (graph rule before : List ℕ) where
 -- An operation whose outcome is `whole`: a bad block is refused at once, and `rest` is what good blocks come to. Its own numbers are none
 -- of the blocks', and its replies have no place.
 pub record Staged (graph rule before : List ℕ) (whole rest : Outcome) : Type 0 where
-  pub refusing : (x : Refusal) → blocks_reply graph rule before ≡ Refused x → whole ≡ outcome (Refused x) graph before
+  pub refusing : (x : Refusal) → blocks_reply graph rule before ≡ Err x → whole ≡ outcome (Err x) graph before
   pub passing : blocks_reply graph rule before ≡ done → whole ≡ rest
   pub own : member (number_of rest.reply) block_numbers ≡ false
   pub small : number_of rest.reply < 2 ^ 8

@@ -6,10 +6,9 @@ use mathlib.Core.List.{List}
 use mathlib.Core.Logic.{◌⊎◌, inl, inr, ⊎_elim, ◌↔◌}
 use Prim.Native.Nat.{ℕ}
 use Rattle.definitions.specs.declared.Refusal.{Refusal}
-use Rattle.definitions.specs.declared.Reply.{Reply}
-use Rattle.definitions.specs.declared.Reply.TheVariants.{Done, Refused}
+use Rattle.std.specs.Prelude.{Ok, Err}
 use Rattle.definitions.specs.Lists.{member}
-use Rattle.definitions.specs.Reply.{number_in}
+use Rattle.definitions.specs.Reply.{Reply, number_in}
 use Rattle.definitions.specs.Graph.{graph_reply, SoundGraph}
 use Rattle.definitions.specs.Faults.{GraphFault}
 use Rattle.laws.proofs.Lists.{true_not_false}
@@ -27,12 +26,12 @@ sound_or_not graph =
     (either (graph-judged graph))
 
 -- a block that is not sound is refused
-pub refused_why : (graph : List ℕ) → (SoundGraph graph → ⊥) → (why : Refusal) × (graph_reply graph ≡ Refused why)
+pub refused_why : (graph : List ℕ) → (SoundGraph graph → ⊥) → (why : Refusal) × (graph_reply graph ≡ Err why)
 refused_why graph unsound = by (graph_reply graph) refl
   where
-    by : (reply : Reply) → graph_reply graph ≡ reply → (why : Refusal) × (graph_reply graph ≡ Refused why)
-    by (Done value) e = absurd (unsound (only_sound graph (done_plain (graph_valueless graph) e)))
-    by (Refused why) e = (why, e)
+    by : (reply : Reply) → graph_reply graph ≡ reply → (why : Refusal) × (graph_reply graph ≡ Err why)
+    by (Ok value) e = absurd (unsound (only_sound graph (done_plain (graph_valueless graph) e)))
+    by (Err why) e = (why, e)
 
 module _ (graph : List ℕ) (reply : ℕ) where
   -- the check's reply where the graph is not sound, and else none of the check's refusals

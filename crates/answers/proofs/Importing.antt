@@ -10,9 +10,8 @@ use lib.Dec.{eqb}
 use lib.ListN.{length}
 use Rattle.definitions.specs.Fields.{byte_at, u16_at}
 use Rattle.definitions.specs.declared.Refusal.{Refusal}
-use Rattle.definitions.specs.declared.Reply.{Reply}
-use Rattle.definitions.specs.declared.Reply.TheVariants.{Done, Refused}
-use Rattle.definitions.specs.Reply.{bad_graph_header, number_in}
+use Rattle.std.specs.Prelude.{Ok, Err}
+use Rattle.definitions.specs.Reply.{Reply, bad_graph_header, number_in}
 use Rattle.definitions.specs.Graph.{header_bytes, slot_bytes, version_offset, graph_version, import_version, slot_count, record_at, stored_count, Graph, graph_of, true_count, block_as, graph_block, header_fits, SoundAs, SoundGraph}
 use Rattle.definitions.specs.Faults.{FaultAs, header, form}
 use Rattle.definitions.specs.Import.{import_reply, import_graph}
@@ -48,13 +47,13 @@ module _ (graph : List ℕ) (reply : ℕ) (graph_after : List ℕ) (contract : I
   judged = verdict (form-judged import_version graph) (form-numbered import_version graph) reply contract.replied
 
   -- a block that is not sound is refused
-  refused_why : (SoundAs import_version graph → ⊥) → (why : Refusal) × (import_reply graph ≡ Refused why)
+  refused_why : (SoundAs import_version graph → ⊥) → (why : Refusal) × (import_reply graph ≡ Err why)
   unfolding import_reply
   refused_why unsound = by (import_reply graph) refl
     where
-      by : (answer : Reply) → import_reply graph ≡ answer → (why : Refusal) × (import_reply graph ≡ Refused why)
-      by (Done value) e = absurd (unsound (only_sound_as import_version graph (done_plain (import_valueless graph) e)))
-      by (Refused why) e = (why, e)
+      by : (answer : Reply) → import_reply graph ≡ answer → (why : Refusal) × (import_reply graph ≡ Err why)
+      by (Ok value) e = absurd (unsound (only_sound_as import_version graph (done_plain (import_valueless graph) e)))
+      by (Err why) e = (why, e)
 
   pub refusal_keeps_lem : (number_in reply ≡ 0 → ⊥) → graph_after ≡ graph
   unfolding import_graph

@@ -11,10 +11,9 @@ use borrow.Author.Tests.{eqb-true, eqb-false, eq-eqb}
 use lib.Dec.{eqb}
 use lib.ListN.{length, take, drop}
 use lib.Seq.{take_at}
-use Rattle.definitions.specs.declared.Reply.{Reply}
 use Rattle.definitions.specs.Lists.{member}
 use Rattle.definitions.specs.Fields.{Bytes}
-use Rattle.definitions.specs.Reply.{done, bad_listing, unsound_listing, bad_graph_length, refused_at, refused, packed, number_in, place_in, value_in, where_done}
+use Rattle.definitions.specs.Reply.{Reply, done, bad_listing, unsound_listing, bad_graph_length, refused_at, refused, packed, number_in, place_in, value_in, where_done}
 use Rattle.definitions.specs.Graph.{graph_version, record_at, graph_of, true_count, graph_block, SoundGraph}
 use Rattle.definitions.specs.Sheet.{Sheet}
 use Rattle.definitions.specs.Listing.{sheet_of, listing, graph_in, Stops, sheet_reply, ReadListing, no_listing, some_listing}

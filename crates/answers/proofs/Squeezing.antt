@@ -11,7 +11,7 @@ use borrow.Author.Tests.{eqb-true, eqb-false}
 use lib.Dec.{eqb}
 use lib.ListN.{length}
 use Rattle.definitions.specs.declared.Refusal.{Refusal}
-use Rattle.definitions.specs.declared.Reply.TheVariants.{Refused}
+use Rattle.std.specs.Prelude.{Err}
 use Rattle.definitions.specs.Lists.{member}
 use Rattle.definitions.specs.Fields.{u16_bytes}
 use Rattle.definitions.specs.Operators.{kind_variable}
@@ -151,7 +151,7 @@ module _ (graph moves : List ℕ) (reply : ℕ) (graph_after moves_after : List 
   by_value (accepted sound size e) = (says_done e).value
 
   -- a refusal keeps both blocks
-  left_both : {why : Refusal} → squeeze_reply graph moves ≡ Refused why → (graph_after ≡ graph) × (moves_after ≡ moves)
+  left_both : {why : Refusal} → squeeze_reply graph moves ≡ Err why → (graph_after ≡ graph) × (moves_after ≡ moves)
   unfolding squeeze_graph squeeze_moves
   left_both e = (
     contract.left ∙ where_refused (graph_block (squeeze (graph_of graph))) graph e,

@@ -10,7 +10,7 @@ use borrow.Author.Tests.{leb-true, leb-false}
 use lib.Dec.{leb}
 use lib.ListN.{length, drop}
 use Rattle.definitions.specs.declared.Refusal.{Refusal}
-use Rattle.definitions.specs.declared.Reply.TheVariants.{Done, Refused}
+use Rattle.std.specs.Prelude.{Ok, Err}
 use Rattle.definitions.specs.Lists.{member}
 use Rattle.definitions.specs.Reply.{short_text, refused, number_of, index_of, value_beside, packed, number_in, place_in, value_in}
 use Rattle.definitions.specs.Graph.{graph_of, graph_reply, SoundGraph}
@@ -40,7 +40,7 @@ module _ (graph text : List ℕ) (reply : ℕ) (text_after : List ℕ) (contract
   data Answer : Type 0 where
     wrong_graph : (SoundGraph graph → ⊥) → write_reply graph text ≡ graph_reply graph → Answer
     too_short : SoundGraph graph → length text < length words → write_reply graph text ≡ refused short_text → Answer
-    accepted : SoundGraph graph → length words ≤ length text → write_reply graph text ≡ Done (length words) → Answer
+    accepted : SoundGraph graph → length words ≤ length text → write_reply graph text ≡ Ok (length words) → Answer
 
   answer : Answer
   unfolding write_reply
@@ -63,14 +63,14 @@ module _ (graph text : List ℕ) (reply : ℕ) (text_after : List ℕ) (contract
     place : place_in reply ≡ 0
     value : value_in reply ≡ length words
 
-  says_done : write_reply graph text ≡ Done (length words) → Written
+  says_done : write_reply graph text ≡ Ok (length words) → Written
   unfolding number_of index_of value_beside
   says_done e =
-      let whole : reply ≡ packed (Done (length words)) = contract.replied ∙ ap packed e in
+      let whole : reply ≡ packed (Ok (length words)) = contract.replied ∙ ap packed e in
       record {
-        number = ap number_in whole ∙ number-packed (Done (length words)) (omega arith);
-        place = ap place_in whole ∙ place-packed (Done (length words)) (omega arith) (omega arith);
-        value = ap value_in whole ∙ value-packed (Done (length words)) (omega arith) (omega arith);
+        number = ap number_in whole ∙ number-packed (Ok (length words)) (omega arith);
+        place = ap place_in whole ∙ place-packed (Ok (length words)) (omega arith) (omega arith);
+        value = ap value_in whole ∙ value-packed (Ok (length words)) (omega arith) (omega arith);
       }
 
   says_short : write_reply graph text ≡ refused short_text → Says reply short_text 0
@@ -146,7 +146,7 @@ module _ (graph text : List ℕ) (reply : ℕ) (text_after : List ℕ) (contract
       ∙ ap (λ (n : ℕ). words ++ drop n text) (sym (says_done e).value)
 
   -- a refusal keeps the text
-  kept : {why : Refusal} → write_reply graph text ≡ Refused why → text_after ≡ text
+  kept : {why : Refusal} → write_reply graph text ≡ Err why → text_after ≡ text
   unfolding write_text
   kept e = contract.left ∙ where_refused (words ++ drop (length words) text) text e
 

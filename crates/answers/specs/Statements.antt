@@ -7,9 +7,8 @@
 use Rattle.std.specs.Prelude.{◌≡◌, true, false, List, [], ◌∷◌, ◌++◌, map, ◌↔◌, ◌⊎◌, ℕ, ◌+◌, ◌*◌, ◌<◌, ◌≤◌, T, ℤ, length, take, drop}
 use Rattle.std.proofs.Math.Option.{some}
 use Rattle.definitions.specs.Lists.{member}
-use Rattle.definitions.specs.declared.Reply.{Reply}
 use Rattle.definitions.specs.Fields.{Bytes, byte_at, u16_at}
-use Rattle.definitions.specs.Reply.{bad_map_length, bad_graph_header, bad_graph_record, bad_graph_name, graph_has_cycle, bad_graph_count, bad_rule_header, bad_rule_record, bad_rule_order, bad_rule_outputs, bad_rule_expression, no_match, no_result, no_room, new_cycle, bad_moves_length, not_amatch, no_such_vertex, short_text, bad_listing, unsound_listing, bad_graph_length, packed, number_in, place_in, value_in}
+use Rattle.definitions.specs.Reply.{Reply, bad_map_length, bad_graph_header, bad_graph_record, bad_graph_name, graph_has_cycle, bad_graph_count, bad_rule_header, bad_rule_record, bad_rule_order, bad_rule_outputs, bad_rule_expression, no_match, no_result, no_room, new_cycle, bad_moves_length, not_amatch, no_such_vertex, short_text, bad_listing, unsound_listing, bad_graph_length, packed, number_in, place_in, value_in}
 use Rattle.definitions.specs.Graph.{header_bytes, slot_bytes, unused_place, version_offset, import_version, slot_count, stored_count, record_at, renamed, graph_of, slot_of, is_vertex, graph_block, graph_reply, SoundAs, SoundGraph}
 use Rattle.definitions.specs.Rule.{source_count, rule_of, is_rule_input, rule_reply, SoundRule}
 use Rattle.definitions.specs.Faults.{FaultAs, GraphFault, RuleFault}

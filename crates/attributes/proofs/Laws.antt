@@ -6,30 +6,45 @@ use mathlib.Core.Bool.{Bool, true, false, ◌&&◌, and-true, and_assoc}
 use mathlib.Core.List.{List, [], ◌∷◌}
 use mathlib.Core.Logic.{⊎_elim}
 use mathlib.Core.Option.{Option}
-use Prim.Native.Nat.{ℕ, zero, suc, ◌+◌, ◌<◌, ◌≤◌}
+use Prim.Native.Nat.{ℕ, zero, suc, ◌+◌, ◌<◌}
 use native.Mathlib.Omega.{arith}
 use borrow.Author.Tests.{ltb-true, eqb-true, eqb-false}
 use lib.Dec.{eqb}
-use lib.IntN.{ℤ}
+use lib.IntN.{ℤ, pos, negsuc}
 use lib.ListN.{length, get_or}
 use Rattle.definitions.specs.Lists.{all_below, all_pairs}
 use Rattle.definitions.specs.Fields.{signed}
-use Rattle.definitions.specs.Rule.{Expression, anything, constant, access, apply, index, sum, form_any, form_constant, form_access, node_form, accesses_below}
-use Rattle.definitions.specs.Attributes.{combine, result_of, gives, agrees}
-use Rattle.rule_fields.specs.Fixed.{expression_in, nodes_in}
-use Rattle.laws.proofs.Lists.{decided, and_left, and_right, all_below_step, all_below_fails}
+use Rattle.definitions.specs.Rule.{source_count, Expression, anything, constant, access, apply, index, sum, form_any, form_constant, form_access, node_form, accesses_below}
+use Rattle.definitions.specs.Attributes.{combine, result_of, same_number, gives, agrees}
+use Rattle.rule_fields.specs.Fixed.{expression_in, nodes_in, attribute_node}
+use Rattle.laws.proofs.Lists.{decided, and_left, and_right}
 use Rattle.rule_nodes.specs.Nodes.{GoodNode}
 use Rattle.match_leaves.specs.Evaluable.{NodeEvaluation}
 use Rattle.match_leaves.proofs.Laws.{any-node, constant_node, access_node}
 use Rattle.match_values.proofs.Laws.{operation_node}
+use Rattle.std.specs.declared.option.Option as language
+use Rattle.std.specs.declared.option.Option.TheVariants.{None, Some}
+use Rattle.std.specs.Option.{option_eq}
+use Rattle.std.specs.Ordering.{int_eq}
+use Rattle.numbers.specs.Value.{value_of}
 use Rattle.attributes.specs.Agreement.{agree_first}
-use Rattle.attributes.specs.Evaluation.{Evaluation}
+use Rattle.attributes.specs.Evaluation.{Evaluation, SourceAttribute, TargetAttribute}
+use Rattle.rule_fields.proofs.Fixed.{source-attributes-at, target-attributes-at}
 
 -- ---- what evaluating asks
 
 -- what the attributes of a vertex ask is enough for each node that they name
 pub of_nodes : {graph rule images : List ℕ} → Evaluation graph rule images → NodeEvaluation graph rule images
 of_nodes e = record { table = e.table; whole = e.patterns.whole; evaluable = e.evaluable; image_size = e.image_size }
+
+-- the node that an attribute names is one of the rule's
+pub source_node : {graph rule images : List ℕ} {j i v k : ℕ} → Evaluation graph rule images → SourceAttribute graph rule j i v → k ≡ attribute_node rule j i → k < nodes_in rule
+source_node {rule = rule} {j = j} {i = i} e s same =
+    omega (arith, same, e.evaluable.uses j i (omega (arith, s.vertex)) (omega (arith, s.place, source-attributes-at rule j s.vertex)))
+
+pub target_node : {graph rule images : List ℕ} {t i k : ℕ} → Evaluation graph rule images → TargetAttribute rule t i → k ≡ attribute_node rule (source_count rule + t) i → k < nodes_in rule
+target_node {rule = rule} {t = t} {i = i} e s same =
+    omega (arith, same, e.evaluable.uses (source_count rule + t) i (omega (arith, s.vertex)) (omega (arith, s.place, target-attributes-at rule t s.vertex)))
 
 -- ---- what a list of expressions agrees with
 
@@ -58,17 +73,6 @@ agree_pairs read (p ∷ ps) (w ∷ ws) e =
 module _ (read : ℕ → ℕ → Option ℤ) (ps : List Expression) (ws : List ℕ) where
   abbrev pub agrees_at : ℕ → Bool
   agrees_at i = agrees read (get_or ps i anything) (signed (get_or ws i 0))
-
-  pub agree_fails : (b : Bool) (i : ℕ) → i < length ps → b ≡ agrees_at i → b ≡ false → false ≡ agree_first read ps ws
-  unfolding agree_first
-  agree_fails b i l e f = sym (all_below_fails agrees_at (length ps) i l (sym e ∙ f))
-
-  pub agree_more : (b : Bool) (i : ℕ) → b ≡ agrees_at i → b ≡ true → all_below agrees_at i ≡ true → all_below agrees_at (i + 1) ≡ true
-  agree_more b i e t h = all_below_step agrees_at i h (sym e ∙ t)
-
-  pub agree_ends : (i : ℕ) → i ≤ length ps → length ps ≤ i → all_below agrees_at i ≡ true → true ≡ agree_first read ps ws
-  unfolding agree_first
-  agree_ends i l m h = let e : length ps ≡ i = omega arith in rw e (sym h)
 
 -- ---- what an expression reads
 
@@ -124,3 +128,12 @@ module _ (block : List ℕ) (k : ℕ) (inside : k < nodes_in block) (read : ℕ 
       (omega (arith, eqb-false (node_form block k) form_constant t, eqb-false (node_form block k) form_access u))))
       (decided (eqb (node_form block k) form_access)))
       (decided (eqb (node_form block k) form_constant)))
+
+-- the code compares a result with a number as `gives` does
+pub same_result : (r : language.Option ℤ) (z : ℤ) → option_eq int_eq r (Some z) ≡ gives (value_of r) z
+unfolding gives same_number value_of
+same_result None z = refl
+same_result (Some (pos a)) (pos b) = grind arith
+same_result (Some (pos a)) (negsuc b) = grind arith
+same_result (Some (negsuc a)) (pos b) = grind arith
+same_result (Some (negsuc a)) (negsuc b) = grind arith

@@ -10,7 +10,7 @@ use borrow.Author.Tests.{eqb-true}
 use lib.Dec.{eqb}
 use lib.ListN.{length, take, length-take}
 use lib.Seq.{ext_get_or, get_or-take}
-use Rattle.definitions.specs.declared.Reply.TheVariants.{Done}
+use Rattle.std.specs.Prelude.{Ok}
 use Rattle.definitions.specs.Lists.{padded, concat_map}
 use Rattle.definitions.specs.Fields.{u16_bytes}
 use Rattle.definitions.specs.Reply.{done, bad_map_length, refused}
@@ -66,7 +66,7 @@ pub record GoodBlocks (graph rule images : List ℕ) : Type 0 where
   pub same : fixed_of rule ≡ rule_of rule
   pub few : source_count rule ≤ map_places
 
-pub blocks_done : {value : ℕ} (graph rule images : List ℕ) → blocks_reply graph rule images ≡ Done value → GoodBlocks graph rule images
+pub blocks_done : {value : ℕ} (graph rule images : List ℕ) → blocks_reply graph rule images ≡ Ok value → GoodBlocks graph rule images
 unfolding blocks_reply
 blocks_done graph rule images h =
     let first = first-all (map_reply images) (graph_reply graph ∷ rule_reply rule ∷ []) (map_valueless images) h in

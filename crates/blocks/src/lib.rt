@@ -7,31 +7,25 @@ ghost use Rattle.definitions.specs.Fields.{u16_bytes};
 ghost use Rattle.definitions.specs.Operations.{map_reply, blocks_reply};
 
 use definitions::{MAP_BYTES, Reply};
-use reply::{BAD_MAP_LENGTH, refuse};
-use writing::put_u16s;
+use reply::{Reason, refuse};
+use writing::put_numbers;
 
 // Reply 1 is about the map's length alone: its bytes are not read.
 fn check_map(map: &[u8]) -> Reply
     ensures { result ≡ map_reply map.now }
 {
     if map.len() != MAP_BYTES {
-        return refuse(BAD_MAP_LENGTH);
+        return refuse(Reason::BadMapLength);
     }
-    Reply::Done(0)
+    Ok(0)
 }
 
 // The first refusal of the map, the graph and the rule, in that order.
 pub fn check_blocks(graph: &[u8], rule: &[u8], map: &[u8]) -> Reply
     ensures { result ≡ blocks_reply graph.now rule.now map.now }
 {
-    match check_map(map) {
-        Reply::Refused(refusal) => return Reply::Refused(refusal),
-        Reply::Done(_) => {}
-    }
-    match graph_check::check(graph) {
-        Reply::Refused(refusal) => return Reply::Refused(refusal),
-        Reply::Done(_) => {}
-    }
+    check_map(map)?;
+    graph_check::check(graph)?;
     rule_check::check(rule)
 }
 
@@ -40,5 +34,5 @@ pub fn write_map(map: &mut [u8], images: &[u16])
     requires { length map.old ≡ 2 * length images.now }
     ensures { map.new ≡ concat_map u16_bytes images.now }
 {
-    put_u16s(map, images);
+    put_numbers(map, images);
 }

@@ -1,4 +1,4 @@
--- Records of two blocks, compared by words, and a block that holds a table up to the end of one record more.
+-- A record in two parts, and a block that holds a table up to the end of one record more.
 -- Assumes nothing.
 use mathlib.Core.Path.{◌≡◌, refl, sym, ap, ap₂, ◌∙◌}
 use mathlib.Core.List.{List, [], ◌++◌}
@@ -16,28 +16,6 @@ use Rattle.graph_records.specs.Records.{fields_at, slot_at}
 use Rattle.graph_slots.specs.Written.{SlotWritten}
 use Rattle.graph_slots.proofs.Laws.{written-length, next-slot}
 use Rattle.commit.specs.Tables.{Committed}
-
--- equal words of bytes are equal bytes
-pub words_same : (graph table : List ℕ) → Bytes graph → Bytes table → (at : ℕ)
-    → at + slot_bytes ≤ length graph → at + slot_bytes ≤ length table
-    → ((i : ℕ) → i < 12 → u32_at graph (at + 4 * i) ≡ u32_at table (at + 4 * i)) → slot_at graph at ≡ slot_at table at
-unfolding slot_at
-words_same graph table old new at l m words =
-    let size : length (take slot_bytes (drop at graph)) ≡ slot_bytes =
-    length-take-le slot_bytes (drop at graph) (simp length-drop (omega arith)) in
-    let other : length (take slot_bytes (drop at table)) ≡ slot_bytes =
-    length-take-le slot_bytes (drop at table) (simp length-drop (omega arith)) in
-    let every : (i : ℕ) → i < slot_bytes → byte_at graph (at + i) ≡ byte_at table (at + i) =
-    in_pieces (λ i. byte_at graph (at + i) ≡ byte_at table (at + i)) 4 12 (omega arith)
-    (λ k i h n.
-    rw (← add_assoc at (4 * k) i)
-    (sym (u32_bytes_lem graph old (at + 4 * k) i n) ∙ ap (λ (w : ℕ). get_or (u32_bytes w) i 0) (words k h)
-    ∙ u32_bytes_lem table new (at + 4 * k) i n)) in
-    ext_get_or 0 (take slot_bytes (drop at graph)) (take slot_bytes (drop at table)) (size ∙ sym other)
-    (λ i h.
-    let inside : i < slot_bytes = omega arith in
-    get_or-take slot_bytes (drop at graph) i 0 inside ∙ get_or-drop at graph i 0 ∙ every i inside
-    ∙ sym (get_or-take slot_bytes (drop at table) i 0 inside ∙ get_or-drop at table i 0))
 
 -- a record is its fields and its tail
 pub whole_record : (table : List ℕ) (at : ℕ) → fields_at table at ++ take tail_bytes (drop (at + tail_offset) table) ≡ slot_at table at

@@ -9,31 +9,18 @@ ghost use Rattle.graph_records.specs.Records.{slot_at};
 ghost use Rattle.commit.specs.Tables.{Committed};
 
 use definitions::{HEADER_BYTES, SLOT_BYTES, TAIL_OFFSET};
-use fields::u32_at;
 use graph_fields::slot_count;
 use graph_records::read_record;
 use graph_slots::write_slot;
-use writing::copy;
 
-// The 32-bit words of a record.
-const RECORD_WORDS: usize = SLOT_BYTES / 4;
-
-// Says true only where both blocks have the same 48 bytes from `at` on; they are compared word by word.
+// Says true only where both blocks have the same 48 bytes from `at` on.
 fn same_record(graph: &[u8], table: &[u8], at: usize) -> bool
     requires slot_bytes_in_bounds { at + slot_bytes ≤ length graph.now }
     requires slot_bytes_in_bounds_2 { at + slot_bytes ≤ length table.now }
     ensures { result ≡ true → slot_at graph.now at ≡ slot_at table.now at }
 {
-    let mut i = 0;
-    while i < RECORD_WORDS {
-        let old = u32_at(graph, at + 4 * i);
-        let new = u32_at(table, at + 4 * i);
-        if old != new {
-            return false;
-        }
-        i += 1;
-    }
-    true
+    let end = at + SLOT_BYTES;
+    graph[at..end] == table[at..end]
 }
 
 // Writes slot k, where all before it is written. A record that does not change is not written again; that is for speed alone.
@@ -44,13 +31,12 @@ fn commit_slot(graph: &mut [u8], table: &[u8], k: usize)
     ensures { Committed (record_at (k + 1)) graph.new table.now }
 {
     let at = HEADER_BYTES + SLOT_BYTES * k;
-    if same_record(graph, table, at) {
-        return;
+    if !same_record(graph, table, at) {
+        let record = read_record(table, at);
+        let end = at + SLOT_BYTES;
+        let tail = at + TAIL_OFFSET;
+        write_slot(graph, k, record, &table[tail..end]);
     }
-    let record = read_record(table, at);
-    let end = at + SLOT_BYTES;
-    let tail = at + TAIL_OFFSET;
-    write_slot(graph, k, record, &table[tail..end]);
 }
 
 // Writes the new table over the old one, which is as long.
@@ -59,11 +45,9 @@ pub fn commit(graph: &mut [u8], table: &[u8])
     requires whole_graph { WholeGraph table.now }
     ensures { graph.new ≡ table.now }
 {
-    copy(&mut graph[0..HEADER_BYTES], &table[0..HEADER_BYTES]);
+    graph[0..HEADER_BYTES].copy_from_slice(&table[0..HEADER_BYTES]);
     let slots = slot_count(table);
-    let mut k = 0;
-    while k < slots {
+    for k in 0..slots {
         commit_slot(graph, table, k);
-        k += 1;
     }
 }

@@ -3,12 +3,11 @@
 -- Assumes nothing.
 use Rattle.std.specs.Prelude.{◌≡◌, Bool, true, false, cond, not, ◌&&◌, ◌||◌, ℕ, ◌+◌, ◌-◌, ◌*◌, ◌<◌, eqb, ltb, ℤ, pos, negsuc, length, get_or, replicate}
 use mathlib.Core.List.{List, [], ◌∷◌, ◌++◌, map, Memᴰ}
-use Rattle.definitions.specs.declared.Reply.{Reply}
 use Rattle.definitions.specs.Lists.{within, lowest, total, tabulate, all, padded, concat_map, count}
 use Rattle.definitions.specs.Fields.{byte_at, u16_at, u32_at, filled, mark_fits, signed, u16_bytes, u32_bytes}
 use Rattle.definitions.specs.Operators.{kind_empty, kind_variable, kind_proj, shape_fits}
 use Rattle.definitions.specs.Paths.{Reads, Acyclic, on_cycle}
-use Rattle.definitions.specs.Reply.{bad_graph_header, bad_graph_record, bad_graph_name, graph_has_cycle, bad_graph_count, Fault, fault, flag, place, judged}
+use Rattle.definitions.specs.Reply.{Reply, bad_graph_header, bad_graph_record, bad_graph_name, graph_has_cycle, bad_graph_count, Fault, fault, flag, place, judged}
 
 -- ---- sizes
 

@@ -2,8 +2,7 @@
 -- same graph, which has true counts.
 -- Assumes nothing.
 use Rattle.std.specs.Prelude.{List, ℕ}
-use Rattle.definitions.specs.declared.Reply.{Reply}
-use Rattle.definitions.specs.Reply.{where_done}
+use Rattle.definitions.specs.Reply.{Reply, where_done}
 use Rattle.definitions.specs.Graph.{import_version, graph_of, graph_block, reply_as}
 
 unfoldable pub import_reply : List ℕ → Reply

@@ -1,12 +1,10 @@
 -- Request 7/13: "Write a graph as text and read it back." The listing of a graph, the graph of a sheet, the place at which a text stops being
 -- a listing, and the two operations.
 -- Assumes nothing.
-use Rattle.std.specs.Prelude.{◌≡◌, cond, List, [], ◌∷◌, ◌++◌, map, ℕ, suc, ◌<◌, eqb, leb, pos, length, take, drop}
-use Rattle.definitions.specs.declared.Reply.{Reply}
-use Rattle.definitions.specs.declared.Reply.TheVariants.{Done, Refused}
+use Rattle.std.specs.Prelude.{◌≡◌, cond, List, [], ◌∷◌, ◌++◌, map, ℕ, suc, ◌<◌, eqb, leb, pos, length, take, drop, Ok, Err}
 use Rattle.definitions.specs.Lists.{tabulate, filter, range}
 use Rattle.definitions.specs.Fields.{signed, word_of}
-use Rattle.definitions.specs.Reply.{short_text, bad_listing, unsound_listing, bad_graph_length, done, refused, refused_at, where_done}
+use Rattle.definitions.specs.Reply.{Reply, short_text, bad_listing, unsound_listing, bad_graph_length, done, refused, refused_at, where_done}
 use Rattle.definitions.specs.Graph.{Slot, Graph, record_at, empty_slot, slot_of, is_vertex, graph_of, graph_block, graph_reply}
 use Rattle.definitions.specs.Sheet.{Line, Sheet, SheetFits, printed}
 
@@ -66,10 +64,10 @@ pub data Stops (text : List ℕ) : ℕ → Type 0 where
 
 unfoldable pub write_reply : List ℕ → List ℕ → Reply
 write_reply graph text = elim (graph_reply graph) [
-  | Refused why ↦ Refused why
-  | Done value ↦
+  | Err why ↦ Err why
+  | Ok value ↦
       let size = length (listing (graph_of graph)) in
-      cond (leb size (length text)) (Done size) (refused short_text)
+      cond (leb size (length text)) (Ok size) (refused short_text)
 ]
 
 -- what stands in the lent text at the return: the listing, and "the rest of the buffer" as it came
@@ -84,8 +82,8 @@ write_text graph text =
 -- sheet's graph has true counts.
 unfoldable pub sheet_reply : Sheet → List ℕ → Reply
 sheet_reply s graph = elim (graph_reply (graph_block (graph_in s))) [
-  | Refused why ↦ refused unsound_listing
-  | Done value ↦ cond (eqb (length graph) (record_at s.size)) done (refused bad_graph_length)
+  | Err why ↦ refused unsound_listing
+  | Ok value ↦ cond (eqb (length graph) (record_at s.size)) done (refused bad_graph_length)
 ]
 
 -- The reply for a text and a lent graph, and what stands in the lent graph at the return. It is proved that for each text and graph there is

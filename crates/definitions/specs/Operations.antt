@@ -1,14 +1,12 @@
 -- Checking, matching and rewriting: for any bytes, what is replied and what stands in the lent blocks at the return. Sweep, Squeeze, Import and
 -- ReadElsewhere are files of their own.
 -- Assumes nothing.
-use Rattle.std.specs.Prelude.{cond, List, [], ◌∷◌, ℕ, ◌*◌, eqb, ℤ, length}
+use Rattle.std.specs.Prelude.{cond, List, [], ◌∷◌, ℕ, ◌*◌, eqb, ℤ, length, Ok, Err}
 use Rattle.std.proofs.Math.Option.{none, some}
 use Rattle.definitions.specs.declared.Refusal.{Refusal}
-use Rattle.definitions.specs.declared.Reply.{Reply}
-use Rattle.definitions.specs.declared.Reply.TheVariants.{Done, Refused}
 use Rattle.definitions.specs.Lists.{tabulate, padded, concat_map}
 use Rattle.definitions.specs.Fields.{u16_at, u16_bytes}
-use Rattle.definitions.specs.Reply.{done, bad_map_length, no_match, no_result, no_room, new_cycle, refusal, refused, packed, first_refusal}
+use Rattle.definitions.specs.Reply.{Reply, done, bad_map_length, no_match, no_result, no_room, new_cycle, refusal, refused, packed, first_refusal}
 use Rattle.definitions.specs.Graph.{unused_place, Graph, graph_of, graph_block, graph_reply, has_cycle}
 use Rattle.definitions.specs.Rule.{Rule, rule_of, rule_reply}
 use Rattle.definitions.specs.Match.{read_attribute, least_match}
@@ -67,8 +65,8 @@ matched graph rule start map = elim (least_match (graph_of graph) (rule_of rule)
 
 unfoldable pub find_match : List ℕ → List ℕ → ℕ → List ℕ → Outcome
 find_match graph rule start map = elim (blocks_reply graph rule map) [
-  | Done value ↦ matched graph rule start map
-  | Refused why ↦ outcome (Refused why) graph map
+  | Ok value ↦ matched graph rule start map
+  | Err why ↦ outcome (Err why) graph map
 ]
 
 -- what a rewriting at one match comes to: the new table, or the first of the refusals 5, 6 and 7 that applies
@@ -90,14 +88,14 @@ rewritten g r found = elim (target_results (read_attribute g found) r.target) [
 -- rewriting at the least match, once the blocks are sound; no other match is tried
 unfoldable pub replaced : List ℕ → List ℕ → List ℕ → List ℕ → Outcome
 replaced graph rule map found = elim (rewritten (graph_of graph) (rule_of rule) found) [
-  | turned_down why ↦ outcome (Refused why) graph map
+  | turned_down why ↦ outcome (Err why) graph map
   | accepted new ↦ outcome done (graph_block new) (map_block found)
 ]
 
 unfoldable pub rewrite : List ℕ → List ℕ → ℕ → List ℕ → Outcome
 rewrite graph rule start map = elim (blocks_reply graph rule map) [
-  | Refused why ↦ outcome (Refused why) graph map
-  | Done value ↦ elim (least_match (graph_of graph) (rule_of rule) start) [
+  | Err why ↦ outcome (Err why) graph map
+  | Ok value ↦ elim (least_match (graph_of graph) (rule_of rule) start) [
     | none ↦ outcome (refused no_match) graph map
     | some found ↦ replaced graph rule map found
   ]

@@ -1,13 +1,11 @@
 -- Request 6/13: "Given a sound version 2 graph, a rule, its match and one non-input source vertex, answer from the stored count and the rule
 -- alone: yes exactly when the image is a graph output or is read by something other than the image of a non-input source vertex."
 -- Assumes nothing.
-use Rattle.std.specs.Prelude.{Bool, cond, not, ◌&&◌, ◌||◌, ℕ, ◌*◌, eqb, ltb, length}
+use Rattle.std.specs.Prelude.{Bool, cond, not, ◌&&◌, ◌||◌, ℕ, ◌*◌, eqb, ltb, length, Ok, Err}
 use mathlib.Core.List.{List, Memᴰ}
-use Rattle.definitions.specs.declared.Reply.{Reply}
-use Rattle.definitions.specs.declared.Reply.TheVariants.{Done, Refused}
 use Rattle.definitions.specs.Lists.{all_below, any_below, member}
 use Rattle.definitions.specs.Fields.{u16_at}
-use Rattle.definitions.specs.Reply.{not_amatch, no_such_vertex, answered, refused}
+use Rattle.definitions.specs.Reply.{Reply, not_amatch, no_such_vertex, answered, refused}
 use Rattle.definitions.specs.Paths.{Reads}
 use Rattle.definitions.specs.Graph.{unused_place, Graph, graph_of, inputs_of}
 use Rattle.definitions.specs.Rule.{Rule, source_count, rule_of, is_rule_input}
@@ -54,6 +52,6 @@ asked_reply graph rule map vertex =
 -- nothing is written, whatever the reply
 unfoldable pub elsewhere_reply : List ℕ → List ℕ → List ℕ → ℕ → Reply
 elsewhere_reply graph rule map vertex = elim (blocks_reply graph rule map) [
-  | Refused why ↦ Refused why
-  | Done value ↦ asked_reply graph rule map vertex
+  | Err why ↦ Err why
+  | Ok value ↦ asked_reply graph rule map vertex
 ]

@@ -1,10 +1,12 @@
 -- 'Reply numbers': the numbers, and what an answer stands for as the one number that the C side gets.
 -- Assumes nothing.
-use Rattle.std.specs.Prelude.{List, [], ◌∷◌, Bool, cond, ℕ, ◌+◌, ◌*◌, ◌/◌, ◌%◌, ◌^◌, ltb}
+use Rattle.std.specs.Prelude.{List, [], ◌∷◌, Bool, cond, ℕ, ◌+◌, ◌*◌, ◌/◌, ◌%◌, ◌^◌, ltb, Result, Ok, Err}
 use Rattle.std.proofs.Math.Option.{Option, none, some}
 use Rattle.definitions.specs.declared.Refusal.{Refusal}
-use Rattle.definitions.specs.declared.Reply.{Reply}
-use Rattle.definitions.specs.declared.Reply.TheVariants.{Done, Refused}
+
+-- the answer of an operation: done, with a value where a request names one, or a refusal
+abbrev pub Reply : Type 0
+Reply = Result ℕ Refusal
 
 abbrev pub bad_map_length : ℕ
 bad_map_length = 1
@@ -84,18 +86,18 @@ bad_graph_length = 46
 
 -- done, without a value
 abbrev pub done : Reply
-done = Done 0
+done = Ok 0
 
 -- done, with the answer to a question: value 1 is yes, and 0 is no
 unfoldable pub answered : Bool → Reply
-answered holds = Done (cond holds 1 0)
+answered holds = Ok (cond holds 1 0)
 
 -- no request names a value beside the place yet
 unfoldable pub refusal_at : ℕ → ℕ → Refusal
 refusal_at number index = record { number = number; place = record { index = index; value = 0 } }
 
 abbrev pub refused_at : ℕ → ℕ → Reply
-refused_at number index = Refused (refusal_at number index)
+refused_at number index = Err (refusal_at number index)
 
 -- "wherever no request names a place, 0"
 abbrev pub refusal : ℕ → Refusal
@@ -106,16 +108,16 @@ refused number = refused_at number 0
 
 -- the paper's number for each case, the place, and the value of done or beside the place
 unfoldable pub number_of : Reply → ℕ
-number_of (Done value) = 0
-number_of (Refused why) = why.number
+number_of (Ok value) = 0
+number_of (Err why) = why.number
 
 unfoldable pub index_of : Reply → ℕ
-index_of (Done value) = 0
-index_of (Refused why) = why.place.index
+index_of (Ok value) = 0
+index_of (Err why) = why.place.index
 
 unfoldable pub value_beside : Reply → ℕ
-value_beside (Done value) = value
-value_beside (Refused why) = why.place.value
+value_beside (Ok value) = value
+value_beside (Err why) = why.place.value
 
 -- a value is below this
 abbrev pub value_limit : ℕ
@@ -157,10 +159,10 @@ judged (fault number (some at) ∷ faults) = refused_at number at
 -- the first refusal of a list of replies, or done
 unfoldable pub first_refusal : List Reply → Reply
 first_refusal [] = done
-first_refusal (Done value ∷ replies) = first_refusal replies
-first_refusal (Refused why ∷ replies) = Refused why
+first_refusal (Ok value ∷ replies) = first_refusal replies
+first_refusal (Err why ∷ replies) = Err why
 
 -- what a lent block holds at the return: `after` where the reply is done; a refusal leaves it as it came
 unfoldable pub where_done : Reply → List ℕ → List ℕ → List ℕ
-where_done (Done value) after before = after
-where_done (Refused why) after before = before
+where_done (Ok value) after before = after
+where_done (Err why) after before = before

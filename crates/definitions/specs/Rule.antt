@@ -2,13 +2,12 @@
 -- Assumes nothing.
 use Rattle.std.specs.Prelude.{◌≡◌, Bool, true, false, cond, not, ◌&&◌, ◌||◌, ℕ, zero, suc, ◌+◌, ◌-◌, ◌*◌, ◌<◌, eqb, ltb, leb, ℤ, length, get_or}
 use mathlib.Core.List.{List, [], ◌∷◌, ◌++◌, Memᴰ}
-use Rattle.definitions.specs.declared.Reply.{Reply}
 use Rattle.definitions.specs.Lists.{within, all_below, any_below, lowest, tabulate, build, all, any, foldl, member, distinct, range}
 use Rattle.definitions.specs.Fields.{byte_at, u16_at, u32_at, filled, mark_fits, signed}
 use Rattle.definitions.specs.Operators.{kind_empty, kind_variable, kind_call, kind_proj, shape_fits}
 use Rattle.definitions.specs.Graph.{attribute_limit}
 use Rattle.definitions.specs.Paths.{Reaches, visit}
-use Rattle.definitions.specs.Reply.{bad_rule_header, bad_rule_record, bad_rule_order, bad_rule_outputs, bad_rule_expression, Fault, fault, flag, place, judged}
+use Rattle.definitions.specs.Reply.{Reply, bad_rule_header, bad_rule_record, bad_rule_order, bad_rule_outputs, bad_rule_expression, Fault, fault, flag, place, judged}
 
 -- ---- sizes
 

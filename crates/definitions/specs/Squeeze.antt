@@ -2,10 +2,9 @@
 -- 16-bit numbers says where each old slot went (65535 for Empty)".
 -- Assumes nothing.
 use Rattle.std.specs.Prelude.{cond, List, [], ◌∷◌, map, ℕ, ◌*◌, eqb, ltb, length, get_or}
-use Rattle.definitions.specs.declared.Reply.{Reply}
 use Rattle.definitions.specs.Lists.{tabulate, filter, concat_map, position, range}
 use Rattle.definitions.specs.Fields.{u16_bytes}
-use Rattle.definitions.specs.Reply.{done, bad_moves_length, refused, first_refusal, where_done}
+use Rattle.definitions.specs.Reply.{Reply, done, bad_moves_length, refused, first_refusal, where_done}
 use Rattle.definitions.specs.Graph.{unused_place, slot_count, Slot, Graph, empty_slot, renamed, graph_of, slot_of, is_vertex, graph_block, graph_reply}
 
 -- the slots that are not Empty, lowest first

@@ -2,11 +2,10 @@
 -- of either version stands.
 -- Assumes nothing.
 use Rattle.std.specs.Prelude.{◌≡◌, Bool, true, false, cond, not, ◌&&◌, ◌||◌, List, [], ◌∷◌, map, ℕ, ◌+◌, ◌-◌, ◌%◌, ◌<◌, ◌≤◌, eqb, ltb, leb, length}
-use Rattle.definitions.specs.declared.Reply.{Reply}
 use Rattle.definitions.specs.Lists.{all_below, lowest, any, range}
 use Rattle.definitions.specs.Fields.{byte_at, u16_at, filled, mark_fits}
 use Rattle.definitions.specs.Operators.{kind_tuple, shape_fits}
-use Rattle.definitions.specs.Reply.{bad_rule_header, bad_rule_record, bad_rule_order, bad_rule_outputs, bad_rule_expression, bad_expansion, Fault, fault, flag, place, judged}
+use Rattle.definitions.specs.Reply.{Reply, bad_rule_header, bad_rule_record, bad_rule_order, bad_rule_outputs, bad_rule_expression, bad_expansion, Fault, fault, flag, place, judged}
 use Rattle.definitions.specs.Rule.{side_limit, rule_letter, source_count, target_count, node_count, vertex_at, node_at, Expression, anything, constant, access, apply, index, sum, Origin, given, made, form_remainder, form_index, form_sum, Pattern, Rule, node_form, node_left, node_right, expression_of, rule_of, source_of, target_of, rule_sizes_fit, rule_output_places_fit, source_inputs_fit, target_inputs_fit, traversal, out_of_order, outputs_fit, operand_fits, node_fits, use_fits}
 use Rattle.definitions.specs.FixedRule.{SoundFixed, sound_fixed}
 use Rattle.definitions.specs.Variadic.{VariadicRule, expansion}

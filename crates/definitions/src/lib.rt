@@ -110,7 +110,7 @@ pub struct Place {
     pub value: u32,
 }
 
-// A refusal: the number of the reply table with its place record.
+// A refusal: the number of the reply table with its place record. It is the number and not the reason, since C gets it as it is.
 #[derive(Clone, Copy)]
 pub struct Refusal {
     pub number: u8,
@@ -118,8 +118,4 @@ pub struct Refusal {
 }
 
 // The answer of every operation: done, with a value where a request names one, or a refusal. A value has 24 bits.
-#[derive(Clone, Copy)]
-pub enum Reply {
-    Done(u32),
-    Refused(Refusal),
-}
+pub type Reply = Result<u32, Refusal>;

@@ -1,2 +1,1 @@
-pub mod Integer
 pub mod Words

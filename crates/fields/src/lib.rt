@@ -2,35 +2,9 @@
 // `requires` names.
 #![tactic(auto)]
 
-ghost use Rattle.std.specs.Prelude.{◌≡◌, ◌+◌, ◌<◌, ◌≤◌, max, length};
+ghost use Rattle.std.specs.Prelude.{◌≡◌, ◌+◌, ◌<◌, ◌≤◌, length};
 ghost use Rattle.definitions.specs.Fields.{byte_at, u16_at, u32_at, mark_fits, signed};
-ghost use Rattle.fields.specs.Integer.{integer_of};
 ghost use Rattle.fields.specs.Words.{word_bytes, u64_at};
-
-// A whole number by its sign: Plus(n) is n, and Minus(n) is -(n + 1), so that each number has one
-// form only.
-#[derive(Clone, Copy)]
-pub enum Integer {
-    Plus(u64),
-    Minus(u64),
-}
-
-// A 16-bit number as a place or a slot's number. As a parameter it is known to fit, which an element of an array is not.
-pub fn widened(number: u16) -> usize
-    ensures { result ≡ number }
-{
-    number as usize
-}
-
-// The greater of two numbers.
-pub fn greater(a: usize, b: usize) -> usize
-    ensures { result ≡ max a b }
-{
-    if a < b {
-        return b;
-    }
-    a
-}
 
 // The byte at `at`.
 pub fn byte_at(block: &[u8], at: usize) -> usize
@@ -71,15 +45,12 @@ pub fn u64_at(block: &[u8], at: usize) -> usize
 }
 
 // The signed 32-bit number at `at`, in two's complement.
-pub fn i32_at(block: &[u8], at: usize) -> Integer
+pub fn i32_at(block: &[u8], at: usize) -> i32
     requires { at + 3 < length block.now }
-    ensures { integer_of result ≡ signed (u32_at block.now at) }
+    ensures { result ≡ signed (u32_at block.now at) }
 {
-    let word = u32_at(block, at);
-    if word < 2147483648 {
-        return Integer::Plus(word as u64);
-    }
-    Integer::Minus((4294967295 - word) as u64)
+    let word = u32_at(block, at) as u32;
+    word.cast_signed()
 }
 
 // Whether the block starts with its mark: `LG`, the letter of its sort, and a zero byte.
@@ -87,17 +58,8 @@ pub fn has_mark(block: &[u8], letter: usize) -> bool
     requires { 4 ≤ length block.now }
     ensures { result ≡ mark_fits block.now letter }
 {
-    if byte_at(block, 0) != 76 {
-        return false;
-    }
-    if byte_at(block, 1) != 71 {
-        return false;
-    }
-    if byte_at(block, 2) != letter {
-        return false;
-    }
-    if byte_at(block, 3) != 0 {
-        return false;
-    }
-    true
+    byte_at(block, 0) == 76
+        && byte_at(block, 1) == 71
+        && byte_at(block, 2) == letter
+        && byte_at(block, 3) == 0
 }

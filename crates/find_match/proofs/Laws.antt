@@ -5,7 +5,7 @@ use mathlib.Core.List.{List}
 use mathlib.Core.Option.{none, some}
 use Prim.Native.Nat.{ℕ}
 use Rattle.definitions.specs.declared.Refusal.{Refusal}
-use Rattle.definitions.specs.declared.Reply.TheVariants.{Done, Refused}
+use Rattle.std.specs.Prelude.{Ok, Err}
 use Rattle.definitions.specs.Reply.{done, no_match, refused}
 use Rattle.definitions.specs.Graph.{graph_of}
 use Rattle.definitions.specs.Rule.{rule_of}
@@ -15,12 +15,12 @@ use Rattle.definitions.specs.Operations.{outcome, map_block, blocks_reply, match
 -- ---- the outcome, stage by stage
 
 module _ (graph rule : List ℕ) (start : ℕ) (images : List ℕ) where
-  pub blocks_refused : (refusal : Refusal) → blocks_reply graph rule images ≡ Refused refusal
-      → outcome (Refused refusal) graph images ≡ find_match graph rule start images
+  pub blocks_refused : (refusal : Refusal) → blocks_reply graph rule images ≡ Err refusal
+      → outcome (Err refusal) graph images ≡ find_match graph rule start images
   unfolding find_match
   blocks_refused refusal h = rw (h, find_match)
 
-  module _ {value : ℕ} (h : blocks_reply graph rule images ≡ Done value) where
+  module _ {value : ℕ} (h : blocks_reply graph rule images ≡ Ok value) where
     searched : matched graph rule start images ≡ find_match graph rule start images
     unfolding find_match
     searched = rw (h, find_match)

@@ -6,7 +6,7 @@ ghost use Rattle.definitions.specs.Operations as operation;
 
 use blocks::{check_blocks, write_map};
 use definitions::{MAP_PLACES, Reply};
-use reply::{NO_MATCH, refuse};
+use reply::{Reason, refuse};
 use search::least_match;
 
 // Nothing is written before the reply is sure: the map is the last thing that is done.
@@ -14,15 +14,10 @@ pub fn find_match(graph: &[u8], rule: &[u8], start: usize, map: &mut [u8]) -> Re
     ensures { operation.outcome result graph.now map.new
         ≡ operation.find_match graph.now rule.now start map.old }
 {
-    match check_blocks(graph, rule, map) {
-        Reply::Refused(refusal) => return Reply::Refused(refusal),
-        Reply::Done(_) => {}
-    }
-    let found = least_match(graph, rule, start);
-    if !found.ok {
-        return refuse(NO_MATCH);
-    }
-    let images = found.images;
+    check_blocks(graph, rule, map)?;
+    let Some(images) = least_match(graph, rule, start) else {
+        return refuse(Reason::NoMatch);
+    };
     write_map(map, &images[0..MAP_PLACES]);
-    Reply::Done(0)
+    Ok(0)
 }

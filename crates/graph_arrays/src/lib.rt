@@ -7,19 +7,14 @@ ghost use Rattle.graph_arrays.specs.Arrays.{inputs_at, attributes_at};
 
 use definitions::{ATTRIBUTE_LIMIT, ATTRIBUTES_OFFSET, INPUT_LIMIT, INPUTS_OFFSET};
 use fields::{u16_at, u32_at};
+use std::array;
 
 // Every input place of the record that starts at `at`.
 pub fn read_inputs(block: &[u8], at: usize) -> [u16; INPUT_LIMIT]
     requires { at + slot_bytes ≤ length block.now }
     ensures { result ≡ inputs_at block.now at }
 {
-    let mut inputs = [0u16; INPUT_LIMIT];
-    let mut i = 0;
-    while i < INPUT_LIMIT {
-        inputs[i] = u16_at(block, at + INPUTS_OFFSET + 2 * i) as u16;
-        i += 1;
-    }
-    inputs
+    array::from_fn(|i| u16_at(block, at + INPUTS_OFFSET + 2 * i) as u16)
 }
 
 // Every attribute place of the record that starts at `at`.
@@ -27,11 +22,5 @@ pub fn read_attributes(block: &[u8], at: usize) -> [u32; ATTRIBUTE_LIMIT]
     requires { at + slot_bytes ≤ length block.now }
     ensures { result ≡ attributes_at block.now at }
 {
-    let mut attributes = [0u32; ATTRIBUTE_LIMIT];
-    let mut i = 0;
-    while i < ATTRIBUTE_LIMIT {
-        attributes[i] = u32_at(block, at + ATTRIBUTES_OFFSET + 4 * i) as u32;
-        i += 1;
-    }
-    attributes
+    array::from_fn(|i| u32_at(block, at + ATTRIBUTES_OFFSET + 4 * i) as u32)
 }

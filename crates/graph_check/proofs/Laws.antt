@@ -9,7 +9,7 @@ use native.Mathlib.Omega.{arith}
 use borrow.Author.Tests.{not-false, lt-ltb, le-ltb}
 use lib.ListN.{length, get_or}
 use Rattle.definitions.specs.declared.Refusal.{Refusal}
-use Rattle.definitions.specs.declared.Reply.TheVariants.{Refused}
+use Rattle.std.specs.Prelude.{Err}
 use Rattle.definitions.specs.Lists.{lowest, all}
 use Rattle.definitions.specs.Fields.{byte_at}
 use Rattle.definitions.specs.Operators.{shape_fits}
@@ -120,10 +120,10 @@ module _ (version : ℕ) (block : List ℕ) where
   unfolding reply_as faults_as
   in_stages = refl
 
-  pub early_refused : {why : Refusal} → early_reply version block ≡ Refused why → reply_as version block ≡ Refused why
+  pub early_refused : {why : Refusal} → early_reply version block ≡ Err why → reply_as version block ≡ Err why
   early_refused e = in_stages ∙ judged-first (name_faults version block) (cycle_faults block) e
 
-  pub told_early : {why : Refusal} → Refused why ≡ early_reply version block → Refused why ≡ reply_as version block
+  pub told_early : {why : Refusal} → Err why ≡ early_reply version block → Err why ≡ reply_as version block
   told_early e = sym (early_refused (sym e))
 
   module _ (early : done ≡ early_reply version block) where
@@ -156,7 +156,7 @@ module _ (version : ℕ) (block : List ℕ) (early : Passed version block) where
 -- ---- and then the counts
 
 module _ (block : List ℕ) where
-  pub refused-form : {why : Refusal} → reply_as graph_version block ≡ Refused why → graph_reply block ≡ Refused why
+  pub refused-form : {why : Refusal} → reply_as graph_version block ≡ Err why → graph_reply block ≡ Err why
   unfolding reply_as graph_reply
   refused-form e = judged-first (faults_as graph_version block) (count_faults block) e
 

@@ -9,10 +9,9 @@ use Prim.Native.Nat.{ℕ, ◌<◌, ◌≤◌}
 use borrow.Author.Tests.{not-true, eqb-true, eqb-false, ne_eqb}
 use lib.Dec.{eqb}
 use lib.ListN.{length, get_or}
-use Rattle.definitions.specs.declared.Reply.{Reply}
 use Rattle.definitions.specs.Lists.{lowest, all}
 use Rattle.definitions.specs.Paths.{Reads, OnCycle, on_cycle}
-use Rattle.definitions.specs.Reply.{bad_graph_record, bad_graph_name, graph_has_cycle, bad_graph_count, done, refused_at}
+use Rattle.definitions.specs.Reply.{Reply, bad_graph_record, bad_graph_name, graph_has_cycle, bad_graph_count, done, refused_at}
 use Rattle.definitions.specs.Graph.{unused_place, graph_version, slot_count, output_count, record_at, stored_count, graph_of, inputs_of, is_vertex, true_count, header_fits, record_fits, bad_record, bad_inputs, bad_output, bad_count, lowest_on_cycle, reply_as, graph_reply, SoundAs, SoundGraph}
 use Rattle.definitions.specs.Faults.{None, BadRecord, BadInput, BadOutput, BadCount, FaultAs, header, slot, input, output, cycle, GraphFault, form, count}
 use Rattle.laws.proofs.Lists.{decided, passes, fails, true_not_false, all-member, all_some}

@@ -1,9 +1,8 @@
 -- What is known of a block in which header, records and names are right.
 -- Assumes nothing.
 use Rattle.std.specs.Prelude.{◌≡◌, true, List, ℕ, ◌≤◌}
-use Rattle.definitions.specs.declared.Reply.{Reply}
 use Rattle.definitions.specs.Lists.{lowest}
-use Rattle.definitions.specs.Reply.{judged}
+use Rattle.definitions.specs.Reply.{Reply, judged}
 use Rattle.definitions.specs.Graph.{slot_count, output_count, graph_of, header_fits, bad_record, bad_inputs, bad_output, name_faults}
 
 -- what judging these gives

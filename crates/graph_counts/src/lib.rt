@@ -30,9 +30,7 @@ pub fn store_counts(graph: &mut [u8])
 {
     let slots = slot_count(graph);
     let uses = count_uses(graph);
-    let mut k = 0;
-    while k < slots {
+    for k in 0..slots {
         store_count(graph, k, uses[k]);
-        k += 1;
     }
 }

@@ -9,7 +9,7 @@ use lib.Seq.{take_all}
 use Rattle.definitions.specs.Lists.{lowest}
 use Rattle.definitions.specs.Graph.{slot_count, graph_of, inputs_of, lowest_on_cycle, has_cycle}
 use Rattle.definitions.specs.Paths.{is_marked, on_cycle}
-use Rattle.laws.proofs.Lists.{fails, lowest_none, lowest-found}
+use Rattle.laws.proofs.Lists.{fails, lowest_none}
 use Rattle.laws.proofs.Graph.{length-slots}
 use Rattle.theory.proofs.Paths.{Table}
 use Rattle.graph_fields.specs.Layout.{Closed}
@@ -32,19 +32,11 @@ module _ (block : List ℕ) where
   abbrev cyclic : ℕ → Bool
   cyclic = on_cycle (inputs_of (graph_of block)) (slot_count block)
 
-  by_slots : lowest_on_cycle (graph_of block) ≡ lowest cyclic (slot_count block)
+  pub by_slots : lowest_on_cycle (graph_of block) ≡ lowest cyclic (slot_count block)
   unfolding lowest_on_cycle
   by_slots = rw (length-slots block) refl
 
-  -- the first slot of which the test holds
-  pub lowest-at : (v : ℕ) → v < slot_count block → ((k : ℕ) → k < v → cyclic k ≡ false) → cyclic v ≡ true → v ≡ lowest_on_cycle (graph_of block)
-  lowest-at v l below t = sym (by_slots ∙ lowest-found cyclic (slot_count block) v l below t)
-
-  -- it holds of no slot
-  pub lowest_past : ((k : ℕ) → k < slot_count block → cyclic k ≡ false) → slot_count block ≡ lowest_on_cycle (graph_of block)
-  lowest_past below = sym (by_slots ∙ lowest_none cyclic (slot_count block) below)
-
   -- there is no cycle
   pub lowest_free : Closed block → has_cycle (graph_of block) ≡ false → slot_count block ≡ lowest_on_cycle (graph_of block)
-  lowest_free closed f = lowest_past (λ k l. fails (λ t.
-      free_acyclic (graph_of block) (slots_table closed) f k (cycle_sound (table closed) k t)))
+  lowest_free closed f = sym (by_slots ∙ lowest_none cyclic (slot_count block) (λ k l. fails (λ t.
+      free_acyclic (graph_of block) (slots_table closed) f k (cycle_sound (table closed) k t))))

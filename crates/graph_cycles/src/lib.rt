@@ -22,10 +22,8 @@ fn is_on_cycle(graph: &[u8], v: usize) -> bool
 {
     let inputs = input_count(graph, v);
     let mut marks = [false; SLOT_LIMIT];
-    let mut i = 0;
-    while i < inputs {
+    for i in 0..inputs {
         mark_from(graph, input_at(graph, v, i), &mut marks);
-        i += 1;
     }
     marks[v]
 }
@@ -37,15 +35,9 @@ pub fn lowest_on_cycle(graph: &[u8]) -> usize
     ensures { result ≡ lowest_on_cycle (graph_of graph.now) }
 {
     let slots = slot_count(graph);
-    if !has_cycle(graph) {
-        return slots;
+    if has_cycle(graph) {
+        (0..slots).find(|&v| is_on_cycle(graph, v)).unwrap_or(slots)
+    } else {
+        slots
     }
-    let mut v = 0;
-    while v < slots {
-        if is_on_cycle(graph, v) {
-            return v;
-        }
-        v += 1;
-    }
-    slots
 }

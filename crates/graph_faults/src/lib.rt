@@ -13,7 +13,7 @@ use definitions::{
     ATTRIBUTES_OFFSET, HEADER_BYTES, IMPORT_VERSION, INPUTS_OFFSET, KIND_PROJ, SLOT_BYTES,
     TAIL_OFFSET,
 };
-use fields::{Integer, byte_at, i32_at};
+use fields::{byte_at, i32_at};
 use graph_fields::slot_count;
 use operators::shape_fits;
 use runs::{
@@ -25,13 +25,7 @@ fn index_fits(graph: &[u8], at: usize, kind: usize) -> bool
     requires { at + slot_bytes ≤ length graph.now }
     ensures { result ≡ (not (eqb kind kind_proj) || at_least_one (signed (u32_at graph.now (at + attributes_offset)))) }
 {
-    if kind != KIND_PROJ {
-        return true;
-    }
-    match i32_at(graph, at + ATTRIBUTES_OFFSET) {
-        Integer::Plus(index) => 0 < index,
-        Integer::Minus(_) => false,
-    }
+    kind != KIND_PROJ || 0 < i32_at(graph, at + ATTRIBUTES_OFFSET)
 }
 
 // Whether the unused input places of the record at `at` hold 65535.
@@ -103,12 +97,7 @@ pub fn bad_record(graph: &[u8], version: usize) -> usize
     ensures { result ≡ lowest (bad_record version graph.now) (slot_count graph.now) }
 {
     let slots = slot_count(graph);
-    let mut k = 0;
-    while k < slots {
-        if !record_fits(graph, HEADER_BYTES + SLOT_BYTES * k, version) {
-            return k;
-        }
-        k += 1;
-    }
-    slots
+    (0..slots)
+        .find(|&k| !record_fits(graph, HEADER_BYTES + SLOT_BYTES * k, version))
+        .unwrap_or(slots)
 }

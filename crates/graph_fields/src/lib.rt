@@ -2,7 +2,6 @@
 #![tactic(auto)]
 
 ghost use Rattle.std.specs.Prelude.{◌≡◌, ◌+◌, ◌<◌, ◌≤◌, length, get_or};
-ghost use Rattle.fields.specs.Integer.{integer_of};
 ghost use Rattle.definitions.specs.Fields.{signed};
 ghost use Rattle.definitions.specs.Graph.{header_bytes, slot_bytes, input_limit, attribute_limit, unused_place, slot_count, output_count, record_at, stored_count, graph_of, slot_of, inputs_of, is_vertex};
 ghost use Rattle.graph_fields.specs.Layout.{WholeGraph, ReadableGraph};
@@ -11,7 +10,7 @@ use definitions::{
     ATTRIBUTES_OFFSET, COUNT_OFFSET, HEADER_BYTES, INPUTS_OFFSET, KIND_EMPTY, OUTPUTS_OFFSET,
     SLOT_BYTES,
 };
-use fields::{Integer, byte_at, i32_at, u16_at, u32_at};
+use fields::{byte_at, i32_at, u16_at, u32_at};
 
 // How many slots the header counts.
 pub fn slot_count(graph: &[u8]) -> usize
@@ -90,11 +89,11 @@ pub fn attribute_count(graph: &[u8], k: usize) -> usize
 }
 
 // The number in attribute place i of slot k, here counted from 0.
-pub fn attribute_at(graph: &[u8], k: usize, i: usize) -> Integer
+pub fn attribute_at(graph: &[u8], k: usize, i: usize) -> i32
     requires readable_graph { ReadableGraph graph.now }
     requires k_bound { k < slot_count graph.now }
     requires i_in_bounds { i < length (slot_of (graph_of graph.now) k).attributes }
-    ensures { integer_of result ≡ signed (get_or (slot_of (graph_of graph.now) k).attributes i 0) }
+    ensures { result ≡ signed (get_or (slot_of (graph_of graph.now) k).attributes i 0) }
 {
     let at = record_at(graph, k);
     i32_at(graph, at + ATTRIBUTES_OFFSET + 4 * i)
@@ -135,11 +134,5 @@ pub fn is_vertex(graph: &[u8], v: usize) -> bool
     requires { WholeGraph graph.now }
     ensures { result ≡ is_vertex (graph_of graph.now) v }
 {
-    if slot_count(graph) <= v {
-        return false;
-    }
-    if kind_of(graph, v) == KIND_EMPTY {
-        return false;
-    }
-    true
+    v < slot_count(graph) && kind_of(graph, v) != KIND_EMPTY
 }

@@ -13,21 +13,18 @@ use graph_fields::{output_count, slot_count};
 use runs::is_filled;
 
 // Whether 1 to 4 outputs are counted, and the unused output places hold 65535.
+#[tactic(auto, unfolding(definitions::specs::Graph::output_places_fit))]
 fn output_places_fit(graph: &[u8]) -> bool
     requires { header_bytes ≤ length graph.now }
     ensures { result ≡ output_places_fit graph.now }
 {
     let outputs = output_count(graph);
-    if outputs < 1 {
-        return false;
-    }
-    if OUTPUT_LIMIT < outputs {
-        return false;
-    }
-    is_filled(graph, OUTPUTS_OFFSET + 2 * outputs, OUTPUTS_END, 255)
+    (1..=OUTPUT_LIMIT).contains(&outputs)
+        && is_filled(graph, OUTPUTS_OFFSET + 2 * outputs, OUTPUTS_END, 255)
 }
 
 // Whether the length and the header are right for a block of this version.
+#[tactic(auto, unfolding(definitions::specs::Graph::header_fits))]
 pub fn header_fits(graph: &[u8], version: usize) -> bool
     ensures { result ≡ header_fits version graph.now }
 {
@@ -35,23 +32,10 @@ pub fn header_fits(graph: &[u8], version: usize) -> bool
         return false;
     }
     let slots = slot_count(graph);
-    if graph.len() != HEADER_BYTES + SLOT_BYTES * slots {
-        return false;
-    }
-    if !has_mark(graph, GRAPH_LETTER) {
-        return false;
-    }
-    if u16_at(graph, VERSION_OFFSET) != version {
-        return false;
-    }
-    if slots < 1 {
-        return false;
-    }
-    if SLOT_LIMIT < slots {
-        return false;
-    }
-    if !output_places_fit(graph) {
-        return false;
-    }
-    is_filled(graph, OUTPUTS_END, HEADER_BYTES, 0)
+    graph.len() == HEADER_BYTES + SLOT_BYTES * slots
+        && has_mark(graph, GRAPH_LETTER)
+        && u16_at(graph, VERSION_OFFSET) == version
+        && (1..=SLOT_LIMIT).contains(&slots)
+        && output_places_fit(graph)
+        && is_filled(graph, OUTPUTS_END, HEADER_BYTES, 0)
 }

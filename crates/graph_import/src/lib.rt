@@ -15,11 +15,8 @@ pub fn import(graph: &mut [u8]) -> Reply
     ensures value { result ≡ import_reply graph.old }
     ensures graph_after { graph.new ≡ import_graph graph.old }
 {
-    match judge(graph, IMPORT_VERSION) {
-        Reply::Refused(refusal) => return Reply::Refused(refusal),
-        Reply::Done(_) => {}
-    }
+    judge(graph, IMPORT_VERSION)?;
     put_u16_at(graph, VERSION_OFFSET, GRAPH_VERSION as u16);
     store_counts(graph);
-    Reply::Done(0)
+    Ok(0)
 }

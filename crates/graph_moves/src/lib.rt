@@ -9,11 +9,11 @@ ghost use Rattle.graph_records.specs.Records.{Stands};
 ghost use Rattle.graph_moves.specs.Moving.{name_in, Moving, NamesSlots, Renamable};
 
 use definitions::{INPUT_LIMIT, KIND_EMPTY, OUTPUT_LIMIT, SLOT_LIMIT, UNUSED_PLACE};
-use fields::widened;
 use graph_fields::{kind_of, output_at, output_count, slot_count};
 use graph_records::Record;
 
 // How many vertices there are, from which slot each comes, in order, and for each slot its new number, 65535 for an Empty one.
+// The count stands beside an array of a fixed length, since there is no heap.
 #[derive(Drop)]
 pub struct Moves {
     pub count: usize,
@@ -30,14 +30,12 @@ pub fn moves_of(graph: &[u8]) -> Moves
     let mut from = [UNUSED_PLACE; SLOT_LIMIT];
     let mut to = [UNUSED_PLACE; SLOT_LIMIT];
     let mut count = 0;
-    let mut v = 0;
-    while v < slots {
+    for v in 0..slots {
         if kind_of(graph, v) != KIND_EMPTY {
             from[count] = v as u16;
             to[v] = count as u16;
             count += 1;
         }
-        v += 1;
     }
     Moves { count, from, to }
 }
@@ -55,10 +53,8 @@ fn renamed_inputs(
     ensures { result ≡ padded input_limit unused_place (map (name_in to.now) (take n inputs.now)) }
 {
     let mut places = [UNUSED_PLACE; INPUT_LIMIT];
-    let mut i = 0;
-    while i < n {
-        places[i] = to[widened(inputs[i])];
-        i += 1;
+    for i in 0..n {
+        places[i] = to[usize::from(inputs[i])];
     }
     places
 }
@@ -95,10 +91,8 @@ pub fn renamed_outputs(graph: &[u8], to: &[u16; SLOT_LIMIT]) -> [u16; OUTPUT_LIM
 {
     let count = output_count(graph);
     let mut outputs = [UNUSED_PLACE; OUTPUT_LIMIT];
-    let mut i = 0;
-    while i < count {
+    for i in 0..count {
         outputs[i] = to[output_at(graph, i)];
-        i += 1;
     }
     outputs
 }

@@ -15,15 +15,7 @@ pub fn inputs_named(graph: &[u8], k: usize) -> bool
     requires k_bound { k < slot_count graph.now }
     ensures { result ≡ all (is_vertex (graph_of graph.now)) (inputs_of (graph_of graph.now) k) }
 {
-    let inputs = input_count(graph, k);
-    let mut i = 0;
-    while i < inputs {
-        if !is_vertex(graph, input_at(graph, k, i)) {
-            return false;
-        }
-        i += 1;
-    }
-    true
+    (0..input_count(graph, k)).all(|i| is_vertex(graph, input_at(graph, k, i)))
 }
 
 // The lowest slot with an input that names no vertex, or the number of slots.
@@ -32,14 +24,9 @@ pub fn bad_inputs(graph: &[u8]) -> usize
     ensures { result ≡ lowest (bad_inputs (graph_of graph.now)) (slot_count graph.now) }
 {
     let slots = slot_count(graph);
-    let mut reader = 0;
-    while reader < slots {
-        if !inputs_named(graph, reader) {
-            return reader;
-        }
-        reader += 1;
-    }
-    slots
+    (0..slots)
+        .find(|&reader| !inputs_named(graph, reader))
+        .unwrap_or(slots)
 }
 
 // The lowest output place that names no vertex, or the number of outputs.
@@ -48,12 +35,7 @@ pub fn bad_output(graph: &[u8]) -> usize
     ensures { result ≡ lowest (bad_output (graph_of graph.now)) (output_count graph.now) }
 {
     let outputs = output_count(graph);
-    let mut i = 0;
-    while i < outputs {
-        if !is_vertex(graph, output_at(graph, i)) {
-            return i;
-        }
-        i += 1;
-    }
-    outputs
+    (0..outputs)
+        .find(|&i| !is_vertex(graph, output_at(graph, i)))
+        .unwrap_or(outputs)
 }

@@ -25,6 +25,7 @@ pub fn mark_from(graph: &[u8], root: usize, marks: &mut [bool; SLOT_LIMIT])
     if marks[root] {
         return;
     }
+    // A fixed array with the places of its ends, since there is no heap.
     let mut queue = [0u16; SLOT_LIMIT];
     marks[root] = true;
     queue[0] = root as u16;
@@ -59,10 +60,8 @@ pub fn reaching_outputs(graph: &[u8]) -> [bool; SLOT_LIMIT]
 {
     let outputs = output_count(graph);
     let mut marks = [false; SLOT_LIMIT];
-    let mut i = 0;
-    while i < outputs {
+    for i in 0..outputs {
         mark_from(graph, output_at(graph, i), &mut marks);
-        i += 1;
     }
     marks
 }

@@ -10,9 +10,10 @@ use definitions::{
     TAIL_OFFSET, UNUSED_PLACE,
 };
 use graph_arrays::{read_attributes, read_inputs};
-use writing::{copy, put_u16s, put_u32s};
+use writing::put_numbers;
 
-// What a slot's record holds: kind, operator, input count n, attribute count m, and every place, the unused ones too.
+// What a slot's record holds: kind, operator, input count n, attribute count m, and every place, the unused ones too. The counts stand beside
+// arrays of a fixed length, as in the block's format: there is no heap for lists of any length.
 #[derive(Clone, Copy)]
 pub struct Record {
     pub kind: u8,
@@ -50,10 +51,10 @@ pub fn write_record(part: &mut [u8], record: Record, tail: &[u8])
     part[2] = record.n;
     part[3] = record.m;
     let inputs = record.inputs;
-    put_u16s(&mut part[INPUTS_OFFSET..ATTRIBUTES_OFFSET], &inputs);
+    put_numbers(&mut part[INPUTS_OFFSET..ATTRIBUTES_OFFSET], &inputs);
     let attributes = record.attributes;
-    put_u32s(&mut part[ATTRIBUTES_OFFSET..TAIL_OFFSET], &attributes);
-    copy(&mut part[TAIL_OFFSET..SLOT_BYTES], tail);
+    put_numbers(&mut part[ATTRIBUTES_OFFSET..TAIL_OFFSET], &attributes);
+    part[TAIL_OFFSET..SLOT_BYTES].copy_from_slice(tail);
 }
 
 // The record of a slot whose 48 bytes start at `at`: every place as it stands, the unused ones too, so that the fields of a record

@@ -14,15 +14,7 @@ fn reads_lower(graph: &[u8], k: usize) -> bool
     requires k_bound { k < slot_count graph.now }
     ensures { result ≡ reads_lower (inputs_of (graph_of graph.now)) k }
 {
-    let inputs = input_count(graph, k);
-    let mut i = 0;
-    while i < inputs {
-        if k <= input_at(graph, k, i) {
-            return false;
-        }
-        i += 1;
-    }
-    true
+    (0..input_count(graph, k)).all(|i| input_at(graph, k, i) < k)
 }
 
 // Whether the table is sorted.
@@ -30,13 +22,5 @@ pub fn is_sorted(graph: &[u8]) -> bool
     requires { ReadableGraph graph.now }
     ensures { result ≡ sorted (inputs_of (graph_of graph.now)) (slot_count graph.now) }
 {
-    let count = slot_count(graph);
-    let mut k = 0;
-    while k < count {
-        if !reads_lower(graph, k) {
-            return false;
-        }
-        k += 1;
-    }
-    true
+    (0..slot_count(graph)).all(|k| reads_lower(graph, k))
 }

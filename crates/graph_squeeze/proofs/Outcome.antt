@@ -10,11 +10,10 @@ use borrow.Author.Tests.{eqb-true}
 use lib.Dec.{eqb}
 use lib.ListN.{length, take}
 use lib.Seq.{length-take-le, get_or-take}
-use Rattle.definitions.specs.declared.Reply.{Reply}
-use Rattle.definitions.specs.declared.Reply.TheVariants.{Done, Refused}
+use Rattle.std.specs.Prelude.{Ok, Err}
 use Rattle.definitions.specs.Lists.{concat_map}
 use Rattle.definitions.specs.Fields.{u16_bytes}
-use Rattle.definitions.specs.Reply.{done, bad_moves_length, refused, first_refusal}
+use Rattle.definitions.specs.Reply.{Reply, done, bad_moves_length, refused, first_refusal}
 use Rattle.definitions.specs.Graph.{header_bytes, slot_limit, unused_place, slot_count, graph_of, graph_reply, SoundGraph}
 use Rattle.definitions.specs.Squeeze.{moved_to, moves_block, moves_reply, squeeze_reply}
 use Rattle.laws.proofs.Lists.{decided}
@@ -35,14 +34,14 @@ module _ (graph moves : List ℕ) where
     where
       by : (reply : Reply) → graph_reply graph ≡ reply
           → first_refusal (graph_reply graph ∷ listed ∷ []) ≡ first_refusal (graph_reply graph ∷ moves_reply graph moves ∷ [])
-      by (Refused why) told = first-refused why (listed ∷ []) told ∙ sym (first-refused why (moves_reply graph moves ∷ []) told)
-      by (Done value) told =
+      by (Err why) told = first-refused why (listed ∷ []) told ∙ sym (first-refused why (moves_reply graph moves ∷ []) told)
+      by (Ok value) told =
           let sound = only_sound graph (done_plain (graph_valueless graph) told) in
           ap (λ (r : Reply). first_refusal (graph_reply graph ∷ r ∷ []))
           (next (omega (arith, (graph_readable graph sound).whole.size)))
 
   -- where nothing is refused, the graph is sound and the list has 2N bytes
-  pub squeeze-good : {value : ℕ} → squeeze_reply graph moves ≡ Done value → SoundGraph graph × (length moves ≡ 2 * slot_count graph)
+  pub squeeze-good : {value : ℕ} → squeeze_reply graph moves ≡ Ok value → SoundGraph graph × (length moves ≡ 2 * slot_count graph)
   unfolding squeeze_reply moves_reply
   squeeze-good h =
       let first = first-all (graph_reply graph) (moves_reply graph moves ∷ []) (graph_valueless graph) h in

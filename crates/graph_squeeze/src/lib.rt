@@ -10,7 +10,6 @@ ghost use Rattle.graph_moves.specs.Moving.{name_in, Moving};
 ghost use Rattle.graph_squeeze.specs.Held.{Held, HeldSlot};
 
 use definitions::{HEADER_BYTES, Reply, SLOT_BYTES, SLOT_LIMIT, TAIL_BYTES};
-use fields::widened;
 use graph_check::check;
 use graph_counts::store_counts;
 use graph_fields::{output_count, slot_count};
@@ -18,8 +17,8 @@ use graph_moves::{moves_of, renamed_outputs, renamed_record};
 use graph_records::read_record;
 use graph_slots::{clear_slot, write_slot};
 use new_header::write_header;
-use reply::{BAD_MOVES_LENGTH, first_refusal, refuse};
-use writing::put_u16s;
+use reply::{Reason, first_refusal, refuse};
+use writing::put_numbers;
 
 // Writes the vertex of slot v, with the new names of what it reads, into slot k.
 fn move_slot(graph: &mut [u8], v: usize, k: usize, to: &[u16; SLOT_LIMIT])
@@ -44,14 +43,12 @@ fn move_vertices(graph: &mut [u8], count: usize, from: &[u16; SLOT_LIMIT], to: &
     let slots = slot_count(graph);
     let outputs = output_count(graph);
     let names = renamed_outputs(graph, to);
-    let mut k = 0;
-    while k < slots {
+    for k in 0..slots {
         if k < count {
-            move_slot(graph, widened(from[k]), k, to);
+            move_slot(graph, usize::from(from[k]), k, to);
         } else {
             clear_slot(graph, k);
         }
-        k += 1;
     }
     write_header(
         &mut graph[0..HEADER_BYTES],
@@ -66,12 +63,12 @@ fn check_moves(graph: &[u8], moves: &[u8]) -> Reply
     ensures { header_bytes ≤ length graph.now → result ≡ squeezed.moves_reply graph.now moves.now }
 {
     if graph.len() < HEADER_BYTES {
-        return Reply::Done(0);
+        return Ok(0);
     }
     if moves.len() != 2 * slot_count(graph) {
-        return refuse(BAD_MOVES_LENGTH);
+        return refuse(Reason::BadMovesLength);
     }
-    Reply::Done(0)
+    Ok(0)
 }
 
 // The graph's faults come first. What is said of the list next to a block that is shorter than a header does not matter.
@@ -89,16 +86,13 @@ pub fn squeeze(graph: &mut [u8], moves: &mut [u8]) -> Reply
     ensures graph_after { graph.new ≡ squeezed.squeeze_graph graph.old moves.old }
     ensures moves_after { moves.new ≡ squeezed.squeeze_moves graph.old moves.old }
 {
-    match check_both(graph, moves) {
-        Reply::Refused(refusal) => return Reply::Refused(refusal),
-        Reply::Done(_) => {}
-    }
+    check_both(graph, moves)?;
     let slots = slot_count(graph);
     let plan = moves_of(graph);
     let from = plan.from;
     let to = plan.to;
     move_vertices(graph, plan.count, &from, &to);
     store_counts(graph);
-    put_u16s(moves, &to[0..slots]);
-    Reply::Done(0)
+    put_numbers(moves, &to[0..slots]);
+    Ok(0)
 }

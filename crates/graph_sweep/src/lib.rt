@@ -43,10 +43,8 @@ fn find_unneeded(graph: &[u8]) -> [bool; SLOT_LIMIT]
     let needed = reaching_outputs(graph);
     let slots = slot_count(graph);
     let mut unneeded = [false; SLOT_LIMIT];
-    let mut v = 0;
-    while v < slots {
+    for v in 0..slots {
         unneeded[v] = goes(graph, &needed, v);
-        v += 1;
     }
     unneeded
 }
@@ -58,12 +56,10 @@ fn empty_slots(graph: &mut [u8], unneeded: &[bool; SLOT_LIMIT])
     ensures { graph.new ≡ emptied (graph_of graph.old) }
 {
     let slots = slot_count(graph);
-    let mut v = 0;
-    while v < slots {
+    for v in 0..slots {
         if unneeded[v] {
             clear_slot(graph, v);
         }
-        v += 1;
     }
 }
 
@@ -72,12 +68,9 @@ pub fn sweep(graph: &mut [u8]) -> Reply
     ensures value { result ≡ graph_reply graph.old }
     ensures graph_after { graph.new ≡ swept.sweep_graph graph.old }
 {
-    match check(graph) {
-        Reply::Refused(refusal) => return Reply::Refused(refusal),
-        Reply::Done(_) => {}
-    }
+    check(graph)?;
     let unneeded = find_unneeded(graph);
     empty_slots(graph, &unneeded);
     store_counts(graph);
-    Reply::Done(0)
+    Ok(0)
 }

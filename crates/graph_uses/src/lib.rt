@@ -8,7 +8,6 @@ ghost use Rattle.laws.specs.Counted.{Counted};
 ghost use Rattle.graph_uses.specs.Countable.{reads_below, CountableGraph, InputsNext, OutputsNext};
 
 use definitions::SLOT_LIMIT;
-use fields::widened;
 use graph_fields::{input_at, input_count, output_at, slot_count, stored_count};
 
 // Counts the input places of slot k, after those of the slots below it.
@@ -17,11 +16,9 @@ fn add_inputs(graph: &[u8], k: usize, uses: &mut [u16; SLOT_LIMIT])
     ensures { Counted slot_limit (reads_below (graph_of graph.now) (k + 1)) uses.new }
 {
     let places = input_count(graph, k);
-    let mut place = 0;
-    while place < places {
+    for place in 0..places {
         let input = input_at(graph, k, place);
         uses[input] += 1;
-        place += 1;
     }
 }
 
@@ -31,11 +28,9 @@ fn add_outputs(graph: &[u8], uses: &mut [u16; SLOT_LIMIT])
     ensures { Counted slot_limit (true_count (graph_of graph.now)) uses.new }
 {
     let outputs = graph_fields::output_count(graph);
-    let mut i = 0;
-    while i < outputs {
+    for i in 0..outputs {
         let output = output_at(graph, i);
         uses[output] += 1;
-        i += 1;
     }
 }
 
@@ -47,10 +42,8 @@ pub fn count_uses(graph: &[u8]) -> [u16; SLOT_LIMIT]
 {
     let slots = slot_count(graph);
     let mut uses = [0u16; SLOT_LIMIT];
-    let mut k = 0;
-    while k < slots {
+    for k in 0..slots {
         add_inputs(graph, k, &mut uses);
-        k += 1;
     }
     add_outputs(graph, &mut uses);
     uses
@@ -63,12 +56,7 @@ pub fn bad_count(graph: &[u8]) -> usize
 {
     let slots = slot_count(graph);
     let uses = count_uses(graph);
-    let mut slot = 0;
-    while slot < slots {
-        if stored_count(graph, slot) != widened(uses[slot]) {
-            return slot;
-        }
-        slot += 1;
-    }
-    slots
+    (0..slots)
+        .find(|&slot| stored_count(graph, slot) != usize::from(uses[slot]))
+        .unwrap_or(slots)
 }

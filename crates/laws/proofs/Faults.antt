@@ -7,9 +7,8 @@ use Prim.Native.Nat.{ℕ, ◌<◌, ◌≤◌}
 use native.Mathlib.Omega.{arith}
 use borrow.Author.Tests.{ltb-true, ltb-false}
 use lib.Dec.{ltb}
-use Rattle.definitions.specs.declared.Reply.{Reply}
 use Rattle.definitions.specs.Lists.{lowest}
-use Rattle.definitions.specs.Reply.{done, refused_at}
+use Rattle.definitions.specs.Reply.{Reply, done, refused_at}
 use Rattle.definitions.specs.Faults.{Lowest, None}
 use Rattle.laws.proofs.Lists.{decided, fails, true_not_false, lowest-whole, lowest-found, lowest_passed, lowest-holds}
 use Rattle.laws.proofs.Reply.{done_or_refused}

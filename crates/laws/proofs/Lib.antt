@@ -9,6 +9,9 @@ pub mod Walks
 pub mod Builds
 pub mod Padded
 pub mod Ranges
+pub mod Between
+pub mod Agreeing
+pub mod Tabulated
 pub mod Reply
 pub mod Members
 pub mod Match
@@ -22,3 +25,5 @@ pub mod Operations
 pub mod Sums
 pub mod Tallies
 pub mod Counts
+pub mod Searches
+pub mod TableTests

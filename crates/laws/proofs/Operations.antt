@@ -11,9 +11,8 @@ use lib.Dec.{eqb}
 use lib.IntN.{ℤ}
 use lib.ListN.{length}
 use Rattle.definitions.specs.declared.Refusal.{Refusal}
-use Rattle.definitions.specs.declared.Reply.{Reply}
-use Rattle.definitions.specs.declared.Reply.TheVariants.{Done, Refused}
-use Rattle.definitions.specs.Reply.{bad_map_length, bad_moves_length, not_amatch, no_such_vertex, no_match, no_result, no_room, new_cycle, answered, refusal_at, refusal, refused, value_beside, value_limit, first_refusal}
+use Rattle.std.specs.Prelude.{Ok, Err}
+use Rattle.definitions.specs.Reply.{Reply, bad_map_length, bad_moves_length, not_amatch, no_such_vertex, no_match, no_result, no_room, new_cycle, answered, refusal_at, refusal, refused, value_beside, value_limit, first_refusal}
 use Rattle.definitions.specs.Graph.{graph_version, import_version, slot_count, Graph, graph_of, has_cycle, faults_as, count_faults, reply_as, graph_reply}
 use Rattle.definitions.specs.Rule.{side_limit, Rule, rule_of, rule_faults, rule_reply}
 use Rattle.definitions.specs.Match.{read_attribute, least_match}
@@ -45,8 +44,8 @@ map_valueless map = test_valueless bad_map_length (eqb (length map) map_bytes)
 first_valueless : (reply : Reply) (replies : List Reply) → Valueless reply → Valueless (first_refusal replies)
     → Valueless (first_refusal (reply ∷ replies))
 unfolding first_refusal
-first_valueless (Done value) replies own rest = rest
-first_valueless (Refused why) replies own rest = own
+first_valueless (Ok value) replies own rest = rest
+first_valueless (Err why) replies own rest = own
 
 blocks_valueless : (graph rule map : List ℕ) → Valueless (blocks_reply graph rule map)
 unfolding blocks_reply first_refusal
@@ -88,18 +87,18 @@ unfolding find_match
 match_valueless graph rule start map = by (blocks_reply graph rule map) refl
   where
     by : (reply : Reply) → blocks_reply graph rule map ≡ reply → Valueless (find_match graph rule start map).reply
-    by (Done value) e = rw (e, find_match) (matched-plain graph rule start map).value
-    by (Refused why) e = rw (e, find_match) (subst Valueless e (blocks_valueless graph rule map))
+    by (Ok value) e = rw (e, find_match) (matched-plain graph rule start map).value
+    by (Err why) e = rw (e, find_match) (subst Valueless e (blocks_valueless graph rule map))
 
 -- ---- asking whether an image is read elsewhere
 
 module _ (graph rule map : List ℕ) (vertex : ℕ) where
   -- the stages, in the papers' order
-  pub elsewhere_refused : {why : Refusal} → blocks_reply graph rule map ≡ Refused why → elsewhere_reply graph rule map vertex ≡ Refused why
+  pub elsewhere_refused : {why : Refusal} → blocks_reply graph rule map ≡ Err why → elsewhere_reply graph rule map vertex ≡ Err why
   unfolding elsewhere_reply
   elsewhere_refused e = rw (e, elsewhere_reply)
 
-  pub elsewhere_asked : {value : ℕ} → blocks_reply graph rule map ≡ Done value
+  pub elsewhere_asked : {value : ℕ} → blocks_reply graph rule map ≡ Ok value
       → elsewhere_reply graph rule map vertex ≡ asked_reply graph rule map vertex
   unfolding elsewhere_reply
   elsewhere_asked e = rw (e, elsewhere_reply)
@@ -131,20 +130,20 @@ module _ (graph rule map : List ℕ) (vertex : ℕ) where
       asked false inner holds = valueless_fits {reply = refused not_amatch} refl (refused_valueless not_amatch 0)
 
       by : (reply : Reply) → blocks_reply graph rule map ≡ reply → value_beside (elsewhere_reply graph rule map vertex) < value_limit
-      by (Done value) e =
+      by (Ok value) e =
           rw (elsewhere_asked e) (asked (is_match_map graph rule map) (is_inner (rule_of rule) vertex) (elsewhere_answer graph rule map vertex))
-      by (Refused why) e = valueless_fits (elsewhere_refused e) (subst Valueless e (blocks_valueless graph rule map))
+      by (Err why) e = valueless_fits (elsewhere_refused e) (subst Valueless e (blocks_valueless graph rule map))
 
 -- ---- rewriting
 
 -- where it is turned down, without a place
 abbrev Modest : Rewritten → Type 0
-Modest best = (why : Refusal) → best ≡ turned_down why → Plain (Refused why)
+Modest best = (why : Refusal) → best ≡ turned_down why → Plain (Err why)
 
 module _ (g : Graph) (r : Rule) (found : List ℕ) where
   refused_modest : (n : ℕ) → Modest (turned_down (refusal n))
   unfolding refusal_at
-  refused_modest n why e = let same : refusal n ≡ why = cc in subst (λ (x : Refusal). Plain (Refused x)) same (plain-refused n)
+  refused_modest n why e = let same : refusal n ≡ why = cc in subst (λ (x : Refusal). Plain (Err x)) same (plain-refused n)
 
   with_modest : (values : List (List ℤ)) → Modest (rewritten_with g r found values)
   unfolding rewritten_with
@@ -176,11 +175,11 @@ pub rewrite_valueless : (graph rule : List ℕ) (start : ℕ) (map : List ℕ) �
 unfolding rewrite
 rewrite_valueless graph rule start map = by (blocks_reply graph rule map) refl
   where
-    least : {value : ℕ} → blocks_reply graph rule map ≡ Done value → (found : Option (List ℕ))
+    least : {value : ℕ} → blocks_reply graph rule map ≡ Ok value → (found : Option (List ℕ))
         → least_match (graph_of graph) (rule_of rule) start ≡ found → Valueless (rewrite graph rule start map).reply
     least e none l = rw (e, l, rewrite) (refused_valueless no_match 0)
     least e (some found) l = rw (e, l, rewrite) (replaced-plain graph rule map found).value
 
     by : (reply : Reply) → blocks_reply graph rule map ≡ reply → Valueless (rewrite graph rule start map).reply
-    by (Done value) e = least e (least_match (graph_of graph) (rule_of rule) start) refl
-    by (Refused why) e = rw (e, rewrite) (subst Valueless e (blocks_valueless graph rule map))
+    by (Ok value) e = least e (least_match (graph_of graph) (rule_of rule) start) refl
+    by (Err why) e = rw (e, rewrite) (subst Valueless e (blocks_valueless graph rule map))

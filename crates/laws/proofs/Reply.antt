@@ -7,9 +7,9 @@ use mathlib.Core.Option.{none, some}
 use Prim.Native.Nat.{ℕ, ◌<◌, ◌^◌}
 use native.Mathlib.Omega.{arith}
 use Rattle.definitions.specs.declared.Refusal.{Refusal}
-use Rattle.definitions.specs.declared.Reply.{Reply}
-use Rattle.definitions.specs.declared.Reply.TheVariants.{Done, Refused}
-use Rattle.definitions.specs.Reply.{done, refusal_at, refused_at, refused, number_of, index_of, value_beside, value_limit, packed, number_in, place_in, value_in, Fault, fault, judged, first_refusal, where_done}
+use Rattle.std.specs.Prelude.{Ok, Err, IsErrAnd}
+use Rattle.std.proofs.lemmas.Result.{err_from_is_err_and}
+use Rattle.definitions.specs.Reply.{Reply, done, refusal_at, refused_at, refused, number_of, index_of, value_beside, value_limit, packed, number_in, place_in, value_in, Fault, fault, judged, first_refusal, where_done}
 
 -- ---- what the C side reads in the number that it gets
 
@@ -60,20 +60,24 @@ pub valueless_fits : {reply answer : Reply} → reply ≡ answer → Valueless a
 valueless_fits e h = rw e (omega (arith, h))
 
 -- done without a value is done with value 0
-pub done_plain : {reply : Reply} {value : ℕ} → Valueless reply → reply ≡ Done value → reply ≡ done
+pub done_plain : {reply : Reply} {value : ℕ} → Valueless reply → reply ≡ Ok value → reply ≡ done
 unfolding value_beside
-done_plain {reply} {value} h e = let none : value ≡ 0 = rw e at h in e ∙ ap Done none
+done_plain {reply} {value} h e = let none : value ≡ 0 = rw e at h in e ∙ ap Ok none
+
+-- what a `?` gives back is the refusal that it met
+pub passed_on : {reply : Reply} {why : Refusal} → IsErrAnd reply (λ (other : Refusal). other ≡ why) → reply ≡ Err why
+passed_on {reply} h = let p = err_from_is_err_and reply h in p.1 ∙ ap Err p.2
 
 -- what a lent block holds at the return
-pub where_done_lem : {reply : Reply} {value : ℕ} (after before : List ℕ) → reply ≡ Done value → where_done reply after before ≡ after
+pub where_done_lem : {reply : Reply} {value : ℕ} (after before : List ℕ) → reply ≡ Ok value → where_done reply after before ≡ after
 unfolding where_done
 where_done_lem after before e = rw (e, where_done)
 
-pub where_refused : {reply : Reply} {why : Refusal} (after before : List ℕ) → reply ≡ Refused why → where_done reply after before ≡ before
+pub where_refused : {reply : Reply} {why : Refusal} (after before : List ℕ) → reply ≡ Err why → where_done reply after before ≡ before
 unfolding where_done
 where_refused after before e = rw (e, where_done)
 
-pub done_refused : {value : ℕ} {why : Refusal} → Done value ≡ Refused why → ⊥
+pub done_refused : {value : ℕ} {why : Refusal} → Ok value ≡ Err why → ⊥
 done_refused e = let z : ◌≡◌ {A = ℕ} 0 1 = cc in omega arith
 
 pub done_or_refused : (n p : ℕ) → done ≡ refused_at n p → ⊥
@@ -94,7 +98,7 @@ judged-next [] next e = refl
 judged-next (fault n none ∷ faults) next e = judged-next faults next e
 judged-next (fault n (some at) ∷ faults) next e = absurd (done_or_refused n at (sym e))
 
-pub judged-first : {why : Refusal} (faults next : List Fault) → judged faults ≡ Refused why → judged (faults ++ next) ≡ Refused why
+pub judged-first : {why : Refusal} (faults next : List Fault) → judged faults ≡ Err why → judged (faults ++ next) ≡ Err why
 unfolding judged
 judged-first [] next e = absurd (done_refused e)
 judged-first (fault n none ∷ faults) next e = judged-first faults next e
@@ -102,23 +106,23 @@ judged-first (fault n (some at) ∷ faults) next e = e
 
 -- ---- the first refusal of a list of replies
 
-pub first_done : {reply : Reply} {value : ℕ} (replies : List Reply) → reply ≡ Done value → first_refusal (reply ∷ replies) ≡ first_refusal replies
+pub first_done : {reply : Reply} {value : ℕ} (replies : List Reply) → reply ≡ Ok value → first_refusal (reply ∷ replies) ≡ first_refusal replies
 unfolding first_refusal
 first_done replies e = rw (e, first_refusal)
 
-pub first-refused : {reply : Reply} (refusal : Refusal) (replies : List Reply) → reply ≡ Refused refusal
-    → first_refusal (reply ∷ replies) ≡ Refused refusal
+pub first-refused : {reply : Reply} (refusal : Refusal) (replies : List Reply) → reply ≡ Err refusal
+    → first_refusal (reply ∷ replies) ≡ Err refusal
 unfolding first_refusal
 first-refused refusal replies e = rw (e, first_refusal)
 
 pub first_last : (reply : Reply) → Valueless reply → first_refusal (reply ∷ []) ≡ reply
 unfolding first_refusal value_beside
-first_last (Done value) h = sym (ap Done h)
-first_last (Refused why) h = refl
+first_last (Ok value) h = sym (ap Ok h)
+first_last (Err why) h = refl
 
 -- where no reply refuses, each is done
-pub first-all : {value : ℕ} (reply : Reply) (replies : List Reply) → Valueless reply → first_refusal (reply ∷ replies) ≡ Done value
-    → (reply ≡ done) × (first_refusal replies ≡ Done value)
+pub first-all : {value : ℕ} (reply : Reply) (replies : List Reply) → Valueless reply → first_refusal (reply ∷ replies) ≡ Ok value
+    → (reply ≡ done) × (first_refusal replies ≡ Ok value)
 unfolding first_refusal value_beside
-first-all (Done own) replies valueless h = (ap Done valueless, h)
-first-all (Refused why) replies valueless h = let z : ◌≡◌ {A = ℕ} 0 1 = cc in absurd (omega arith)
+first-all (Ok own) replies valueless h = (ap Ok valueless, h)
+first-all (Err why) replies valueless h = let z : ◌≡◌ {A = ℕ} 0 1 = cc in absurd (omega arith)

@@ -12,8 +12,7 @@ use borrow.Author.Tests.{ltb-true, ltb-false}
 use lib.Dec.{ltb}
 use lib.ListN.{length, take, drop, length-append, take-append-drop}
 use lib.Seq.{take_at, take-take, append_snoc}
-use Rattle.definitions.specs.declared.Reply.{Reply}
-use Rattle.definitions.specs.Reply.{bad_listing, refused_at, where_done}
+use Rattle.definitions.specs.Reply.{Reply, bad_listing, refused_at, where_done}
 use Rattle.definitions.specs.Graph.{graph_block}
 use Rattle.laws.proofs.Lists.{decided, option_either}
 use Rattle.definitions.specs.Sheet.{Sheet, SheetFits, printed}

@@ -1,7 +1,7 @@
--- Lists and lines that stop, and the fields of what is read.
+-- The fields of what is read.
 -- Assumes nothing.
 use mathlib.Core.Path.{◌≡◌, refl, sym, ap, subst, ◌∙◌}
-use mathlib.Core.Bool.{true, false, false≢true}
+use mathlib.Core.Bool.{true, false}
 use mathlib.Core.List.{List, [], ◌∷◌, map}
 use mathlib.Core.Logic.{⊎_elim}
 use Prim.Native.Nat.{ℕ, zero, suc, ◌≤◌, ◌<◌, ◌^◌}
@@ -9,28 +9,27 @@ use native.Mathlib.Omega.{arith}
 use borrow.Author.Tests.{ltb-true, eqb-true}
 use lib.Dec.{eqb}
 use lib.IntN.{ℤ, pos, negsuc}
-use lib.ListN.{length, get_or, take, drop, length-map}
+use lib.ListN.{length, get_or, take, length-map}
 use Rattle.definitions.specs.Lists.{all, padded}
 use Rattle.definitions.specs.Fields.{word_of}
 use Rattle.definitions.specs.Operators.{kind_call, operator_count}
 use Rattle.definitions.specs.Numerals.{Field, in_field}
-use Rattle.definitions.specs.Sheet.{Line, Sheet, place_field, attribute_field}
+use Rattle.definitions.specs.Sheet.{place_field, attribute_field}
 use Rattle.laws.proofs.Lists.{decided, and_left, and_right}
 use Rattle.laws.proofs.Padded.{length-padded, padded-at}
 use Rattle.listing.specs.Typing.{FieldFits}
-use Rattle.listing.specs.Forms.{Form, stops_at, answer_from}
 use Rattle.listing.specs.Parts.{joined_from}
 use Rattle.listing.specs.Grammar.{operator_of, joined_form}
 use Rattle.listing.proofs.Reach.{within_high}
 use Rattle.listing.proofs.Lines.{place-fits, attribute_fits}
-use Rattle.listing_parse.proofs.Chains.{go_stopped}
 use Rattle.listing_numbers.specs.declared.Field as numbers
 use Rattle.listing_numbers.specs.State.{field_of}
+use Rattle.std.specs.declared.result.Result.{Result}
+use Rattle.listing_numbers.specs.declared.Stopped.{Stopped}
 use Rattle.listing_lists.specs.declared.Numbers.{Numbers}
-use Rattle.listing_lists.specs.Lists.{list_limit, Listed, Holds, NumbersRead}
+use Rattle.listing_lists.specs.Lists.{list_limit, Listed, Holds, place_of, NumbersRead}
 use Rattle.listing_lists.proofs.Whole.{joined-read}
-use Rattle.listing_lines.specs.declared.SlotLine.{SlotLine}
-use Rattle.listing_lines.specs.Lines.{PlaceWords, line_with, LineRead}
+use Rattle.listing_lines.specs.Lines.{PlaceWords}
 
 take-front : (n : ℕ) (xs : List ℕ) → length xs ≤ n → take (length xs) (padded n 0 xs) ≡ xs
 unfolding padded
@@ -63,8 +62,8 @@ operator_small kind operator h =
     (decided (eqb kind kind_call))
 
 -- the inputs, where the code has the counts and the field
-pub inputs_read : (field : numbers.Field) (least most l m : ℕ) (text : List ℕ) (at : ℕ) (r : Numbers) → field_of field ≡ place_field → least ≡ l → most ≡ m
-    → Holds (field_of field) most r (joined_from least most (field_of field) 93 text at) → r.next ≤ length text
+pub inputs_read : (field : numbers.Field) (least most l m : ℕ) (text : List ℕ) (at : ℕ) (r : Result Numbers Stopped) → field_of field ≡ place_field → least ≡ l → most ≡ m
+    → Holds (field_of field) most r (joined_from least most (field_of field) 93 text at) → place_of r ≤ length text
     → NumbersRead (joined_form l m place_field 93) place_field m text at r
 inputs_read field least most l m text at r same low high holds inside =
     joined-read place_field 93 text l m at r
@@ -100,27 +99,3 @@ small_at (z ∷ zs) h (suc i) = small_at zs (and_right (in_field place_field z) 
 
 pub listed-places : (most : ℕ) (r : Numbers) (zs : List ℤ) → Listed place_field most r zs → PlaceWords r.words
 listed-places most r zs h i = rw (h.words, padded-at 0 list_limit (map word_of zs) i) (small_at zs h.fits i)
-
--- a list that stops
-pub no_numbers : (part : (List ℤ → Form Sheet) → Form Sheet) (field : Field) (most : ℕ) (text : List ℕ) (at : ℕ) (r : Numbers) (p : ℕ)
-    → r.stopped ≡ true → r.next ≡ p → p ≤ length text
-    → ((f : List ℤ → Form Sheet) → answer_from (part f) at (drop at text) ≡ stops_at p) → NumbersRead part field most text at r
-no_numbers part field most text at r p stops same inside goes = record {
-  numbers = [];
-  goes = λ f. goes f ∙ ap stops_at (sym same) ∙ sym (go_stopped f text [] r.next stops);
-  listed = λ other. absurd (false≢true (sym other ∙ stops));
-  next = omega arith;
-}
-
--- a line that stops
-pub no_line-read : (part : (Line → Form Sheet) → Form Sheet) (number : ℕ) (text : List ℕ) (at : ℕ) (r : SlotLine) (p : ℕ)
-    → r.stopped ≡ true → r.next ≡ p → p ≤ length text
-    → ((f : Line → Form Sheet) → answer_from (part f) at (drop at text) ≡ stops_at p) → LineRead part number text at r
-no_line-read part number text at r p stops same inside goes = record {
-  line = line_with number 0 0 [] [];
-  slot = refl;
-  goes = λ f. goes f ∙ ap stops_at (sym same) ∙ sym (go_stopped f text (line_with number 0 0 [] []) r.next stops);
-  stands = λ other. absurd (false≢true (sym other ∙ stops));
-  places = λ other. absurd (false≢true (sym other ∙ stops));
-  next = omega arith;
-}

@@ -1,7 +1,7 @@
 // A slot's line in a listing, read from behind the slot's number on into the record of the slot.
 #![tactic(auto)]
 
-ghost use Rattle.std.specs.Prelude.{◌≡◌, true, false, ◌<◌, ◌≤◌, length, take};
+ghost use Rattle.std.specs.Prelude.{◌≡◌, true, ◌<◌, ◌≤◌, length, take};
 ghost use Rattle.definitions.specs.Lists.{within, padded};
 ghost use Rattle.definitions.specs.Operators.{kind_const, kind_proj};
 ghost use Rattle.definitions.specs.Graph.{unused_place};
@@ -12,16 +12,15 @@ ghost use Rattle.listing_lists.specs.Lists.{list_limit, NumbersRead};
 ghost use Rattle.listing_lines.specs.Lines.{PlaceWords, lists_line, RecordOf, LineRead, AnyLineRead};
 
 use definitions::{KIND_CALL, UNUSED_PLACE};
-use graph_records::{Record, empty_record};
-use listing_lists::{LIST_LIMIT, Numbers, read_joined, stopped_at};
-use listing_numbers::Field;
+use graph_records::Record;
+use listing_lists::{LIST_LIMIT, Numbers, read_joined};
+use listing_numbers::{Field, Stopped};
 use listing_parse::{read_letters, read_operator, read_word};
 use operators::{counts_of, row_of};
 
-// What reading a line gives. Stopped: no listing goes on at next. Else the record is the slot's, and next is the place behind the line's end.
+// A line that has been read: the record of its slot, and the place behind the line's end.
 #[derive(Clone, Copy)]
 pub struct SlotLine {
-    pub stopped: bool,
     pub next: usize,
     pub record: Record,
 }
@@ -43,21 +42,18 @@ fn shape_of(kind: usize, operator: usize) -> Shape
     if kind == KIND_CALL {
         let counts = counts_of(operator);
         let inputs = counts.inputs as usize;
-        let attributes = counts.attributes as usize;
-        return Shape {
+        Shape {
             least: inputs,
             most: inputs,
-            attributes,
-        };
-    }
-    let row = row_of(kind);
-    let least = row.least as usize;
-    let most = row.greatest as usize;
-    let attributes = row.attributes as usize;
-    Shape {
-        least,
-        most,
-        attributes,
+            attributes: counts.attributes as usize,
+        }
+    } else {
+        let row = row_of(kind);
+        Shape {
+            least: row.least as usize,
+            most: row.greatest as usize,
+            attributes: row.attributes as usize,
+        }
     }
 }
 
@@ -91,53 +87,27 @@ pub fn places_of(words: [u32; LIST_LIMIT], count: usize) -> [u16; LIST_LIMIT]
     ensures { result ≡ padded list_limit unused_place (take count «words») }
 {
     let mut places = [UNUSED_PLACE; LIST_LIMIT];
-    let mut i = 0;
-    while i < count {
+    for i in 0..count {
         places[i] = words[i] as u16;
-        i += 1;
     }
     places
 }
 
 // Reads the attributes, in braces behind a space, and the line's end.
-fn read_attributes(text: &[u8], at: usize, count: usize) -> Numbers
+fn read_attributes(text: &[u8], at: usize, count: usize) -> Result<Numbers, Stopped>
     requires at_in_bounds { at ≤ length text.now }
     requires count_le_list_limit { count ≤ list_limit }
     ensures { NumbersRead (attributes_form count) attribute_field count text.now at result }
 {
-    let open = read_letters(text, at, b" {");
-    if open.stopped {
-        return stopped_at(open.next);
-    }
-    let numbers = read_joined(text, open.next, count, count, attribute_field(), 125);
-    let behind = numbers.next;
-    let m = numbers.count;
+    let open = read_letters(text, at, b" {")?;
+    let numbers = read_joined(text, open.next, count, count, attribute_field(), b'}')?;
     let words = numbers.words;
-    if numbers.stopped {
-        return stopped_at(behind);
-    }
-    let end = read_letters(text, behind, b"\n");
-    let next = end.next;
-    if end.stopped {
-        return stopped_at(next);
-    }
-    Numbers {
-        stopped: false,
-        next,
-        count: m,
+    let end = read_letters(text, numbers.next, b"\n")?;
+    Ok(Numbers {
+        next: end.next,
+        count: numbers.count,
         words,
-    }
-}
-
-// No listing goes on at this place.
-fn no_line(at: usize) -> SlotLine
-    ensures { (result.stopped ≡ true) × (result.next ≡ at) }
-{
-    SlotLine {
-        stopped: true,
-        next: at,
-        record: empty_record(),
-    }
+    })
 }
 
 // The record with these fields.
@@ -147,66 +117,48 @@ fn record_of(kind: usize, operator: usize, inputs: Numbers, attributes: Numbers)
     requires place_words { PlaceWords «inputs».words }
     ensures { RecordOf kind operator «inputs» «attributes» result }
 {
-    let n = inputs.count;
-    let names = inputs.words;
-    let m = attributes.count;
     let words = attributes.words;
     Record {
         kind: kind as u8,
         operator: operator as u8,
-        n: n as u8,
-        m: m as u8,
-        inputs: places_of(names, n),
+        n: inputs.count as u8,
+        m: attributes.count as u8,
+        inputs: places_of(inputs.words, inputs.count),
         attributes: words,
     }
 }
 
 // Reads both lists of a line, and its end.
-fn read_lists(text: &[u8], at: usize, kind: usize, operator: usize) -> SlotLine
+fn read_lists(text: &[u8], at: usize, kind: usize, operator: usize) -> Result<SlotLine, Stopped>
     requires at_in_bounds { at ≤ length text.now }
     requires kind_proj_value { within kind_const kind kind_proj ≡ true }
     requires operator_value { operator_of kind operator ≡ true }
     ensures { LineRead (lists_line kind operator) 0 text.now at result }
 {
     let shape = shape_of(kind, operator);
-    let least = shape.least;
-    let most = shape.most;
-    let count = shape.attributes;
-    let open = read_letters(text, at, b" [");
-    if open.stopped {
-        return no_line(open.next);
-    }
-    let inputs = read_joined(text, open.next, least, most, place_field(), 93);
-    if inputs.stopped {
-        return no_line(inputs.next);
-    }
-    let attributes = read_attributes(text, inputs.next, count);
-    if attributes.stopped {
-        return no_line(attributes.next);
-    }
-    SlotLine {
-        stopped: false,
+    let open = read_letters(text, at, b" [")?;
+    let inputs = read_joined(
+        text,
+        open.next,
+        shape.least,
+        shape.most,
+        place_field(),
+        b']',
+    )?;
+    let attributes = read_attributes(text, inputs.next, shape.attributes)?;
+    Ok(SlotLine {
         next: attributes.next,
         record: record_of(kind, operator, inputs, attributes),
-    }
+    })
 }
 
 // Reads a line from behind the slot's number on, whatever that number is.
-pub fn read_line(text: &[u8], at: usize) -> SlotLine
+pub fn read_line(text: &[u8], at: usize) -> Result<SlotLine, Stopped>
     requires { at ≤ length text.now }
     ensures { AnyLineRead text.now at result }
 {
-    let space = read_letters(text, at, b" ");
-    if space.stopped {
-        return no_line(space.next);
-    }
-    let word = read_word(text, space.next);
-    if word.stopped {
-        return no_line(word.next);
-    }
-    let operator = read_operator(text, word.next, word.value);
-    if operator.stopped {
-        return no_line(operator.next);
-    }
+    let space = read_letters(text, at, b" ")?;
+    let word = read_word(text, space.next)?;
+    let operator = read_operator(text, word.next, word.value)?;
     read_lists(text, operator.next, word.value, operator.value)
 }

@@ -1,7 +1,7 @@
 -- A list that is read behind its first number.
 -- Assumes nothing.
-use mathlib.Core.Path.{◌≡◌, refl, sym, ap, ◌∙◌}
-use mathlib.Core.Bool.{true, false, false≢true}
+use mathlib.Core.Path.{◌≡◌, refl, ap, ◌∙◌}
+use mathlib.Core.Bool.{true}
 use mathlib.Core.List.{List, [], ◌∷◌, map}
 use Prim.Native.Nat.{ℕ, zero, suc, ◌+◌, ◌-◌, ◌≤◌, ◌<◌}
 use native.Mathlib.Omega.{arith}
@@ -13,6 +13,8 @@ use Rattle.definitions.specs.Numerals.{Field, in_field}
 use Rattle.laws.proofs.Padded.{length-padded}
 use Rattle.listing.specs.Typing.{nothing, Got, stopped, got, number_from}
 use Rattle.listing.specs.Parts.{with_first, behind_number, spaced_from, joined_from}
+use Rattle.std.specs.declared.result.Result.TheVariants.{Ok, Err}
+use Rattle.listing_numbers.specs.declared.Stopped.{Stopped}
 use Rattle.listing_lists.specs.declared.Numbers.{Numbers}
 use Rattle.listing_lists.specs.Lists.{list_limit, Holds}
 
@@ -25,35 +27,31 @@ take-padded d (suc n) zero xs l few = absurd (omega arith)
 take-padded d (suc n) (suc m) [] l few = ap (λ (ys : List ℕ). d ∷ ys) (take-padded d n m [] (omega arith) (omega arith))
 take-padded d (suc n) (suc m) (x ∷ xs) l few = ap (λ (ys : List ℕ). x ∷ ys) (take-padded d n m xs (omega arith) (omega arith))
 
-module _ (field : Field) (most : ℕ) (r : Numbers) where
+module _ (field : Field) (most : ℕ) where
   -- the words are as many as an array of them has
-  pub held-length : (g : Got (List ℤ)) → Holds field most r g → r.stopped ≡ false → most ≤ list_limit → length r.words ≡ list_limit
+  pub held-length : (r : Numbers) (g : Got (List ℤ)) → Holds field most (Ok r) g → most ≤ list_limit → length r.words ≡ list_limit
   unfolding Holds
-  held-length (stopped at) h goes l = absurd (false≢true (sym goes ∙ h.0))
-  held-length (got zs at) h goes l =
-      ap length h.0.words ∙ length-padded 0 list_limit (map word_of zs) (omega (arith, length-map zs word_of, h.0.few))
+  held-length r (stopped at) h l = absurd h
+  held-length r (got zs at) h l = ap length h.0.words ∙ length-padded 0 list_limit (map word_of zs) (omega (arith, length-map zs word_of, h.0.few))
 
-  pub held-count : (g : Got (List ℤ)) → Holds field most r g → r.stopped ≡ false → r.count ≤ most
+  pub held-count : (r : Numbers) (g : Got (List ℤ)) → Holds field most (Ok r) g → r.count ≤ most
   unfolding Holds
-  held-count (stopped at) h goes = absurd (false≢true (sym goes ∙ h.0))
-  held-count (got zs at) h goes = omega (arith, h.0.count, h.0.few)
+  held-count r (stopped at) h = absurd h
+  held-count r (got zs at) h = omega (arith, h.0.count, h.0.few)
 
   -- where the others stop, the whole stops
-  pub first_stops : (s : Numbers) (z : ℤ) (g : Got (List ℤ)) → Holds field most r g → r.stopped ≡ true → s.stopped ≡ true → s.next ≡ r.next
-      → Holds field (most + 1) s (with_first z g)
+  pub first_stops : (e : Stopped) (z : ℤ) (g : Got (List ℤ)) → Holds field most (Err e) g → Holds field (most + 1) (Err e) (with_first z g)
   unfolding Holds with_first
-  first_stops s z (stopped at) h stops whole same = (whole, same ∙ h.1)
-  first_stops s z (got zs at) h stops whole same = absurd (false≢true (sym h.0.goes ∙ stops))
+  first_stops e z (stopped at) h = h
+  first_stops e z (got zs at) h = h
 
   -- and where they are read, the first stands in front of them
-  pub first_goes : (z : ℤ) (g : Got (List ℤ)) (w : ℕ) → Holds field most r g → r.stopped ≡ false → in_field field z ≡ true → w ≡ word_of z
-      → most < list_limit
-      → Holds field (most + 1) (record { stopped = false; next = r.next; count = r.count + 1; words = w ∷ take 5 r.words }) (with_first z g)
+  pub first_goes : (r : Numbers) (z : ℤ) (g : Got (List ℤ)) (w : ℕ) → Holds field most (Ok r) g → in_field field z ≡ true → w ≡ word_of z
+      → most < list_limit → Holds field (most + 1) (Ok (record { next = r.next; count = r.count + 1; words = w ∷ take 5 r.words })) (with_first z g)
   unfolding Holds with_first padded all
-  first_goes z (stopped at) w h goes fits word l = absurd (false≢true (sym goes ∙ h.0))
-  first_goes z (got zs at) w h goes fits word l = (
+  first_goes r z (stopped at) w h fits word l = h
+  first_goes r z (got zs at) w h fits word l = (
     record {
-      goes = refl;
       count = omega (arith, h.0.count);
       words = rw (word, h.0.words) (ap (λ (ws : List ℕ). word_of z ∷ ws)
           (take-padded 0 5 6 (map word_of zs) (omega arith) (omega (arith, length-map zs word_of, h.0.few))));

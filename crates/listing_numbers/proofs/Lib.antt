@@ -1,3 +1,4 @@
 pub mod Laws
 pub mod Stages
 pub mod Plain
+pub mod Stops

@@ -67,11 +67,11 @@ module _ (field : Field) (text : List ℕ) (at : ℕ) where
       (digit_numeric (get_or text at 0) is) (rw (is, e))
 
   module _ (i value : ℕ) (inside : i < length text) (h : TypedUpTo field text at i (digits_of false value)) where
-    pub digit_more : FieldFits field → is_digit (get_or text i 0) ≡ true → 1 ≤ value → (c : ℕ) → c ≡ get_or text i 0
-        → TypedUpTo field text at (i + 1) (digits_of false (10 * value + (c - 48)))
+    pub digit_more : FieldFits field → is_digit (get_or text i 0) ≡ true → 1 ≤ value → (d : ℕ) → d ≡ get_or text i 0 - 48
+        → TypedUpTo field text at (i + 1) (digits_of false (10 * value + d))
     unfolding pressed
-    digit_more fits is some-digits c e =
-        typed_more field text at i (digits_of false value) inside h fits (digits_of false (10 * value + (c - 48)))
+    digit_more fits is some-digits d e =
+        typed_more field text at i (digits_of false value) inside h fits (digits_of false (10 * value + d))
         (digit_numeric (get_or text i 0) is) (rw (is, lt-ltb 0 value some-digits, e))
 
     pub digits-end : within field.low value field.high ≡ true → is_numeric (get_or text i 0) ≡ false

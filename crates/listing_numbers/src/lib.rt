@@ -2,13 +2,13 @@
 // of a few plain digits, as most are, is read without asking at each digit what can come of it: it only has to fit in the end.
 #![tactic(auto)]
 
-ghost use Rattle.std.specs.Prelude.{◌≡◌, true, ◌+◌, ◌-◌, ◌<◌, ◌≤◌, ◌^◌, length, get_or, drop};
-ghost use Rattle.std.proofs.Math.Option.{some};
+ghost use Rattle.std.specs.Prelude.{◌≡◌, true, cond, ◌+◌, ◌-◌, ◌*◌, ◌<◌, ltb, ◌≤◌, ◌^◌, length, get_or, drop, IfSome};
+ghost use Rattle.std.proofs.Math.Option.{none, some};
 ghost use Rattle.definitions.specs.Lists.{within};
 ghost use Rattle.definitions.specs.Numerals.{decimal, Field};
 ghost use Rattle.listing.specs.Typing as typing;
-ghost use Rattle.listing.specs.Typing.{FieldFits, is_digit, is_numeric, digits_of, nothing, going_on, number_from};
-ghost use Rattle.listing_numbers.specs.State.{field_of, typed_of, after_byte, ended_so, got_of};
+ghost use Rattle.listing.specs.Typing.{FieldFits, is_digit, is_numeric, digits_of, whole, nothing, going_on, typed_with, ended_at, number_from};
+ghost use Rattle.listing_numbers.specs.State.{field_of, typed_of, next_of, digits_in, got_of};
 
 // The numbers that a field takes: low to high, and -below to -1.
 #[derive(Clone, Copy)]
@@ -18,23 +18,27 @@ pub struct Field {
     pub below: u64,
 }
 
-// A number that is being read. Stages 0 to 3: nothing yet, a minus, the digits of value, the same behind a minus. Stage 4: no
-// number of the field can come of it.
+// What has been read of a number: nothing yet, a minus, the digits of a number, or the digits of one behind a minus.
 #[derive(Clone, Copy)]
-pub struct Typing {
-    pub stage: u8,
-    pub value: u64,
+pub enum Typing {
+    Nothing,
+    Minus,
+    Digits(u64),
+    NegativeDigits(u64),
 }
 
-// What reading a number gives: the place at which no number of the field goes on; or the number and the place behind it.
+// A number that has been read, and the place behind it: whether a minus stood before the digits, and what they say.
 #[derive(Clone, Copy)]
-pub enum Number {
-    Stopped(usize),
-    Read {
-        negative: bool,
-        value: u64,
-        next: usize,
-    },
+pub struct Number {
+    pub negative: bool,
+    pub value: u64,
+    pub next: usize,
+}
+
+// No listing goes on at this place.
+#[derive(Clone, Copy)]
+pub struct Stopped {
+    pub at: usize,
 }
 
 // ---- printing
@@ -46,8 +50,9 @@ pub fn digit_count(n: u64) -> usize
 {
     let mut count = 1;
     let mut rest = n / 10;
+    // One turn for each digit behind the first; how many there are is what is asked.
     while 0 < rest {
-        rest = rest / 10;
+        rest /= 10;
         count += 1;
     }
     count
@@ -60,11 +65,9 @@ pub fn put_decimal(part: &mut [u8], n: u64)
     ensures { part.new ≡ decimal n }
 {
     let mut rest = n;
-    let mut i = part.len();
-    while 0 < i {
-        i -= 1;
-        part[i] = 48 + (rest % 10) as u8;
-        rest = rest / 10;
+    for i in (0..part.len()).rev() {
+        part[i] = b'0' + (rest % 10) as u8;
+        rest /= 10;
     }
 }
 
@@ -77,26 +80,21 @@ const EIGHT_DIGITS: u64 = 99999999;
 fn is_within(low: u64, n: u64, high: u64) -> bool
     ensures { result ≡ within low n high }
 {
-    if low <= n {
-        return n <= high;
-    }
-    false
+    low <= n && n <= high
 }
 
 // Can the digits of d go on to a number from low to high?
 fn reaches(d: u64, low: u64, high: u64) -> bool
     ensures { result ≡ typing.reaches 10 d low high }
 {
-    let mut places: usize = 10;
     let mut l = low;
     let mut h = high;
-    while 0 < places {
+    for place in 0..10usize {
         if is_within(l, d, h) {
             return true;
         }
-        l = l / 10;
-        h = h / 10;
-        places -= 1;
+        l /= 10;
+        h /= 10;
     }
     false
 }
@@ -105,162 +103,147 @@ fn goes_on(d: u64, low: u64, high: u64) -> bool
     ensures { result ≡ typing.goes_on d low high }
 {
     if 0 < d {
-        return reaches(d, low, high);
+        reaches(d, low, high)
+    } else {
+        low == 0
     }
-    low == 0
-}
-
-fn nowhere() -> Typing
-    ensures { result ≡ record { stage = 4; value = 0 } }
-{
-    Typing { stage: 4, value: 0 }
 }
 
 // The digits of d, where some number of the field goes on with them.
-fn digits_so(negative: bool, d: u64, field: Field) -> Typing
+fn digits_so(negative: bool, d: u64, field: Field) -> Option<Typing>
     requires { FieldFits (field_of «field») }
-    ensures value_value { typed_of result.stage result.value ≡ going_on (field_of «field») (some (digits_of negative d)) }
-    ensures value_bound { result.value < 10 ^ 10 }
+    ensures value_value { next_of result ≡ going_on (field_of «field») (some (digits_of negative d)) }
+    ensures value_bound { IfSome result (λ t. digits_in t < 10 ^ 10) }
 {
-    let low = field.low;
-    let high = field.high;
-    let below = field.below;
     if negative {
-        if goes_on(d, 1, below) {
-            return Typing { stage: 3, value: d };
+        if goes_on(d, 1, field.below) {
+            Some(Typing::NegativeDigits(d))
+        } else {
+            None
         }
-        return nowhere();
+    } else if goes_on(d, field.low, field.high) {
+        Some(Typing::Digits(d))
+    } else {
+        None
     }
-    if goes_on(d, low, high) {
-        return Typing { stage: 2, value: d };
+}
+
+// One digit more behind those of value; no digit stands behind a leading zero.
+fn digits_behind(negative: bool, value: u64, d: u64, field: Field) -> Option<Typing>
+    requires field_fits { FieldFits (field_of «field») }
+    requires value_bound { (value < 10 ^ 10) × (d < 10) }
+    ensures value_value { next_of result ≡ going_on (field_of «field») (cond (ltb 0 value) (some (digits_of negative (10 * value + d))) none) }
+    ensures value_bound_2 { IfSome result (λ t. digits_in t < 10 ^ 10) }
+{
+    if value == 0 {
+        None
+    } else {
+        digits_so(negative, 10 * value + d, field)
     }
-    nowhere()
 }
 
 fn is_digit(c: u8) -> bool
     ensures { result ≡ is_digit c }
 {
-    is_within(48, wide(c), 57)
+    is_within(u64::from(b'0'), u64::from(c), u64::from(b'9'))
 }
 
-fn wide(c: u8) -> u64
-    ensures { result ≡ c }
-{
-    c as u64
-}
-
-// One byte more of a number, a digit or a minus.
-pub fn press(t: Typing, c: u8, field: Field) -> Typing
+// One byte more of a number, a digit or a minus, where some number of the field goes on with it.
+pub fn press(t: Typing, c: u8, field: Field) -> Option<Typing>
     requires field_fits { FieldFits (field_of «field») }
-    requires value_bound { t.value < 10 ^ 10 }
-    ensures value_value { typed_of result.stage result.value ≡ after_byte (field_of «field») (typed_of t.stage t.value) c }
-    ensures value_bound_2 { result.value < 10 ^ 10 }
+    requires value_bound { digits_in t < 10 ^ 10 }
+    ensures value_value { next_of result ≡ typed_with (field_of «field») (typed_of t) c }
+    ensures value_bound_2 { IfSome result (λ next. digits_in next < 10 ^ 10) }
 {
-    let stage = t.stage;
-    let value = t.value;
-    let below = field.below;
-    if is_digit(c) {
-        let d = wide(c) - 48;
-        if stage == 0 {
-            return digits_so(false, d, field);
-        }
-        if stage == 1 {
-            if d == 0 {
-                return nowhere();
+    if !is_digit(c) {
+        return match t {
+            Typing::Nothing => {
+                if 0 < field.below {
+                    Some(Typing::Minus)
+                } else {
+                    None
+                }
             }
-            return digits_so(true, d, field);
-        }
-        if value == 0 {
-            return nowhere();
-        }
-        if stage == 2 {
-            return digits_so(false, 10 * value + d, field);
-        }
-        if stage == 3 {
-            return digits_so(true, 10 * value + d, field);
-        }
-        return nowhere();
+            Typing::Minus | Typing::Digits(_) | Typing::NegativeDigits(_) => None,
+        };
     }
-    if stage == 0 {
-        if 0 < below {
-            return Typing { stage: 1, value: 0 };
+    let d = u64::from(c - b'0');
+    match t {
+        Typing::Nothing => digits_so(false, d, field),
+        // No number is a minus and a zero.
+        Typing::Minus => {
+            if d == 0 {
+                None
+            } else {
+                digits_so(true, d, field)
+            }
         }
-        return nowhere();
+        Typing::Digits(value) => digits_behind(false, value, d, field),
+        Typing::NegativeDigits(value) => digits_behind(true, value, d, field),
     }
-    nowhere()
 }
 
 fn is_numeric(c: u8) -> bool
     ensures { result ≡ is_numeric c }
 {
-    if c == 45 {
-        return true;
-    }
-    is_digit(c)
+    c == b'-' || is_digit(c)
 }
 
 // The number that ends before the byte at this place.
-fn ended(t: Typing, at: usize, field: Field) -> Number
-    ensures { got_of result ≡ ended_so (field_of «field») at (typed_of t.stage t.value) }
+fn ended(t: Typing, at: usize, field: Field) -> Result<Number, Stopped>
+    ensures { got_of result ≡ ended_at (field_of «field») at (whole (typed_of t)) }
 {
-    let stage = t.stage;
-    let value = t.value;
-    let low = field.low;
-    let high = field.high;
-    let below = field.below;
-    if stage == 2 {
-        if is_within(low, value, high) {
-            return Number::Read {
-                negative: false,
-                value,
-                next: at,
-            };
+    match t {
+        Typing::Digits(value) => {
+            if is_within(field.low, value, field.high) {
+                Ok(Number {
+                    negative: false,
+                    value,
+                    next: at,
+                })
+            } else {
+                Err(Stopped { at })
+            }
         }
-        return Number::Stopped(at);
-    }
-    if stage == 3 {
-        if is_within(1, value, below) {
-            return Number::Read {
-                negative: true,
-                value,
-                next: at,
-            };
+        Typing::NegativeDigits(value) => {
+            if is_within(1, value, field.below) {
+                Ok(Number {
+                    negative: true,
+                    value,
+                    next: at,
+                })
+            } else {
+                Err(Stopped { at })
+            }
         }
-        return Number::Stopped(at);
+        Typing::Nothing | Typing::Minus => Err(Stopped { at }),
     }
-    Number::Stopped(at)
 }
 
 // Reads a number of the field from a place on, and asks at each byte what can come of it.
-fn read_bytewise(text: &[u8], at: usize, field: Field) -> Number
+fn read_bytewise(text: &[u8], at: usize, field: Field) -> Result<Number, Stopped>
     requires field_fits { FieldFits (field_of «field») }
     requires at_in_bounds { at ≤ length text.now }
     ensures { got_of result ≡ number_from (field_of «field») nothing at (drop at text.now) }
 {
-    let mut i = at;
-    let mut stage = 0u8;
-    let mut value = 0u64;
-    while i < text.len() {
+    let mut typing = Typing::Nothing;
+    for i in at..text.len() {
         let c = text[i];
         if !is_numeric(c) {
-            return ended(Typing { stage, value }, i, field);
+            return ended(typing, i, field);
         }
-        let next = press(Typing { stage, value }, c, field);
-        let next_stage = next.stage;
-        if 3 < next_stage {
-            return Number::Stopped(i);
-        }
-        stage = next_stage;
-        value = next.value;
-        i += 1;
+        let Some(next) = press(typing, c, field) else {
+            return Err(Stopped { at: i });
+        };
+        typing = next;
     }
-    Number::Stopped(i)
+    Err(Stopped { at: text.len() })
 }
 
 // The digits behind the first one, which says `first`. Where they are no number of the field, more than nine, behind a leading zero or followed by a minus, or
 // where the text ends in them, the number is read again bytewise, which finds the place.
 // The bounds are taken out of the field one by one, here and below: copying the field whole at each number takes longer than the digits.
-fn read_digits(text: &[u8], at: usize, first: u64, field: Field) -> Number
+fn read_digits(text: &[u8], at: usize, first: u64, field: Field) -> Result<Number, Stopped>
     requires field_fits { FieldFits (field_of «field») }
     requires at_in_bounds { at < length text.now }
     requires at_value { is_digit (get_or text.now at 0) ≡ true }
@@ -270,17 +253,16 @@ fn read_digits(text: &[u8], at: usize, first: u64, field: Field) -> Number
     let low = field.low;
     let high = field.high;
     let below = field.below;
-    let mut i = at + 1;
     let mut value = first;
-    while i < text.len() {
+    for i in at + 1..text.len() {
         let c = text[i];
         if !is_numeric(c) {
             if is_within(low, value, high) {
-                return Number::Read {
+                return Ok(Number {
                     negative: false,
                     value,
                     next: i,
-                };
+                });
             }
             return read_bytewise(text, at, Field { low, high, below });
         }
@@ -290,14 +272,13 @@ fn read_digits(text: &[u8], at: usize, first: u64, field: Field) -> Number
         if !is_within(1, value, EIGHT_DIGITS) {
             return read_bytewise(text, at, Field { low, high, below });
         }
-        value = 10 * value + (wide(c) - 48);
-        i += 1;
+        value = 10 * value + (u64::from(c - b'0'));
     }
     read_bytewise(text, at, Field { low, high, below })
 }
 
 // Reads a number of the field from a place on.
-pub fn read_number(text: &[u8], at: usize, field: Field) -> Number
+pub fn read_number(text: &[u8], at: usize, field: Field) -> Result<Number, Stopped>
     requires field_fits { FieldFits (field_of «field») }
     requires at_in_bounds { at ≤ length text.now }
     ensures { got_of result ≡ number_from (field_of «field») nothing at (drop at text.now) }
@@ -308,7 +289,7 @@ pub fn read_number(text: &[u8], at: usize, field: Field) -> Number
     if at < text.len() {
         let c = text[at];
         if is_digit(c) {
-            return read_digits(text, at, wide(c) - 48, Field { low, high, below });
+            return read_digits(text, at, u64::from(c - b'0'), Field { low, high, below });
         }
     }
     read_bytewise(text, at, Field { low, high, below })

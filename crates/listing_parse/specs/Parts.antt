@@ -1,16 +1,25 @@
 -- What the code's parts stand for.
 -- Assumes nothing.
 use Rattle.std.specs.Prelude.{Bool, ◌&&◌, List, [], ◌∷◌, ℕ, eqb, ltb, length, get_or}
+use Rattle.std.specs.declared.result.Result.{Result}
+use Rattle.std.specs.declared.result.Result.TheVariants.{Ok, Err}
 use Rattle.definitions.specs.Operators.{kind_const, kind_call}
 use Rattle.definitions.specs.Sheet.{Sheet}
-use Rattle.listing.specs.Typing.{Got}
+use Rattle.listing.specs.Typing.{Got, stopped, got}
 use Rattle.listing.specs.Forms.{Form, choice}
 use Rattle.listing.specs.Grammar.{literal}
-use Rattle.listing.specs.Parts.{got_if}
+use Rattle.listing_numbers.specs.declared.Stopped.{Stopped}
 use Rattle.listing_parse.specs.declared.Part.{Part}
 
-abbrev pub part_of : Part → Got ℕ
-part_of r = got_if r.stopped r.value r.next
+-- what the code returns for a part
+abbrev pub part_of : Result Part Stopped → Got ℕ
+part_of (Ok part) = got part.value part.next
+part_of (Err e) = stopped e.at
+
+-- the place behind the part, or the one at which no listing goes on
+abbrev pub place_of : Result Part Stopped → ℕ
+place_of (Ok part) = part.next
+place_of (Err e) = e.at
 
 -- this byte stands at a place of the text
 unfoldable pub has_byte : List ℕ → ℕ → ℕ → Bool

@@ -140,12 +140,9 @@ pub fn put_spaced(text: &mut [u8], at: usize, block: &[u8], row: Row, first: usi
     requires row_bound { at + length (spaced (drop first (numbers_in block.now «row»))) ≤ text_limit }
     ensures { Laid at (spaced (drop first (numbers_in block.now «row»))) text.old text.new result }
 {
-    let count = row.count;
     let mut end = at;
-    let mut i = first;
-    while i < count {
+    for i in first..row.count {
         end = put_behind(text, end, number_at(block, row, i));
-        i += 1;
     }
     end
 }

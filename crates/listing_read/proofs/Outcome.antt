@@ -7,9 +7,8 @@ use borrow.Author.Tests.{eq-eqb, ne_eqb}
 use lib.Dec.{eqb}
 use lib.ListN.{length}
 use Rattle.definitions.specs.declared.Refusal.{Refusal}
-use Rattle.definitions.specs.declared.Reply.{Reply}
-use Rattle.definitions.specs.declared.Reply.TheVariants.{Done, Refused}
-use Rattle.definitions.specs.Reply.{bad_listing, unsound_listing, bad_graph_length, done, refused}
+use Rattle.std.specs.Prelude.{Ok, Err}
+use Rattle.definitions.specs.Reply.{Reply, bad_listing, unsound_listing, bad_graph_length, done, refused}
 use Rattle.definitions.specs.Graph.{graph_version, record_at, graph_block, reply_as, graph_reply}
 use Rattle.definitions.specs.Sheet.{Sheet}
 use Rattle.definitions.specs.Listing.{graph_in, sheet_reply, ReadListing, no_listing, some_listing}
@@ -24,18 +23,18 @@ module _ (s : Sheet) (block graph : List ℕ) (b : BlockOf s block) where
   long = ap length b.same ∙ sheet-length s b.fits graph_version (λ k. 0)
 
   -- the block is refused
-  pub reply_unsound : (why : Refusal) → reply_as graph_version block ≡ Refused why → sheet_reply s graph ≡ refused unsound_listing
+  pub reply_unsound : (why : Refusal) → reply_as graph_version block ≡ Err why → sheet_reply s graph ≡ refused unsound_listing
   unfolding sheet_reply
   reply_unsound why e = by (graph_reply (graph_block (graph_in s))) refl
     where
       by : (answer : Reply) → graph_reply (graph_block (graph_in s)) ≡ answer → sheet_reply s graph ≡ refused unsound_listing
-      by (Refused other) judged = rw (judged, sheet_reply)
-      by (Done value) judged =
+      by (Err other) judged = rw (judged, sheet_reply)
+      by (Ok value) judged =
           let whole : reply_as graph_version block ≡ done =
           ap (reply_as graph_version) b.same ∙ sheet-fit s b.fits (λ k. 0) (done_plain (graph_valueless (graph_block (graph_in s))) judged) in
           absurd (done_refused (sym whole ∙ e))
 
-  module _ (value : ℕ) (e : reply_as graph_version block ≡ Done value) where
+  module _ (value : ℕ) (e : reply_as graph_version block ≡ Ok value) where
     pub sound : graph_reply (graph_block (graph_in s)) ≡ done
     sound =
         sheet-sound s b.fits (λ k. 0)
@@ -55,8 +54,8 @@ unfolding sheet_reply
 sheet_valueless s graph = by (graph_reply (graph_block (graph_in s))) refl
   where
     by : (answer : Reply) → graph_reply (graph_block (graph_in s)) ≡ answer → Valueless (sheet_reply s graph)
-    by (Refused why) judged = rw (judged, sheet_reply) (refused_valueless unsound_listing 0)
-    by (Done value) judged = rw (judged, sheet_reply) (test_valueless bad_graph_length (eqb (length graph) (record_at s.size)))
+    by (Err why) judged = rw (judged, sheet_reply) (refused_valueless unsound_listing 0)
+    by (Ok value) judged = rw (judged, sheet_reply) (test_valueless bad_graph_length (eqb (length graph) (record_at s.size)))
 
 pub read_valueless : {text graph after : List ℕ} {reply : Reply} → ReadListing text graph reply after → Valueless reply
 read_valueless (no_listing {at = at} stops) = refused_valueless bad_listing at

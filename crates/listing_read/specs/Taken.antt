@@ -1,8 +1,7 @@
 -- A block that a listing was read into, and what becomes of it.
 -- Assumes nothing.
 use Rattle.std.specs.Prelude.{◌≡◌, List, ℕ}
-use Rattle.definitions.specs.declared.Reply.{Reply}
-use Rattle.definitions.specs.Reply.{where_done}
+use Rattle.definitions.specs.Reply.{Reply, where_done}
 use Rattle.definitions.specs.Graph.{graph_version, block_as, graph_block}
 use Rattle.definitions.specs.Sheet.{Sheet, SheetFits}
 use Rattle.definitions.specs.Listing.{graph_in, sheet_reply}

@@ -2,7 +2,7 @@
 // and nothing behind it. The header is written when the outputs are known.
 #![tactic(auto)]
 
-ghost use Rattle.std.specs.Prelude.{◌≡◌, true, false, ◌≤◌, length, take};
+ghost use Rattle.std.specs.Prelude.{◌≡◌, true, ◌≤◌, length, take, IfOk};
 ghost use Rattle.definitions.specs.Lists.{within, padded};
 ghost use Rattle.definitions.specs.Graph.{slot_limit, output_limit, unused_place};
 ghost use Rattle.definitions.specs.Sheet.{size_field};
@@ -10,14 +10,14 @@ ghost use Rattle.listing.specs.Parts.{PartRead};
 ghost use Rattle.listing_numbers.specs.State.{field_of};
 ghost use Rattle.listing_lists.specs.Lists.{list_limit};
 ghost use Rattle.listing_lines.specs.Lines.{PlaceWords};
-ghost use Rattle.listing_parse.specs.Parts.{part_of};
+ghost use Rattle.listing_parse.specs.Parts.{part_of, place_of};
 ghost use Rattle.listing_slots.specs.Rows.{table_bytes};
 ghost use Rattle.listing_sheet.specs.Read.{graph_line, OutputsRead, SheetRead};
 
 use definitions::{HEADER_BYTES, OUTPUT_LIMIT, SLOT_LIMIT};
 use listing_lines::{place_field, places_of};
-use listing_lists::{LIST_LIMIT, Numbers, read_spaced, stopped_at};
-use listing_numbers::Field;
+use listing_lists::{LIST_LIMIT, Numbers, read_spaced};
+use listing_numbers::{Field, Stopped};
 use listing_parse::{Part, read_letters, read_natural};
 use listing_slots::read_lines;
 use new_header::write_header;
@@ -34,57 +34,32 @@ fn size_field() -> Field
 }
 
 // Reads the line of the graph; the value is N.
-fn read_size(text: &[u8]) -> Part
+fn read_size(text: &[u8]) -> Result<Part, Stopped>
     ensures part_read { PartRead graph_line text.now 0 (part_of result) }
-    ensures next_in_bounds { result.next ≤ length text.now }
-    ensures slot_limit_value { result.stopped ≡ false → within 1 result.value slot_limit ≡ true }
+    ensures next_in_bounds { place_of result ≤ length text.now }
+    ensures slot_limit_value { IfOk result (λ part. within 1 part.value slot_limit ≡ true) }
 {
-    let opening = read_letters(text, 0, b"graph ");
-    if opening.stopped {
-        return opening;
-    }
-    let size = read_natural(text, opening.next, size_field());
-    let behind = size.next;
-    let value = size.value;
-    if size.stopped {
-        return size;
-    }
-    let end = read_letters(text, behind, b"\n");
-    let stopped = end.stopped;
-    let next = end.next;
-    Part {
-        stopped,
-        next,
-        value,
-    }
+    let opening = read_letters(text, 0, b"graph ")?;
+    let size = read_natural(text, opening.next, size_field())?;
+    let end = read_letters(text, size.next, b"\n")?;
+    Ok(Part {
+        next: end.next,
+        value: size.value,
+    })
 }
 
 // Reads the line of the outputs behind its `o`; nothing may follow it.
-fn read_outputs(text: &[u8], at: usize) -> Numbers
+fn read_outputs(text: &[u8], at: usize) -> Result<Numbers, Stopped>
     requires { at ≤ length text.now }
     ensures { OutputsRead text.now at result }
 {
-    let word = read_letters(text, at, b"ut");
-    let begun = word.next;
-    if word.stopped {
-        return stopped_at(begun);
-    }
-    let outputs = read_spaced(text, begun, 1, OUTPUT_LIMIT, place_field(), 10);
+    let word = read_letters(text, at, b"ut")?;
+    let outputs = read_spaced(text, word.next, 1, OUTPUT_LIMIT, place_field(), b'\n')?;
     let next = outputs.next;
-    let count = outputs.count;
-    let words = outputs.words;
-    if outputs.stopped {
-        return stopped_at(next);
-    }
     if next < text.len() {
-        return stopped_at(next);
+        return Err(Stopped { at: next });
     }
-    Numbers {
-        stopped: false,
-        next,
-        count,
-        words,
-    }
+    Ok(outputs)
 }
 
 // The output places of a header; 65535 stands in the unused ones.
@@ -98,57 +73,21 @@ fn output_places(words: [u32; LIST_LIMIT], count: usize) -> [u16; OUTPUT_LIMIT]
     [places[0], places[1], places[2], places[3]]
 }
 
-// What reading a listing gives. Stopped: no listing goes on at next, or the text ends there. Else the table has the block of its graph of
-// this size, with counts 0.
-#[derive(Clone, Copy)]
-pub struct Sheet {
-    pub stopped: bool,
-    pub next: usize,
-    pub size: usize,
-}
-
-// No listing goes on at this place.
-fn no_sheet(at: usize) -> Sheet
-    ensures { (result.stopped ≡ true) × (result.next ≡ at) }
-{
-    Sheet {
-        stopped: true,
-        next: at,
-        size: 0,
-    }
-}
-
-// Reads a listing into a table.
-pub fn read_sheet(text: &[u8], table: &mut [u8]) -> Sheet
+// Reads a listing into a table: it has the block of its graph then, with counts 0. The result is how many slots that graph has.
+pub fn read_sheet(text: &[u8], table: &mut [u8]) -> Result<usize, Stopped>
     requires { length table.old ≡ table_bytes }
     ensures { SheetRead text.now table.new result }
 {
-    let graph = read_size(text);
+    let graph = read_size(text)?;
     let size = graph.value;
-    if graph.stopped {
-        return no_sheet(graph.next);
-    }
-    let lines = read_lines(text, graph.next, size, table);
-    if lines.stopped {
-        return no_sheet(lines.next);
-    }
-    let outputs = read_outputs(text, lines.next);
-    let next = outputs.next;
-    let count = outputs.count;
-    let words = outputs.words;
-    if outputs.stopped {
-        return no_sheet(next);
-    }
-    let places = output_places(words, count);
+    let lines = read_lines(text, graph.next, size, table)?;
+    let outputs = read_outputs(text, lines.next)?;
+    let places = output_places(outputs.words, outputs.count);
     write_header(
         &mut table[0..HEADER_BYTES],
         size as u16,
-        count as u16,
+        outputs.count as u16,
         &places,
     );
-    Sheet {
-        stopped: false,
-        next,
-        size,
-    }
+    Ok(size)
 }

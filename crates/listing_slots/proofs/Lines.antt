@@ -16,14 +16,14 @@ use Rattle.definitions.specs.Graph.{header_bytes}
 use Rattle.definitions.specs.Sheet.{Line, Sheet}
 use Rattle.definitions.specs.Listing.{slot_in}
 use Rattle.laws.proofs.Lists.{decided}
-use Rattle.listing.specs.Forms.{Form, value_of, answer_from}
+use Rattle.listing.specs.Forms.{Form, value_of, answer_from, go_on}
 use Rattle.listing.specs.Grammar.{literal, line_form, lines_form}
 use Rattle.listing.proofs.Parts.{drop_all}
 use Rattle.listing_parse.specs.declared.Part.{Part}
 use Rattle.listing_parse.specs.Parts.{has_byte}
-use Rattle.listing_parse.proofs.Chains.{go_behind, choice_has, choice_lacks, byte_has}
+use Rattle.listing_parse.proofs.Chains.{choice_has, choice_lacks, byte_has}
 use Rattle.listing_slots.specs.Rows.{rows, HasRows, Cleared}
-use Rattle.listing_slots.specs.Read.{slot_form, SlotRead}
+use Rattle.listing_slots.specs.Read.{slot_form, SlotOf}
 use Rattle.listing_slots.proofs.Laws.{rows_same, slot_apart, slot_last, slot_unnamed, Unnamed, unnamed_more}
 
 module _ (size : ℕ) (text : List ℕ) (place : ℕ) where
@@ -74,11 +74,12 @@ going_none size text at table long = record {
 
 module _ {size : ℕ} {text : List ℕ} {at from place : ℕ} {table : List ℕ} (h : Going size text at from place table) where
   -- one line more
-  pub going_more : (after : List ℕ) (r : Part) → SlotRead from size text place table after r → from < size → has_byte text place 111 ≡ false
-      → r.stopped ≡ false → Going size text at (r.value + 1) r.next after
-  going_more after r read inside other goes =
+  pub going_more : (after : List ℕ) (r : Part) → SlotOf from size text place table after r → from < size → has_byte text place 111 ≡ false
+      → Going size text at (r.value + 1) r.next after
+  unfolding go_on
+  going_more after r read inside other =
       let line = read.line in
-      let (here, low, high) = read.slot goes in
+      let (here, low, high) = read.slot in
       let all : List Line = h.done ++ line ∷ [] in
       record {
         done = all;
@@ -88,13 +89,12 @@ module _ {size : ℕ} {text : List ℕ} {at from place : ℕ} {table : List ℕ}
         goes = λ f.
             h.goes f ∙ lines_more size text place h.left from (λ rest. f (h.done ++ rest)) inside h.enough other
             ∙ read.goes (λ l. lines_form (h.left - 1) (suc l.slot) size (λ lines. f (h.done ++ l ∷ lines)))
-            ∙ go_behind (λ l. lines_form (h.left - 1) (suc l.slot) size (λ lines. f (h.done ++ l ∷ lines))) text line r.next goes
             ∙ ap (λ (k : ℕ). answer_from (lines_form (h.left - 1) k size (λ lines. f (h.done ++ line ∷ lines))) r.next (drop r.next text))
             (ap suc here ∙ sym (add-one r.value))
             ∙ ap (λ (g : List Line → Form Sheet). answer_from (lines_form (h.left - 1) (r.value + 1) size g) r.next (drop r.next text))
             (fun_ext (λ (lines : List Line). ap f (sym (append_snoc h.done line lines))));
         ahead = λ k l. unnamed_more h.done line k (h.ahead k (omega arith)) (λ e. omega arith);
-        holds = read.holds goes (slot_in all)
+        holds = read.holds (slot_in all)
             (h.holds ∙ sym (rows_same (slot_in all) (slot_in h.done) from (λ k l. slot_apart h.done line k (λ e. omega arith))))
             (λ k above below. slot_apart h.done line k (λ e. omega arith) ∙ slot_unnamed h.done k (h.ahead k above))
             (slot_last h.done line r.value here (h.ahead r.value low));

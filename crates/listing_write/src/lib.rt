@@ -13,7 +13,7 @@ use definitions::Reply;
 use graph_check::check;
 use graph_fields::{is_vertex, slot_count};
 use listing_print::{outputs_of, put_bytes, put_line, put_natural, put_spaced};
-use reply::{SHORT_TEXT, refuse};
+use reply::{Reason, refuse};
 
 // No listing has more bytes.
 const LISTING_ROOM: usize = 65535;
@@ -26,9 +26,10 @@ fn put_slot(text: &mut [u8], at: usize, graph: &[u8], k: usize) -> usize
     ensures { Laid at (slot_text (graph_of graph.now) k) text.old text.new result }
 {
     if is_vertex(graph, k) {
-        return put_line(text, at, graph, k);
+        put_line(text, at, graph, k)
+    } else {
+        at
     }
-    at
 }
 
 // Prints the lines of all slots.
@@ -39,10 +40,8 @@ fn put_slots(text: &mut [u8], at: usize, graph: &[u8]) -> usize
 {
     let slots = slot_count(graph);
     let mut end = at;
-    let mut k = 0;
-    while k < slots {
+    for k in 0..slots {
         end = put_slot(text, end, graph, k);
-        k += 1;
     }
     end
 }
@@ -88,19 +87,16 @@ pub fn write_listing(graph: &[u8], text: &mut [u8]) -> Reply
     ensures value { result ≡ write_reply graph.now text.old }
     ensures text_after { text.new ≡ write_text graph.now text.old }
 {
-    match check(graph) {
-        Reply::Refused(refusal) => return Reply::Refused(refusal),
-        Reply::Done(_) => {}
-    }
+    check(graph)?;
     if LISTING_ROOM <= text.len() {
         let end = put_listing(text, graph);
-        return Reply::Done(end as u32);
+        return Ok(end as u32);
     }
     let size = put_listing(&mut text[0..0], graph);
     if text.len() < size {
-        return refuse(SHORT_TEXT);
+        return refuse(Reason::ShortText);
     }
     put_listing(&mut text[0..size], graph);
     let length = size as u32;
-    Reply::Done(length)
+    Ok(length)
 }

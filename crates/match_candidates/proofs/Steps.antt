@@ -1,34 +1,41 @@
--- What one turn of each loop adds to what is known.
+-- What the search for the next one finds, and what one turn of the loop adds to the list.
 -- Assumes nothing.
 use mathlib.Core.Path.{◌≡◌, ◌∙◌}
 use mathlib.Core.Bool.{Bool, true, false}
 use mathlib.Core.List.{List}
 use mathlib.Core.Logic.{⊎_elim}
-use Prim.Native.Nat.{ℕ, ◌+◌, ◌<◌, ◌≤◌}
+use Prim.Native.Nat.{ℕ, ◌+◌, ◌<◌, ◌≤◌, max}
 use native.Mathlib.Omega.{arith}
-use borrow.Author.Tests.{eqb-true, eqb-false, ltb-true, ltb-false}
-use lib.Dec.{eqb, ltb}
+use borrow.Author.Tests.{ltb-true, ltb-false}
+use lib.Dec.{ltb}
 use lib.ListN.{get_or, set, replicate, length-set, length-replicate}
 use lib.Seq.{get_or-set_same, get_or-set_other}
+use Rattle.std.specs.declared.option.Option.{Option}
+use Rattle.std.specs.declared.option.Option.TheVariants.{None, Some}
+use Rattle.std.specs.Option.{MatchOption, unwrap_or}
 use Rattle.definitions.specs.Graph.{slot_limit}
 use Rattle.laws.proofs.Lists.{decided, true_not_false}
-use Rattle.match_candidates.specs.Listed.{Listed}
+use Rattle.match_candidates.specs.Listed.{NextFrom, Listed}
 
--- ---- the next one: what was passed
+-- ---- the next one
 
--- from `from` up to v the test fails
-abbrev pub Fails : (ℕ → Bool) → ℕ → ℕ → Type 0
-Fails p from v = (k : ℕ) → from ≤ k → k < v → p k ≡ false
-
-module _ (p : ℕ → Bool) (from : ℕ) where
-  pub fails_none : Fails p from from
-  fails_none k a b = absurd (omega arith)
-
-  pub fails_more : (v : ℕ) → Fails p from v → p v ≡ false → Fails p from (v + 1)
-  fails_more v fails f k a b = ⊎_elim
-      (λ (t : eqb k v ≡ true). rw (eqb-true k v t) f)
-      (λ (t : eqb k v ≡ false). let other = eqb-false k v t in fails k a (omega arith))
-      (decided (eqb k v))
+-- what a search from `from` up to `end` finds, or the greater of the two
+pub next_from : (p : ℕ → Bool) (from end : ℕ) (r : Option ℕ)
+    → MatchOption r ((k : ℕ) → from ≤ k → k < end → p k ≡ false)
+    (λ i. (from ≤ i) × (i < end) × (p i ≡ true) × ((k : ℕ) → from ≤ k → k < i → p k ≡ false))
+    → NextFrom p from end (unwrap_or r (max from end))
+next_from p from end None none = record {
+  begun = omega arith;
+  near = omega arith;
+  holds = λ l. absurd (omega arith);
+  passed = λ k a b. none k a (omega arith);
+}
+next_from p from end (Some i) found = record {
+  begun = found.0;
+  near = omega (arith, found.1);
+  holds = λ l. found.2;
+  passed = found.3;
+}
 
 -- ---- the list
 
@@ -43,9 +50,9 @@ listed_none p = record {
 }
 
 module _ {p : ℕ → Bool} {n : ℕ} {list : List ℕ} {count : ℕ} (h : Listed p n list count) where
-  -- numbers of which the test fails are passed
-  pub listed_past : (m : ℕ) → n ≤ m → Fails p n m → Listed p m list count
-  listed_past m l fails = record {
+  -- a number of which the test fails is passed
+  pub listed_past : p n ≡ false → Listed p (n + 1) list count
+  listed_past f = record {
     size = h.size;
     few = omega (arith, h.few);
     below = λ i k. omega (arith, h.below i k);
@@ -53,7 +60,7 @@ module _ {p : ℕ → Bool} {n : ℕ} {list : List ℕ} {count : ℕ} (h : Liste
     ascending = h.ascending;
     every = λ v b t. ⊎_elim
         (λ (s : ltb v n ≡ true). h.every v (ltb-true v n s) t)
-        (λ (s : ltb v n ≡ false). absurd (true_not_false t (fails v (ltb-false v n s) b)))
+        (λ (s : ltb v n ≡ false). let e : v ≡ n = omega (arith, ltb-false v n s) in absurd (true_not_false (rw e at t) f))
         (decided (ltb v n));
   }
 

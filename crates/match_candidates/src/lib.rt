@@ -18,17 +18,12 @@ pub fn next_candidate(graph: &[u8], head: u32, from: usize) -> usize
     ensures { NextFrom (passes_look (head_in head) (graph_of graph.now)) from (slot_count graph.now) result }
 {
     let slots = slot_count(graph);
-    let mut v = from;
-    while v < slots {
-        if passes_look(graph, head, v) {
-            return v;
-        }
-        v += 1;
-    }
-    v
+    (from..slots)
+        .find(|&v| passes_look(graph, head, v))
+        .unwrap_or(from.max(slots))
 }
 
-// The slots that pass the look, the lowest first: the first `count` places.
+// The slots that pass the look, the lowest first: the first `count` places. There is no heap, so the array has room for all slots.
 #[derive(Drop)]
 pub struct Candidates {
     pub slots: [u16; SLOT_LIMIT],
@@ -40,14 +35,13 @@ pub fn all_candidates(graph: &[u8], head: u32) -> Candidates
     requires { ReadableGraph graph.now }
     ensures { Listed (passes_look (head_in head) (graph_of graph.now)) (slot_count graph.now) result.slots result.count }
 {
-    let end = slot_count(graph);
     let mut slots = [0; SLOT_LIMIT];
     let mut count = 0;
-    let mut v = next_candidate(graph, head, 0);
-    while v < end {
-        slots[count] = v as u16;
-        count += 1;
-        v = next_candidate(graph, head, v + 1);
+    for v in 0..slot_count(graph) {
+        if passes_look(graph, head, v) {
+            slots[count] = v as u16;
+            count += 1;
+        }
     }
     Candidates { slots, count }
 }

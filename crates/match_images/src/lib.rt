@@ -13,7 +13,6 @@ ghost use Rattle.match_images.specs.Ready.{SettleReady};
 
 use attributes::attributes_agree;
 use definitions::SIDE_CAPACITY;
-use fields::widened;
 
 // Whether v is the image of one of the first `next` source vertices.
 fn is_taken(images: &[u16; SIDE_CAPACITY], next: usize, v: usize) -> bool
@@ -21,14 +20,7 @@ fn is_taken(images: &[u16; SIDE_CAPACITY], next: usize, v: usize) -> bool
     requires images_len { length images.now ≡ side_capacity }
     ensures { result ≡ any_below (λ i. eqb (image_of images.now i) v) next }
 {
-    let mut i = 0;
-    while i < next {
-        if widened(images[i]) == v {
-            return true;
-        }
-        i += 1;
-    }
-    false
+    (0..next).any(|i| usize::from(images[i]) == v)
 }
 
 // Gives source vertex j, a candidate whose inputs have their images, the image v: where v is no lower vertex's image, and the
@@ -63,5 +55,5 @@ pub fn is_image(images: &[u16; SIDE_CAPACITY], j: usize, v: usize) -> bool
     requires images_len { length images.now ≡ side_capacity }
     ensures { result ≡ eqb (get_or images.now j 0) v }
 {
-    widened(images[j]) == v
+    usize::from(images[j]) == v
 }

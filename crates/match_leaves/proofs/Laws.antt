@@ -2,7 +2,7 @@
 -- result is in range.
 -- Assumes nothing.
 use mathlib.Core.Path.{◌≡◌, sym, ap, ◌∙◌}
-use mathlib.Core.Bool.{true, false, and-false}
+use mathlib.Core.Bool.{true, false}
 use mathlib.Core.List.{List}
 use mathlib.Core.Logic.{⊎_elim}
 use mathlib.Core.Option.{Option, none, some}
@@ -15,11 +15,11 @@ use lib.ListN.{length, get_or, get_or-eq_default}
 use Rattle.definitions.specs.Lists.{within, build}
 use Rattle.definitions.specs.Fields.{u32_at, signed}
 use Rattle.definitions.specs.Graph.{unused_place, Slot, Graph, empty_slot, slot_count, graph_of, slot_of}
-use Rattle.definitions.specs.Rule.{source_count, node_at, anything, constant, access, form_any, form_constant, form_access, node_form, node_from, expressions, node_fits, node_by, node_left, node_right}
+use Rattle.definitions.specs.Rule.{node_at, anything, constant, access, form_any, form_constant, form_access, node_form, node_by, node_left, node_right}
 use Rattle.definitions.specs.Attributes.{result_of}
 use Rattle.definitions.specs.Match.{image_of, attribute_of, read_attribute}
 use Rattle.rule_fields.specs.Fixed.{nodes_in, node_in, expression_in}
-use Rattle.laws.proofs.Lists.{decided, needed}
+use Rattle.laws.proofs.Lists.{decided}
 use Rattle.laws.proofs.Builds.{build-at}
 use Rattle.laws.proofs.Graph.{length-slots, slot_past}
 use Rattle.laws.proofs.Match.{image-at}

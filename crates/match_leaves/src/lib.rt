@@ -11,48 +11,46 @@ ghost use Rattle.match_leaves.specs.Evaluable.{NodeEvaluation, Leaf};
 ghost use Rattle.match_leaves.specs.Results.{node_result};
 
 use definitions::{FORM_ANY, FORM_CONSTANT, SIDE_CAPACITY};
-use fields::widened;
 use graph_fields::{attribute_at, attribute_count, slot_count};
-use numbers::{Value, number};
 use rule_nodes::{node_byte, node_form, node_number};
 
 // Attribute place b, counted from 1, of the image of source vertex v; past the image's last there is none.
-fn read_attribute(graph: &[u8], images: &[u16; SIDE_CAPACITY], v: usize, b: usize) -> Value
+fn read_attribute(graph: &[u8], images: &[u16; SIDE_CAPACITY], v: usize, b: usize) -> Option<i32>
     requires readable_graph { ReadableGraph graph.now }
     requires images_len { length images.now ≡ side_capacity }
     requires v_lt_side_capacity { v < side_capacity }
     ensures { value_of result ≡ read_attribute (graph_of graph.now) images.now v b }
 {
-    let image = widened(images[v]);
+    let image = usize::from(images[v]);
     if slot_count(graph) <= image {
-        return Value::Nothing;
+        return None;
     }
     if b < 1 {
-        return Value::Nothing;
+        return None;
     }
     if attribute_count(graph, image) < b {
-        return Value::Nothing;
+        return None;
     }
-    number(attribute_at(graph, image, b - 1))
+    Some(attribute_at(graph, image, b - 1))
 }
 
 // What node k gives where it is no operation. An access may name no source vertex in a node that nothing uses: it gives nothing.
-pub fn leaf_value(graph: &[u8], rule: &[u8], images: &[u16; SIDE_CAPACITY], k: usize) -> Value
+pub fn leaf_value(graph: &[u8], rule: &[u8], images: &[u16; SIDE_CAPACITY], k: usize) -> Option<i32>
     requires node_evaluation { NodeEvaluation graph.now rule.now images.now }
     requires leaf { Leaf rule.now k }
     ensures { value_of result ≡ node_result graph.now rule.now images.now k }
 {
     let form = node_form(rule, k);
     if form == FORM_ANY {
-        return Value::Nothing;
+        return None;
     }
     if form == FORM_CONSTANT {
-        return number(node_number(rule, k));
+        return Some(node_number(rule, k));
     }
     let vertex = node_byte(rule, k, 1);
     let place = node_byte(rule, k, 2);
     if SIDE_CAPACITY <= vertex {
-        return Value::Nothing;
+        return None;
     }
     read_attribute(graph, images, vertex, place)
 }

@@ -1,10 +1,10 @@
 -- What is known of a candidate, and why the image of a source vertex under a match always is one.
 -- Assumes nothing.
 use mathlib.Core.Path.{◌≡◌, refl, sym, ap, ◌∙◌}
-use mathlib.Core.Bool.{Bool, true, false, and-false, or-true}
+use mathlib.Core.Bool.{true, false, and-false, or-true}
 use mathlib.Core.List.{List, []}
 use mathlib.Core.Logic.{⊎_elim}
-use Prim.Native.Nat.{ℕ, suc, ◌-◌, ◌<◌, ◌≤◌}
+use Prim.Native.Nat.{ℕ, suc, ◌<◌, ◌≤◌}
 use native.Mathlib.Omega.{arith}
 use borrow.Author.Tests.{eqb-true, eqb-false, eq-eqb, ne_eqb}
 use lib.Dec.{eqb}
@@ -45,29 +45,6 @@ met_demand places uses f =
     let same : eqb (suc places) (suc uses) ≡ true =
     needed (eqb (suc places) (suc uses)) f (λ z. simp (z, ne_eqb (suc places) 0 (λ e. omega arith))) in
     omega (arith, eqb-true (suc places) (suc uses) same)
-
--- what is left of the test where there is a demand
-pub demand_left : (demand uses : ℕ) → (demand ≡ 0 → ⊥) → eqb (demand - 1) uses ≡ uses_fit demand uses
-unfolding uses_fit
-demand_left demand uses h = ⊎_elim
-    (λ (t : eqb (demand - 1) uses ≡ true).
-    let e : demand ≡ suc uses = omega (arith, eqb-true (demand - 1) uses t) in
-    simp (t, ne_eqb demand 0 h, eq-eqb demand (suc uses) e))
-    (λ (t : eqb (demand - 1) uses ≡ false).
-    let n = eqb-false (demand - 1) uses t in
-    simp (t, ne_eqb demand 0 h, ne_eqb demand (suc uses) (λ e. n (omega arith))))
-    (decided (eqb (demand - 1) uses))
-
--- ---- the look, and then the uses
-
-module _ (g : Graph) (v : ℕ) (p : Head) (demand : ℕ) (passed : Bool) (looked : passed ≡ passes_look p g v) where
-  pub look_fails : passed ≡ false → false ≡ suits p demand g v
-  unfolding suits
-  look_fails f = simp (sym looked, f)
-
-  pub look_passes : passed ≡ true → (b : Bool) (uses : ℕ) → b ≡ uses_fit demand uses → uses ≡ true_count g v → b ≡ suits p demand g v
-  unfolding suits
-  look_passes t b uses e u = rw (← looked, t, ← u) e
 
 -- a candidate for source vertex j, by its head and its demand
 pub candidate_suits : (g : Graph) (r : Rule) (j v : ℕ) (head : Head) (demand : ℕ) → head ≡ pattern_head (source_of r j)

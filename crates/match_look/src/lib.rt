@@ -14,7 +14,6 @@ ghost use Rattle.match_look.specs.Look.{Looked};
 ghost use Rattle.match_look.specs.Setting.{LookReady};
 
 use definitions::KIND_EMPTY;
-use fields::widened;
 use graph_fields::{attribute_count, input_count, kind_of, operator_of, stored_count};
 use rule_fields::{source_attribute_count, source_input_count, source_kind, source_operator};
 
@@ -70,12 +69,10 @@ pub fn head_fits(pattern: u32, slot: u32) -> bool
     ensures { Looked pattern slot result }
 {
     if slot == pattern {
-        return kind_in(pattern) != KIND_EMPTY;
+        kind_in(pattern) != KIND_EMPTY
+    } else {
+        kind_in(pattern) == KIND_EMPTY && kind_in(slot) != KIND_EMPTY
     }
-    if kind_in(pattern) != KIND_EMPTY {
-        return false;
-    }
-    kind_in(slot) != KIND_EMPTY
 }
 
 // Whether slot v passes the look for a source vertex with that head.
@@ -91,10 +88,7 @@ pub fn passes_look(graph: &[u8], head: u32, v: usize) -> bool
 fn uses_fit(demand: usize, uses: usize) -> bool
     ensures { result ≡ uses_fit demand uses }
 {
-    if demand == 0 {
-        return true;
-    }
-    demand - 1 == uses
+    demand == 0 || demand - 1 == uses
 }
 
 // Whether slot v can be the image of a source vertex with that head and that demand, by what can be told without entering its inputs.
@@ -102,8 +96,5 @@ pub fn suits(graph: &[u8], head: u32, demand: u16, v: usize) -> bool
     requires { LookReady graph.now v }
     ensures { result ≡ suits (head_in head) demand (graph_of graph.now) v }
 {
-    if !passes_look(graph, head, v) {
-        return false;
-    }
-    uses_fit(widened(demand), stored_count(graph, v))
+    passes_look(graph, head, v) && uses_fit(usize::from(demand), stored_count(graph, v))
 }

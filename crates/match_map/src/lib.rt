@@ -14,7 +14,7 @@ ghost use Rattle.match_map.specs.Attempt.{AttemptReady, SendsOutputs};
 ghost use Rattle.match_map.specs.Holding.{places_in, is_map_of, MapFits};
 
 use definitions::{SIDE_CAPACITY, UNUSED_PLACE};
-use fields::{greater, u16_at, widened};
+use fields::u16_at;
 use graph_fields::slot_count;
 use matching::match_vertex;
 use rule_fields::{output_count, source_output};
@@ -36,8 +36,7 @@ fn attempt(
     let slots = slot_count(graph);
     let outputs = output_count(rule);
     let mut next = 0;
-    let mut i = 0;
-    while i < outputs {
+    for i in 0..outputs {
         let output = source_output(rule, i);
         let slot = u16_at(map, 2 * output);
         if slots <= slot {
@@ -46,8 +45,7 @@ fn attempt(
         if !match_vertex(graph, rule, demands, output, slot, next, images) {
             return false;
         }
-        next = greater(next, output + 1);
-        i += 1;
+        next = next.max(output + 1);
     }
     true
 }
@@ -59,15 +57,7 @@ fn holds_images(map: &[u8], images: &[u16; SIDE_CAPACITY]) -> bool
     ensures { result ≡ all_below (λ j. eqb (u16_at map.now (2 * j)) (get_or images.now j 0))
         (places_in map.now) }
 {
-    let places = map.len() / 2;
-    let mut j = 0;
-    while j < places {
-        if u16_at(map, 2 * j) != widened(images[j]) {
-            return false;
-        }
-        j += 1;
-    }
-    true
+    (0..map.len() / 2).all(|j| u16_at(map, 2 * j) == usize::from(images[j]))
 }
 
 // Whether the map is a match, any, with 65535 in the places that no source vertex has.
@@ -80,8 +70,5 @@ pub fn is_match(graph: &[u8], rule: &[u8], map: &[u8]) -> bool
 {
     let demands = count_demands(rule);
     let mut images = [UNUSED_PLACE; SIDE_CAPACITY];
-    if !attempt(graph, rule, &demands, map, &mut images) {
-        return false;
-    }
-    holds_images(map, &images)
+    attempt(graph, rule, &demands, map, &mut images) && holds_images(map, &images)
 }

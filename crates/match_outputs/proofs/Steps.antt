@@ -34,7 +34,7 @@ use Rattle.match_look.specs.Look.{look}
 use Rattle.match_look.proofs.Look.{no_match_after_no}
 use Rattle.match_look.proofs.Working.{rule_matchable}
 use Rattle.match_candidates.specs.Listed.{NextFrom}
-use Rattle.match_outputs.specs.Finds.{Finds}
+use Rattle.match_outputs.specs.Finds.{LeastImages}
 use Rattle.match_outputs.proofs.Whole.{short-images, partial_match}
 
 -- ---- what was passed
@@ -157,7 +157,7 @@ module _ (graph rule : List ℕ) (working : WorkingRule rule) where
   pub least_map : (start : ℕ) (made : List ℕ) (end : ℕ) → Partial g r end made → end ≡ length r.source → Blank r made
       → start ≤ image_of made (get_or r.source_outputs 0 0)
       → ((whole : List ℕ) → MatchFrom g r start whole → NotAfter (output_images r made) (output_images r whole))
-      → Finds (least_match g r start) (source_count rule) true made
+      → LeastImages (least_match g r start) (source_count rule) made
   least_map start made end p e blank from least =
       let whole : Partial g r (length r.source) made = rw e at p in
       let fits : length r.source ≤ side_capacity = rw (length-source rule) working.readable.whole.source in
@@ -165,24 +165,16 @@ module _ (graph rule : List ℕ) (working : WorkingRule rule) where
       let same = short-images g r f made whole blank.rest fits in
       let is_match = partial_match g r f made whole blank.rest fits in
       record {
-        found = λ b. rw (← length-source rule) (least_searched g r fixing start (take (length r.source) made)
+        found = rw (← length-source rule) (least_searched g r fixing start (take (length r.source) made)
             (record { from = record { is_match = is_match; first = rw same from }; least = rw same least }));
-        none = λ f. absurd (true_not_false refl f);
-        size = λ b. blank.size;
-        small = λ b. working.readable.whole.source;
-        rest = λ b i l. blank.rest i (rw (length-source rule) l);
+        size = blank.size;
+        small = working.readable.whole.source;
+        rest = λ i l. blank.rest i (rw (length-source rule) l);
       }
 
   -- where there is no match from the start on, nothing is to be found
-  pub nothing_found : (start : ℕ) → ((whole : List ℕ) → MatchFrom g r start whole → ⊥) → {ok : Bool} {images : List ℕ} → ok ≡ false
-      → Finds (least_match g r start) (source_count rule) ok images
-  nothing_found start never f = record {
-    found = λ t. absurd (true_not_false t f);
-    none = λ t. none_found g r fixing start never;
-    size = λ t. absurd (true_not_false t f);
-    small = λ t. absurd (true_not_false t f);
-    rest = λ t. absurd (true_not_false t f);
-  }
+  pub nothing_found : (start : ℕ) → ((whole : List ℕ) → MatchFrom g r start whole → ⊥) → least_match g r start ≡ none
+  nothing_found start never = none_found g r fixing start never
 
   module _ (o : ℕ) (others : List ℕ) (outputs : r.source_outputs ≡ o ∷ others) where
     first-listed : Memᴰ o r.source_outputs
@@ -209,7 +201,7 @@ module _ (graph rule : List ℕ) (working : WorkingRule rule) where
 
   -- one output: its image decides alone
   module _ (o : ℕ) (outputs : r.source_outputs ≡ o ∷ []) (start first : ℕ) (passed : Passed g r o start first) where
-    pub one_found : {made : List ℕ} → Rooted g r o first made → Blank r made → Finds (least_match g r start) (source_count rule) true made
+    pub one_found : {made : List ℕ} → Rooted g r o first made → Blank r made → LeastImages (least_match g r start) (source_count rule) made
     unfolding visited_after
     one_found {made} root blank =
         let whole : max 0 (suc o) ≡ length r.source = rw outputs at (whole_in_order_of side_capacity r working.sound) in

@@ -2,7 +2,7 @@
 // Here is the search for a rule with one output, and what every search comes to.
 #![tactic(auto)]
 
-ghost use Rattle.std.specs.Prelude.{◌≡◌, false, [], ◌∷◌};
+ghost use Rattle.std.specs.Prelude.{[], ◌∷◌};
 ghost use Rattle.definitions.specs.Graph.{graph_of};
 ghost use Rattle.definitions.specs.Rule.{source_count};
 ghost use Rattle.definitions.specs.Match.{least_match};
@@ -15,45 +15,30 @@ use match_candidates::next_candidate;
 use match_look::pattern_head;
 use matching::match_candidate;
 
-// The images of all source vertices, where `ok`; in the places after them stands 65535.
-#[derive(Drop)]
-pub struct Found {
-    pub ok: bool,
-    pub images: [u16; SIDE_CAPACITY],
-}
-
-// What a search answers that finds nothing.
-pub fn none_found() -> Found
-    ensures { result.ok ≡ false }
-{
-    Found {
-        ok: false,
-        images: [UNUSED_PLACE; SIDE_CAPACITY],
-    }
-}
-
 // The least match of a rule with one output, which is source vertex `root`: its image from `start` up decides alone. What the look turns
-// away is passed over; for the rest, a step that fails leaves the images that it was given.
+// away is passed over; for the rest, a step that fails leaves the images that it was given. In the places after the images of all source
+// vertices stands 65535.
 pub fn search_one(
     graph: &[u8],
     rule: &[u8],
     demands: &[u16; SIDE_CAPACITY],
     root: usize,
     start: usize,
-) -> Found
+) -> Option<[u16; SIDE_CAPACITY]>
     requires { SearchReady graph.now rule.now demands.now (root ∷ []) }
     ensures { Finds (least_match (graph_of graph.now) (fixed_of rule.now) start)
-        (source_count rule.now) result.ok result.images }
+        (source_count rule.now) result }
 {
     let slots = slot_count(graph);
     let head = pattern_head(rule, root);
     let mut images = [UNUSED_PLACE; SIDE_CAPACITY];
     let mut slot = next_candidate(graph, head, start);
+    // The loop goes from candidate to candidate: the pass over the heads that finds the next one stays a loop of its own, which is short and fast.
     while slot < slots {
         if match_candidate(graph, rule, demands, root, slot, 0, &mut images) {
-            return Found { ok: true, images };
+            return Some(images);
         }
         slot = next_candidate(graph, head, slot + 1);
     }
-    Found { ok: false, images }
+    None
 }

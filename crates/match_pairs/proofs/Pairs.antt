@@ -27,7 +27,7 @@ use Rattle.match_look.specs.Candidate.{passes_look, is_candidate}
 use Rattle.match_look.proofs.Candidates.{Formed, output_candidate}
 use Rattle.match_look.proofs.Look.{match_passes}
 use Rattle.match_candidates.specs.Listed.{Listed}
-use Rattle.match_outputs.specs.Finds.{Finds}
+use Rattle.match_outputs.specs.Finds.{LeastImages}
 use Rattle.match_outputs.proofs.Steps.{Passed, pass_first, Blank, Rooted, le_cases, least_map, first-from}
 use Rattle.match_pairs.proofs.Later.{later}
 
@@ -117,7 +117,7 @@ module _ (graph rule : List ℕ) (working : WorkingRule rule) (o q : ℕ) (outpu
   pub two_found : (start first second : ℕ) → Passed g r o start first → {images made : List ℕ} {ok : Bool}
       → ((whole : List ℕ) → Match g r whole → image_of whole o ≡ first → second ≤ image_of whole q)
       → Rooted g r o first images → Step g r (o + 1) images (Sends q second) (max (o + 1) (suc q)) ok made → ok ≡ true
-      → Blank r made → Finds (least_match g r start) (source_count rule) true made
+      → Blank r made → LeastImages (least_match g r start) (source_count rule) made
   unfolding visited_after
   two_found start first second passed {made = made} least root pair t blank =
       let whole : max (max 0 (suc o)) (suc q) ≡ length r.source = rw outputs at (whole_in_order_of side_capacity r working.sound) in

@@ -8,7 +8,6 @@ ghost use Rattle.rule_fields.specs.Fixed.{fixed_of};
 ghost use Rattle.rule_nodes.specs.Working.{WorkingRule};
 ghost use Rattle.match_readers.specs.Elsewhere.{ToldByCount};
 
-use fields::widened;
 use rule_uses::count_places;
 
 // Whether an image is named from elsewhere, where so many places name it, and so many input places of the rule's own source name its
@@ -26,5 +25,5 @@ pub fn named_elsewhere(rule: &[u8], j: usize, count: usize) -> bool
     ensures { ToldByCount (fixed_of rule.now) j count result }
 {
     let places = count_places(rule);
-    exceeds(count, widened(places[j]))
+    exceeds(count, usize::from(places[j]))
 }

@@ -1,7 +1,7 @@
 -- Laws about what an operation gives: how its result comes from those of its operands, that every result is in range, and when a memo
 -- of results stays right.
 -- Assumes nothing.
-use mathlib.Core.Path.{◌≡◌, refl, sym, ◌∙◌}
+use mathlib.Core.Path.{◌≡◌, sym, ◌∙◌}
 use mathlib.Core.Bool.{true, false}
 use mathlib.Core.List.{List}
 use mathlib.Core.Logic.{⊎_elim}
@@ -22,13 +22,14 @@ use Rattle.rule_fields.specs.Fixed.{nodes_in, left_in, right_in, node_in, expres
 use Rattle.laws.proofs.Lists.{decided}
 use Rattle.laws.proofs.Builds.{build-at, get_or_none}
 use Rattle.rule_nodes.specs.Nodes.{GoodNode}
-use Rattle.numbers.specs.declared.Value.{Value}
-use Rattle.numbers.specs.declared.Value.TheVariants.{Nothing, Plus, Minus}
+use Rattle.std.specs.declared.option.Option as language
+use Rattle.std.specs.declared.option.Option.TheVariants.{None, Some}
+use Rattle.std.proofs.lemmas.Option.{none-some, same_Some}
 use Rattle.numbers.specs.Value.{value_of, bounded, operation_of}
 use Rattle.numbers.proofs.Laws.{combine-bounded}
 use Rattle.match_leaves.specs.Results.{node_result}
 use Rattle.match_leaves.proofs.Laws.{node_built, leaf_bounded}
-use Rattle.match_values.specs.Memo.{state_of, magnitude_of, remembered, Memo}
+use Rattle.match_values.specs.Memo.{Memo}
 
 -- ---- operations
 
@@ -83,38 +84,23 @@ module _ (graph rule images : List ℕ) (k : ℕ) (inside : k < nodes_in rule) w
 
 -- ---- the memo
 
-pub remembered-value : (value : Value) → remembered (state_of value) (magnitude_of value) ≡ value_of value
-unfolding remembered value_of
-remembered-value Nothing = refl
-remembered-value (Plus n) = refl
-remembered-value (Minus n) = refl
-
 module _ (graph rule images : List ℕ) where
   -- nothing is known at first
-  pub memo_none : (n : ℕ) → nodes_in rule ≤ n → Memo graph rule images (replicate n 0) (replicate n 0)
+  pub memo_none : (n : ℕ) → nodes_in rule ≤ n → Memo graph rule images (replicate n None)
   memo_none n l = record {
-    state_size = rw (length-replicate {A = ℕ} n 0) l;
-    magnitude_size = rw (length-replicate {A = ℕ} n 0) l;
-    known = λ k h. absurd (h (get_or_none n k 0));
+    size = rw (length-replicate {A = language.Option (language.Option ℤ)} n None) l;
+    known = λ k value h. absurd (none-some value (sym (get_or_none n k None) ∙ h));
   }
 
   -- one result more
-  pub memo_more : {states magnitudes : List ℕ} (k s n : ℕ) (value : Value) → Memo graph rule images states magnitudes → k < nodes_in rule
-      → value_of value ≡ node_result graph rule images k → s ≡ state_of value → n ≡ magnitude_of value
-      → Memo graph rule images (set states k s) (set magnitudes k n)
-  memo_more {states} {magnitudes} k s n value m l e f g = record {
-    state_size = rw (length-set states k s) m.state_size;
-    magnitude_size = rw (length-set magnitudes k n) m.magnitude_size;
-    known = λ j h. ⊎_elim
-        (λ (t : eqb j k ≡ true). rw (
-          eqb-true j k t,
-          get_or-set_same states k s 0 (omega (arith, m.state_size)),
-          get_or-set_same magnitudes k n 0 (omega (arith, m.magnitude_size)),
-          f,
-          g,
-        ) (remembered-value value ∙ e))
-        (λ (t : eqb j k ≡ false).
-        let same : get_or (set states k s) j 0 ≡ get_or states j 0 = get_or-set_other states k j s 0 (eqb-false j k t) in
-        rw (same, get_or-set_other magnitudes k j n 0 (eqb-false j k t)) (m.known j (λ z. h (same ∙ z))))
+  pub memo_more : {memo : List (language.Option (language.Option ℤ))} (k : ℕ) (value : language.Option ℤ) → Memo graph rule images memo → k < nodes_in rule
+      → value_of value ≡ node_result graph rule images k → Memo graph rule images (set memo k (Some value))
+  memo_more {memo} k value m l e = record {
+    size = rw (length-set memo k (Some value)) m.size;
+    known = λ j other h. ⊎_elim
+        (λ (t : eqb j k ≡ true).
+        let same : Some value ≡ Some other = sym (get_or-set_same memo k (Some value) None (omega (arith, m.size))) ∙ (rw (eqb-true j k t) at h) in
+        rw (← same_Some value other same, eqb-true j k t) e)
+        (λ (t : eqb j k ≡ false). m.known j other (sym (get_or-set_other memo k j (Some value) None (eqb-false j k t)) ∙ h))
         (decided (eqb j k));
   }

@@ -11,7 +11,6 @@ ghost use Rattle.match_images.specs.Partial.{Sends, SendsInputs, Step};
 ghost use Rattle.matching.specs.Ready.{VertexReady, VertexDone, CandidateReady, InputsReady};
 
 use definitions::SIDE_CAPACITY;
-use fields::greater;
 use graph_fields::input_at;
 use match_images::{is_image, settle};
 use match_look::{pattern_head, suits};
@@ -37,10 +36,7 @@ pub fn match_vertex(
         return is_image(images, j, v);
     }
     let head = pattern_head(rule, j);
-    if !suits(graph, head, demands[j], v) {
-        return false;
-    }
-    match_candidate(graph, rule, demands, j, v, next, images)
+    suits(graph, head, demands[j], v) && match_candidate(graph, rule, demands, j, v, next, images)
 }
 
 // Matches source vertex j, which has no image yet, with slot v, a candidate for it: its inputs first, and then itself.
@@ -58,10 +54,7 @@ pub fn match_candidate(
     ensures { Step (graph_of graph.now) (fixed_of rule.now) next images.old (Sends j v)
         (max next (suc j)) result images.new }
 {
-    if !match_inputs(graph, rule, demands, j, v, 0, next, images) {
-        return false;
-    }
-    settle(graph, rule, j, v, images)
+    match_inputs(graph, rule, demands, j, v, 0, next, images) && settle(graph, rule, j, v, images)
 }
 
 // Matches the inputs of source vertex j, from place i on, with those of slot v, a candidate for it.
@@ -89,6 +82,6 @@ fn match_inputs(
     if !match_vertex(graph, rule, demands, u, w, next, images) {
         return false;
     }
-    let reached = greater(next, u + 1);
+    let reached = next.max(u + 1);
     match_inputs(graph, rule, demands, j, v, i + 1, reached, images)
 }

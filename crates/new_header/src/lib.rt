@@ -8,7 +8,7 @@ ghost use Rattle.new_header.specs.Headers.{header_with};
 use definitions::{
     GRAPH_LETTER, GRAPH_VERSION, HEADER_BYTES, OUTPUT_LIMIT, OUTPUTS_END, OUTPUTS_OFFSET,
 };
-use writing::{clear, put_u16s};
+use writing::{clear, put_numbers};
 
 // Writes a graph block's header into its 24 bytes: `outputs` has every output place, of which `count` are used.
 pub fn write_header(part: &mut [u8], slots: u16, count: u16, outputs: &[u16; OUTPUT_LIMIT])
@@ -21,7 +21,7 @@ pub fn write_header(part: &mut [u8], slots: u16, count: u16, outputs: &[u16; OUT
     part[2] = GRAPH_LETTER as u8;
     part[3] = 0;
     let numbers = [GRAPH_VERSION as u16, slots, count];
-    put_u16s(&mut part[4..OUTPUTS_OFFSET], &numbers);
-    put_u16s(&mut part[OUTPUTS_OFFSET..OUTPUTS_END], outputs);
+    put_numbers(&mut part[4..OUTPUTS_OFFSET], &numbers);
+    put_numbers(&mut part[OUTPUTS_OFFSET..OUTPUTS_END], outputs);
     clear(&mut part[OUTPUTS_END..HEADER_BYTES]);
 }

@@ -1,9 +1,8 @@
 -- What a rewriting at one match comes to, as the code tells it: done where it is accepted, or the refusal.
 -- Assumes nothing.
-use Rattle.std.specs.Prelude.{◌≡◌, List, ℕ, ◌≤◌, length, take}
+use Rattle.std.specs.Prelude.{◌≡◌, List, ℕ, ◌≤◌, length, take, Ok, Err}
 use Rattle.definitions.specs.declared.Refusal.{Refusal}
-use Rattle.definitions.specs.declared.Reply.{Reply}
-use Rattle.definitions.specs.declared.Reply.TheVariants.{Done, Refused}
+use Rattle.definitions.specs.Reply.{Reply}
 use Rattle.definitions.specs.Graph.{unused_place, Graph, graph_of, graph_block, SoundGraph}
 use Rattle.definitions.specs.Rule.{side_capacity, source_count}
 use Rattle.definitions.specs.Match.{image_of, Match}
@@ -22,5 +21,5 @@ pub record Matched (graph rule images : List ℕ) : Type 0 where
 
 -- the new table is made in a block of its own, which can be committed
 pub record Planned (best : Rewritten) (reply : Reply) (table : List ℕ) : Type 0 where
-  pub done : (value : ℕ) → reply ≡ Done value → (new : Graph) × Table new × (best ≡ accepted new) × (table ≡ graph_block new)
-  pub refused : (why : Refusal) → reply ≡ Refused why → best ≡ turned_down why
+  pub done : (value : ℕ) → reply ≡ Ok value → (new : Graph) × Table new × (best ≡ accepted new) × (table ≡ graph_block new)
+  pub refused : (why : Refusal) → reply ≡ Err why → best ≡ turned_down why

@@ -14,9 +14,9 @@ use graph_counts::store_counts;
 use graph_fields::slot_count;
 use new_slots::lowest_free;
 use new_table::write_table;
-use reply::{NEW_CYCLE, NO_RESULT, NO_ROOM, refuse};
+use reply::{Reason, refuse};
 use rule_fields::target_count;
-use target_attributes::{Fitness, all_fit};
+use target_attributes::all_fit;
 use vacancies::find_free;
 
 // What a rewriting at this match comes to: refusal 5, 6 or 7, in that order, or done with the new table in `table`. The cycle is
@@ -28,20 +28,20 @@ pub fn plan(graph: &[u8], rule: &[u8], images: &[u16; SIDE_CAPACITY], table: &mu
     ensures { Planned (operation.rewritten (graph_of graph.now) (fixed_of rule.now)
         (take (source_count rule.now) images.now)) result table.new }
 {
-    if let Fitness::Unfit(_) = all_fit(graph, rule, images) {
-        return refuse(NO_RESULT);
+    if let Err(_) = all_fit(graph, rule, images) {
+        return refuse(Reason::NoResult);
     }
     let free = find_free(graph, rule, images);
     let places = lowest_free(&free, slot_count(graph));
     if places.count < target_count(rule) {
-        return refuse(NO_ROOM);
+        return refuse(Reason::NoRoom);
     }
     let slots = places.slots;
     write_table(graph, rule, images, &slots, &free, table);
     let made = &table[..];
     if has_cycle(made) {
-        return refuse(NEW_CYCLE);
+        return refuse(Reason::NewCycle);
     }
     store_counts(table);
-    Reply::Done(0)
+    Ok(0)
 }

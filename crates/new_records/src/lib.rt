@@ -37,11 +37,10 @@ pub fn new_record(
         (values_of (fit_results graph.now rule.now images.now)) k) }
 {
     if !free {
-        return staying_record(graph, k, way);
+        staying_record(graph, k, way)
+    } else if next < target_count(rule) {
+        target_record(graph, rule, images, places, next)
+    } else {
+        empty_record()
     }
-    let targets = target_count(rule);
-    if next < targets {
-        return target_record(graph, rule, images, places, next);
-    }
-    empty_record()
 }

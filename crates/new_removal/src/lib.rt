@@ -11,12 +11,12 @@ ghost use Rattle.rule_fields.specs.Layout.{WholeRule};
 ghost use Rattle.new_removal.specs.Removal.{goes_by};
 
 use definitions::SIDE_CAPACITY;
-use fields::widened;
 use graph_fields::stored_count;
 use rule_fields::{is_const, is_rule_input};
 
 // Whether the image of source vertex j goes: a rule input's stays, a Const's goes where it is named as often as the rule's own source
 // names the vertex, and any other goes.
+#[tactic(auto, unfolding(crate::specs::Removal::goes_by))]
 pub fn image_goes(
     graph: &[u8],
     rule: &[u8],
@@ -31,11 +31,6 @@ pub fn image_goes(
     requires places_len { length places.now ≡ side_capacity }
     ensures { result ≡ goes_by (fixed_of rule.now) j (stored_count graph.now image) (get_or places.now j 0) }
 {
-    if is_rule_input(rule, j) {
-        return false;
-    }
-    if is_const(rule, j) {
-        return stored_count(graph, image) == widened(places[j]);
-    }
-    true
+    !is_rule_input(rule, j)
+        && (!is_const(rule, j) || stored_count(graph, image) == usize::from(places[j]))
 }

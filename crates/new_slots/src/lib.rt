@@ -7,7 +7,8 @@ ghost use Rattle.new_slots.specs.Vacant.{marked, Lowest};
 
 use definitions::{SIDE_CAPACITY, SLOT_LIMIT, UNUSED_PLACE};
 
-// How many slots are free, and the lowest of them; 65535 stands in the places after the last.
+// How many slots are free, and the lowest of them; 65535 stands in the places after the last. The count stands beside the array, since
+// there is no heap, and more slots may be free than the array has places.
 #[derive(Drop)]
 pub struct Places {
     pub count: usize,
@@ -22,15 +23,13 @@ pub fn lowest_free(free: &[bool; SLOT_LIMIT], n: usize) -> Places
 {
     let mut slots = [UNUSED_PLACE; SIDE_CAPACITY];
     let mut count = 0;
-    let mut k = 0;
-    while k < n {
+    for k in 0..n {
         if free[k] {
             if count < SIDE_CAPACITY {
                 slots[count] = k as u16;
             }
             count += 1;
         }
-        k += 1;
     }
     Places { count, slots }
 }

@@ -3,9 +3,9 @@
 // are.
 #![tactic(auto)]
 
-ghost use Rattle.std.specs.Prelude.{◌≡◌, cond, not, ◌++◌, ◌+◌, ◌*◌, ◌<◌, length, take};
+ghost use Rattle.std.specs.Prelude.{◌≡◌, not, ◌++◌, ◌+◌, ◌*◌, ◌<◌, length, take};
 ghost use Rattle.definitions.specs.Lists.{filter, range};
-ghost use Rattle.definitions.specs.Graph.{header_bytes, slot_bytes, slot_limit, graph_version, slot_count, graph_of, record_block, records_block, block_as};
+ghost use Rattle.definitions.specs.Graph.{header_bytes, slot_bytes, graph_version, slot_count, graph_of, record_block, records_block, block_as};
 ghost use Rattle.definitions.specs.Rule.{rule_output_count};
 ghost use Rattle.definitions.specs.Rewriting.{stays};
 ghost use Rattle.rule_fields.specs.Fixed.{fixed_of};
@@ -20,17 +20,6 @@ use new_header::write_header;
 use new_places::new_outputs;
 use new_records::new_record;
 use redirection::{Redirection, redirection_of};
-
-// How many free slots lie below the next slot, where `next` lie below this one.
-fn counted(next: usize, free: bool) -> usize
-    requires { next < slot_limit }
-    ensures { result ≡ next + cond free 1 0 }
-{
-    if free {
-        return next + 1;
-    }
-    next
-}
 
 // Writes slot k, behind the slots that are written already. Its record is made from the old table: in the new one a slot that went
 // may hold a target vertex by now.
@@ -79,12 +68,10 @@ fn write_slots(
 {
     let slots = slot_count(graph);
     let mut next = 0;
-    let mut k = 0;
-    while k < slots {
+    for k in 0..slots {
         let marked = free[k];
         write_slot(graph, rule, images, places, way, k, marked, next, table);
-        next = counted(next, marked);
-        k += 1;
+        next += usize::from(marked);
     }
 }
 

@@ -1,8 +1,8 @@
 -- What the record of a target vertex stands for: results that are given have their words, and the slots that the arrays give are the
 -- definition's.
 -- Assumes nothing.
-use mathlib.Core.Path.{◌≡◌, sym, ap, ◌∙◌}
-use mathlib.Core.Bool.{Bool, true}
+use mathlib.Core.Path.{◌≡◌, refl, sym, ap, ◌∙◌}
+use mathlib.Core.Bool.{Bool, true, false≢true}
 use mathlib.Core.List.{List, [], map}
 use mathlib.Core.Option.{Option, some, some-injective}
 use Prim.Native.Nat.{ℕ, ◌<◌}
@@ -18,6 +18,11 @@ use Rattle.rule_fields.specs.Fixed.{fixed_of}
 use Rattle.rule_fields.proofs.Fixed.{length-target}
 use Rattle.replacement.proofs.Values.{target-values, value-count}
 use Rattle.target_attributes.specs.Words.{is_given, Given}
+use Rattle.std.specs.declared.result.Result.{Result}
+use Rattle.std.specs.declared.result.Result.TheVariants.{Ok, Err}
+use Rattle.std.specs.Result.{IsOk}
+use Rattle.target_attributes.specs.declared.Lack.{Lack}
+use Rattle.target_attributes.specs.Fitness.{is_fit, words_of, Told}
 use Rattle.target_attributes.proofs.Laws.{told_given}
 use Rattle.redirection.specs.Moves.{resolve_in}
 use Rattle.new_places.proofs.Laws.{inputs_same}
@@ -33,6 +38,11 @@ unfolding is_given
 told_words best zs ok words h g =
     let told = g.found (sym (told_given best ok words g) ∙ ap is_given h) in
     told.2 ∙ ap (λ (ys : List ℤ). padded attribute_limit 0 (map word_of ys)) (some-injective told.0 zs (sym told.1 ∙ h))
+
+fit_ok : (told : Result (List ℕ) Lack) → is_fit told ≡ true → IsOk told
+unfolding is_fit
+fit_ok (Ok words) e = refl
+fit_ok (Err lack) e = absurd (false≢true e)
 
 module _ (graph rule images : List ℕ) (t : ℕ) (known : is_given (fit_results graph rule images) ≡ true) (l : t < target_count rule) where
   abbrev read : ℕ → ℕ → Option ℤ
@@ -58,6 +68,14 @@ module _ (graph rule images : List ℕ) (t : ℕ) (known : is_given (fit_results
   words_same ok words =
       told_words (vertex_results read (target_of (fixed_of rule) t)) (get_or values t []) ok words
       (target-values (graph_of graph) (fixed_of rule) images values found t inside)
+
+  -- so there are words
+  pub words_told : (told : Result (List ℕ) Lack) → Told read (target_of (fixed_of rule) t) told → IsOk told
+  unfolding is_given
+  words_told told h =
+      fit_ok told
+      (sym (told_given (vertex_results read (target_of (fixed_of rule) t)) (is_fit told) (words_of told) h.given)
+      ∙ ap is_given (target-values (graph_of graph) (fixed_of rule) images values found t inside))
 
 -- ---- the inputs of target vertex t
 

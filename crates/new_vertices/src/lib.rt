@@ -17,6 +17,7 @@ use definitions::{ATTRIBUTE_LIMIT, SIDE_CAPACITY};
 use graph_fields::{attribute_count, attribute_word, input_count, kind_of, operator_of};
 use graph_records::Record;
 use new_places::{staying_inputs, target_inputs};
+use padding::padded;
 use redirection::Redirection;
 use rule_fields::{target_attribute_count, target_input_count, target_kind, target_operator};
 use target_attributes::vertex_words;
@@ -27,13 +28,7 @@ fn attribute_words(graph: &[u8], k: usize) -> [u32; ATTRIBUTE_LIMIT]
     ensures { result ≡ padded attribute_limit 0 (slot_of (graph_of graph.now) k).attributes }
 {
     let count = attribute_count(graph, k);
-    let mut words = [0u32; ATTRIBUTE_LIMIT];
-    let mut i = 0;
-    while i < count {
-        words[i] = attribute_word(graph, k, i) as u32;
-        i += 1;
-    }
-    words
+    padded(count, 0, |i| attribute_word(graph, k, i) as u32)
 }
 
 // The record of a vertex that stays: its input places redirected, and nothing else changed.
@@ -76,7 +71,7 @@ pub fn target_record(
     let m = target_attribute_count(rule, t);
     let inputs = target_inputs(rule, t, images, places);
     let found = vertex_words(graph, rule, images, t);
-    let attributes = found.words;
+    let attributes = found.unwrap();
     Record {
         kind: kind as u8,
         operator: operator as u8,

@@ -1,47 +1,34 @@
--- Numbers in range by sign and magnitude, and that every result is in range.
+-- Results as the code has them, and that every result is in range.
 -- Assumes nothing.
-use mathlib.Core.Path.{◌≡◌, refl, ap}
+use mathlib.Core.Path.{◌≡◌, refl}
 use mathlib.Core.Bool.{Bool, true, false, cond}
 use mathlib.Core.Logic.{⊎_elim}
 use mathlib.Core.Option.{Option, none, some}
-use Prim.Native.Nat.{ℕ, zero, suc, ◌-◌, ◌^◌, ◌<◌, ◌≤◌}
+use Prim.Native.Nat.{ℕ, ◌-◌, ◌^◌}
 use native.Mathlib.Omega.{arith}
-use borrow.Author.Tests.{ltb-true, ltb-false, lt-ltb, le-ltb}
+use borrow.Author.Tests.{ltb-true, ltb-false, lt-ltb}
 use lib.Dec.{ltb}
-use lib.IntN.{ℤ, pos, negsuc, neg_ℤ, sub_ℕ, ◌+ℤ◌, ◌-ℤ◌, ◌*ℤ◌}
+use lib.IntN.{ℤ, pos, negsuc, ◌+ℤ◌, ◌-ℤ◌, ◌*ℤ◌}
 use Rattle.definitions.specs.Fields.{signed}
 use Rattle.definitions.specs.Rule.{Operation, add, subtract, multiply, divide, remainder}
 use Rattle.definitions.specs.Attributes.{in_range, fit, quotient, is_zero, operate, combine}
 use Rattle.laws.proofs.Lists.{decided}
-use Rattle.fields.specs.declared.Integer.{Integer}
-use Rattle.fields.specs.declared.Integer.TheVariants.{Plus, Minus}
-use Rattle.fields.specs.Integer.{integer_of}
-use Rattle.numbers.specs.Value.{limit, bounded}
+use Rattle.std.specs.declared.option.Option as language
+use Rattle.std.specs.declared.option.Option.TheVariants.{None, Some}
+use Rattle.std.specs.Option.{SomeIff}
+use Rattle.std.specs.Int.{w32}
+use Rattle.std.specs.Int.RustNames.{FitsSigned}
+use Rattle.numbers.specs.Value.{value_of, bounded}
 
--- ---- the range
+-- ---- results as the code has them
 
--- the magnitude of a number in range
-pub plus_limit : {x : Integer} {n : ℕ} → in_range (integer_of x) ≡ true → x ≡ Plus n → n < limit
-unfolding in_range integer_of
-plus_limit {n = n} t e = ltb-true n limit (rw e at t)
-
-pub minus_limit : {x : Integer} {n : ℕ} → in_range (integer_of x) ≡ true → x ≡ Minus n → n < limit
-unfolding in_range integer_of
-minus_limit {n = n} t e = ltb-true n limit (rw e at t)
-
--- ---- negation and differences
-
-pub negated_suc : (n : ℕ) → (n ≡ 0 → ⊥) → neg_ℤ (pos n) ≡ negsuc (n - 1)
-negated_suc zero h = absurd (h refl)
-negated_suc (suc n) h = ap negsuc (omega arith)
-
-pub less : (a b : ℕ) → a < b → sub_ℕ a b ≡ negsuc (b - a - 1)
-less a b h =
-    let same : b - suc a ≡ b - a - 1 = omega arith in
-    simp (lt-ltb a b h, same)
-
-pub not_less : (a b : ℕ) → b ≤ a → sub_ℕ a b ≡ pos (a - b)
-not_less a b h = simp (le-ltb a b h)
+-- a number where it fits in 32 bits, and else nothing
+pub fitted : (r : language.Option ℤ) (z : ℤ) → SomeIff r (FitsSigned w32 z) z → value_of r ≡ fit z
+unfolding value_of fit in_range
+fitted None (pos n) h = grind arith
+fitted None (negsuc n) h = grind arith
+fitted (Some x) (pos n) h = grind arith
+fitted (Some x) (negsuc n) h = grind arith
 
 -- ---- every result is in range
 
@@ -82,6 +69,6 @@ pub signed_in_range : (w : ℕ) → in_range (signed w) ≡ true
 unfolding in_range
 signed_in_range w =
     ⊎_elim
-    (λ (t : ltb w (2 ^ 31) ≡ true). rw (low w t) (lt-ltb w limit (omega (arith, ltb-true))))
-    (λ (f : ltb w (2 ^ 31) ≡ false). rw (high w f) (lt-ltb (2 ^ 32 - 1 - w) limit (omega (arith, ltb-false))))
+    (λ (t : ltb w (2 ^ 31) ≡ true). rw (low w t) (lt-ltb w (2 ^ 31) (omega (arith, ltb-true))))
+    (λ (f : ltb w (2 ^ 31) ≡ false). rw (high w f) (lt-ltb (2 ^ 32 - 1 - w) (2 ^ 31) (omega (arith, ltb-false))))
     (decided (ltb w (2 ^ 31)))

@@ -1,21 +1,16 @@
--- The result for which a `Value` stands, when a result is in range, and the operation of a node's form.
+-- What an expression gives as the definitions say it, when a result is in range, and the operation of a node's form.
 -- Assumes nothing.
-use Rattle.std.specs.Prelude.{Bool, true, ℕ, ◌-◌, ◌^◌, ℤ, pos, negsuc, get_or}
+use Rattle.std.specs.Prelude.{Bool, true, ℕ, ◌-◌, ℤ, get_or}
+use Rattle.std.specs.declared.option.Option as language
+use Rattle.std.specs.declared.option.Option.TheVariants.{None, Some}
 use Rattle.std.proofs.Math.Option.{Option, none, some}
 use Rattle.definitions.specs.Rule.{form_add, Operation, operations, remainder}
 use Rattle.definitions.specs.Attributes.{in_range}
-use Rattle.numbers.specs.declared.Value.{Value}
-use Rattle.numbers.specs.declared.Value.TheVariants.{Nothing, Plus, Minus}
 
 -- What an expression gives: a number, or nothing.
-unfoldable pub value_of : Value → Option ℤ
-value_of Nothing = none
-value_of (Plus n) = some (pos n)
-value_of (Minus n) = some (negsuc n)
-
--- results are from -limit to limit - 1: the bound of `inRange`
-abbrev pub limit : ℕ
-limit = 2 ^ 31
+unfoldable pub value_of : language.Option ℤ → Option ℤ
+value_of None = none
+value_of (Some z) = some z
 
 -- a result, if there is one, is in range
 unfoldable pub bounded : Option ℤ → Bool

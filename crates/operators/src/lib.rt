@@ -139,47 +139,29 @@ pub fn row_of(kind: usize) -> Row
 }
 
 // Whether a Call's operator is known, with that operator's counts.
+#[tactic(auto, unfolding(definitions::specs::Operators::shape_fits))]
 fn call_fits(operator: usize, n: usize, m: usize) -> bool
     ensures { result ≡ shape_fits kind_call operator n m }
 {
-    if operator < 1 {
-        return false;
-    }
-    if OPERATOR_COUNT < operator {
+    if !(1..=OPERATOR_COUNT).contains(&operator) {
         return false;
     }
     let counts = counts_of(operator);
-    if n != counts.inputs as usize {
-        return false;
-    }
-    if m != counts.attributes as usize {
-        return false;
-    }
-    true
+    n == usize::from(counts.inputs) && m == usize::from(counts.attributes)
 }
 
 // Whether a record's kind, operator, input count and attribute count agree with the tables.
+#[tactic(auto, unfolding(definitions::specs::Operators::shape_fits))]
 pub fn shape_fits(kind: usize, operator: usize, n: usize, m: usize) -> bool
     ensures { result ≡ shape_fits kind operator n m }
 {
     if kind == KIND_CALL {
         return call_fits(operator, n, m);
     }
-    if KIND_PROJ < kind {
-        return false;
-    }
-    if operator != 0 {
+    if KIND_PROJ < kind || operator != 0 {
         return false;
     }
     let row = row_of(kind);
-    if n < row.least as usize {
-        return false;
-    }
-    if (row.greatest as usize) < n {
-        return false;
-    }
-    if m != row.attributes as usize {
-        return false;
-    }
-    true
+    (usize::from(row.least)..=usize::from(row.greatest)).contains(&n)
+        && m == usize::from(row.attributes)
 }

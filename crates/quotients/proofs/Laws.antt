@@ -1,75 +1,71 @@
--- What quotients and remainders give, case by case of the signs.
+-- What the library's quotients and remainders give, case by case of the signs.
 -- Assumes nothing.
 use mathlib.Core.Path.{◌≡◌, refl, sym, ap, ◌∙◌}
-use mathlib.Core.Bool.{false}
 use Prim.Native.Nat.{ℕ, zero, suc, ◌+◌, ◌-◌, ◌/◌, ◌%◌}
-use native.Mathlib.Nat.{add-div_right, add-mod_right, mod-lt}
+use native.Mathlib.Nat.{add-div_right, add-mod_right, mod-eq_of_lt, div-eq_of_lt}
 use native.Mathlib.Omega.{arith}
-use native.Mathlib.Numerals.{add-one}
-use borrow.Author.Tests.{eqb-false}
-use lib.IntN.{pos, negsuc, neg_ℤ, ◌-ℤ◌, ◌*ℤ◌}
+use borrow.Author.Tests.{ne_eqb}
+use lib.Signed.{◌<ℤ◌, ◌≤ℤ◌}
+use Rattle.std.proofs.lemmas.Int.{ints}
+use Rattle.quotients.specs.Division.{Divides}
+use lib.IntN.{ℤ, pos, negsuc, neg_ℤ, ◌-ℤ◌, ◌*ℤ◌}
 use Rattle.definitions.specs.Attributes.{quotient, is_zero}
 use Rattle.theory.proofs.Division.{rounds_down_positive, rounds_down_negative, remainder_positive, remainder_negative}
-use Rattle.fields.specs.declared.Integer.{Integer}
-use Rattle.fields.specs.declared.Integer.TheVariants.{Plus, Minus}
-use Rattle.fields.specs.Integer.{integer_of}
-use Rattle.quotients.specs.Division.{Divides}
+use Rattle.std.specs.Int.{int_div_euclid, int_rem_euclid}
 
--- a divisor that is not zero
-pub divisor : {y : Integer} {n : ℕ} → is_zero (integer_of y) ≡ false → y ≡ Plus n → n ≡ 0 → ⊥
-unfolding is_zero integer_of
-divisor {n = n} f e = eqb-false n 0 (rw e at f)
+-- ---- what the library's division gives
 
--- the magnitude a + 1 by b, rounded up
-rounded_up : (a b : ℕ) → (b ≡ 0 → ⊥) → neg_ℤ (pos ((a + b) / b)) ≡ negsuc (a / b)
-rounded_up a b h =
-    let up : (a + b) / b ≡ suc (a / b) = add-div_right a {k = b} (omega arith) ∙ omega arith in
-    ap (λ (n : ℕ). neg_ℤ (pos n)) up
+-- by a divisor above zero
+euclid_down : (x : ℤ) (n : ℕ) → int_div_euclid x (pos (suc n)) ≡ quotient x (pos (suc n))
+unfolding quotient
+euclid_down (pos a) n = refl
+euclid_down (negsuc a) n = refl
 
-rest_plus_plus : (a b : ℕ) → (b ≡ 0 → ⊥) → pos a -ℤ pos b *ℤ quotient (pos a) (pos b) ≡ pos (a % b)
+euclid_left : (x : ℤ) (n : ℕ) → int_rem_euclid x (pos (suc n)) ≡ x -ℤ pos (suc n) *ℤ quotient x (pos (suc n))
 unfolding rounds_down_positive remainder_positive
-rest_plus_plus a zero h = absurd (h refl)
-rest_plus_plus a (suc n) h = (remainder_positive (pos a) n).2
+euclid_left (pos a) n = sym (remainder_positive (pos a) n).2
+euclid_left (negsuc a) n =
+    let same : suc n - 1 - a % suc n ≡ n - a % suc n = omega arith in
+    ap pos same ∙ sym (remainder_positive (negsuc a) n).2
 
-rest_minus_plus : (a b : ℕ) → (b ≡ 0 → ⊥) → negsuc a -ℤ pos b *ℤ quotient (negsuc a) (pos b) ≡ pos (b - 1 - (a + b) % b)
-unfolding rounds_down_positive remainder_positive
-rest_minus_plus a zero h = absurd (h refl)
-rest_minus_plus a (suc n) h =
-    let left = add-mod_right a (suc n) in
-    let less = mod-lt a {m = suc n} (omega arith) in
-    let same : n - a % suc n ≡ suc n - 1 - (a + suc n) % suc n = omega arith in
-    (remainder_positive (negsuc a) n).2 ∙ ap pos same
+-- by a divisor below zero, of the opposites
+opposite_down : (x : ℤ) (n : ℕ) → int_div_euclid (neg_ℤ x) (pos (suc n)) ≡ quotient x (negsuc n)
+unfolding quotient
+opposite_down (pos zero) n =
+    let none : 0 / suc n ≡ 0 = div-eq_of_lt (omega arith) in
+    let few : (0 + n) / suc n ≡ 0 = div-eq_of_lt (omega arith) in
+    rw (none, few)
+opposite_down (pos (suc a)) n =
+    let same : suc a + n ≡ a + suc n = omega arith in
+    let up : (a + suc n) / suc n ≡ suc (a / suc n) = add-div_right a {k = suc n} (omega arith) ∙ omega arith in
+    rw (same, up)
+opposite_down (negsuc a) n = refl
 
-rest_plus_minus : (a n : ℕ) → pos a -ℤ negsuc n *ℤ quotient (pos a) (negsuc n) ≡ neg_ℤ (pos (n - (a + n) % suc n))
+opposite_left : (x : ℤ) (n : ℕ) → neg_ℤ (int_rem_euclid (neg_ℤ x) (pos (suc n))) ≡ x -ℤ negsuc n *ℤ quotient x (negsuc n)
 unfolding rounds_down_negative remainder_negative
-rest_plus_minus a n = (remainder_negative (pos a) n).2
+opposite_left (pos zero) n =
+    let none : 0 % suc n ≡ 0 = mod-eq_of_lt (omega arith) in
+    let all : (0 + n) % suc n ≡ n = mod-eq_of_lt (omega arith) ∙ omega arith in
+    let same : 0 % suc n ≡ n - (0 + n) % suc n = omega (arith, none, all) in
+    ap (λ (k : ℕ). neg_ℤ (pos k)) same ∙ sym (remainder_negative (pos zero) n).2
+opposite_left (pos (suc a)) n =
+    let around = add-mod_right a (suc n) in
+    let sum : suc a + n ≡ a + suc n = omega arith in
+    let same : suc n - 1 - a % suc n ≡ n - (suc a + n) % suc n = rw sum (omega (arith, around)) in
+    ap (λ (k : ℕ). neg_ℤ (pos k)) same ∙ sym (remainder_negative (pos (suc a)) n).2
+opposite_left (negsuc a) n = sym (remainder_negative (negsuc a) n).2
 
-rest_minus_minus : (a n : ℕ) → negsuc a -ℤ negsuc n *ℤ quotient (negsuc a) (negsuc n) ≡ neg_ℤ (pos (suc a % suc n))
-unfolding rounds_down_negative remainder_negative
-rest_minus_minus a n = (remainder_negative (negsuc a) n).2
+-- ---- the two together
 
--- ---- the two together, by the signs
+module _ (x : ℤ) where
+  pub divides-above : {y q r : ℤ} → pos 0 ≤ℤ y → (y ≡ pos 0 → ⊥) → q ≡ int_div_euclid x y → r ≡ int_rem_euclid x y → Divides x y (record { quotient = q; rest = r })
+  unfolding is_zero
+  divides-above {y = pos zero} at h d l = absurd (h refl)
+  divides-above {y = pos (suc n)} at h d l = record { nonzero = ne_eqb (suc n) 0 (λ e. omega arith); down = d ∙ euclid_down x n; left = l ∙ euclid_left x n }
+  divides-above {y = negsuc n} at h d l = absurd (omega (arith, ints))
 
-module _ {x y : Integer} {a b : ℕ} where
-  pub plus_plus : x ≡ Plus a → y ≡ Plus b → (b ≡ 0 → ⊥)
-      → Divides (integer_of x) (integer_of y) (record { quotient = Plus (a / b); rest = Plus (a % b) })
-  unfolding integer_of quotient
-  plus_plus e f h = rw (e, f) (record { down = refl; left = sym (rest_plus_plus a b h) })
-
-  pub plus_minus : {q r : Integer} → x ≡ Plus a → y ≡ Minus b → integer_of q ≡ neg_ℤ (pos ((a + b) / (b + 1)))
-      → integer_of r ≡ neg_ℤ (pos (b - (a + b) % (b + 1)))
-      → Divides (integer_of x) (integer_of y) (record { quotient = q; rest = r })
-  unfolding integer_of quotient
-  plus_minus e f g h =
-      rw (e, f) (record { down = simp add-one at g; left = (simp add-one at h) ∙ sym (rest_plus_minus a b) })
-
-  pub minus_plus : {q : Integer} → x ≡ Minus a → y ≡ Plus b → (b ≡ 0 → ⊥) → integer_of q ≡ neg_ℤ (pos ((a + b) / b))
-      → Divides (integer_of x) (integer_of y) (record { quotient = q; rest = Plus (b - 1 - (a + b) % b) })
-  unfolding integer_of quotient
-  minus_plus e f h g = rw (e, f) (record { down = g ∙ rounded_up a b h; left = sym (rest_minus_plus a b h) })
-
-  pub minus_minus : {r : Integer} → x ≡ Minus a → y ≡ Minus b → integer_of r ≡ neg_ℤ (pos ((a + 1) % (b + 1)))
-      → Divides (integer_of x) (integer_of y) (record { quotient = Plus ((a + 1) / (b + 1)); rest = r })
-  unfolding integer_of quotient
-  minus_minus e f h =
-      rw (e, f) (record { down = simp add-one; left = (simp add-one at h) ∙ sym (rest_minus_minus a b) })
+  pub divides-below : {y q r : ℤ} → y <ℤ pos 0 → q ≡ int_div_euclid (neg_ℤ x) (neg_ℤ y) → r ≡ neg_ℤ (int_rem_euclid (neg_ℤ x) (neg_ℤ y))
+      → Divides x y (record { quotient = q; rest = r })
+  unfolding is_zero
+  divides-below {y = pos n} under d l = absurd (omega (arith, ints))
+  divides-below {y = negsuc n} under d l = record { nonzero = refl; down = d ∙ opposite_down x n; left = l ∙ opposite_left x n }

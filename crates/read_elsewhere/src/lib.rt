@@ -16,7 +16,7 @@ use fields::u16_at;
 use graph_fields::stored_count;
 use match_map::is_match;
 use match_readers::named_elsewhere;
-use reply::{NO_SUCH_VERTEX, NOT_A_MATCH, answer_with, refuse};
+use reply::{Reason, answer_with, refuse};
 use rule_fields::{is_rule_input, source_count};
 
 // Whether it is a source vertex that is no rule input.
@@ -41,10 +41,10 @@ fn answer(graph: &[u8], rule: &[u8], map: &[u8], vertex: usize) -> Reply
     let matches = is_match(graph, rule, map);
     let inner = is_inner(rule, vertex);
     if !matches {
-        return refuse(NOT_A_MATCH);
+        return refuse(Reason::NotAMatch);
     }
     if !inner {
-        return refuse(NO_SUCH_VERTEX);
+        return refuse(Reason::NoSuchVertex);
     }
     let image = u16_at(map, 2 * vertex);
     let count = stored_count(graph, image);
@@ -55,9 +55,6 @@ fn answer(graph: &[u8], rule: &[u8], map: &[u8], vertex: usize) -> Reply
 pub fn is_read_elsewhere(graph: &[u8], rule: &[u8], map: &[u8], vertex: usize) -> Reply
     ensures { result ≡ elsewhere_reply graph.now rule.now map.now vertex }
 {
-    match check_blocks(graph, rule, map) {
-        Reply::Refused(refusal) => return Reply::Refused(refusal),
-        Reply::Done(_) => {}
-    }
+    check_blocks(graph, rule, map)?;
     answer(graph, rule, map, vertex)
 }

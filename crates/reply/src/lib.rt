@@ -3,103 +3,109 @@
 
 ghost use Rattle.std.specs.Prelude.{◌≡◌, [], ◌∷◌, ◌<◌};
 ghost use Rattle.definitions.specs.Reply as answer;
+ghost use Rattle.reply.specs.Reasons.{reason_number};
 
 use definitions::{Place, Refusal, Reply};
 
-// The reply table's numbers.
-pub const BAD_MAP_LENGTH: u8 = 1;
+// Why an operation refuses: the rows of the reply table.
+#[derive(Clone, Copy, Debug, PartialEq, Eq)]
+pub enum Reason {
+    BadMapLength,
+    NoMatch,
+    NoResult,
+    NoRoom,
+    NewCycle,
+    // What is wrong with a graph block.
+    BadGraphHeader,
+    BadGraphRecord,
+    BadGraphName,
+    GraphHasCycle,
+    BadGraphCount,
+    // What is wrong with a rule block.
+    BadRuleHeader,
+    BadRuleRecord,
+    BadRuleOrder,
+    BadRuleOutputs,
+    BadRuleExpression,
+    // The list of moves is not 2N bytes.
+    BadMovesLength,
+    // The map is no match.
+    NotAMatch,
+    // The vertex is a rule input, or no source vertex.
+    NoSuchVertex,
+    // The text buffer is shorter than the listing.
+    ShortText,
+    // The text is no listing.
+    BadListing,
+    // The graph of the listing is not sound.
+    UnsoundListing,
+    // The graph buffer is not as long as the block of the listing's graph.
+    BadGraphLength,
+}
 
-// What is wrong with a graph block.
-pub const BAD_GRAPH_HEADER: u8 = 20;
+// The number of a reason in the reply table, which C is told.
+impl From<Reason> for u8 {
+    ghost from_gives = { λ reason number. number ≡ reason_number reason };
 
-pub const BAD_GRAPH_RECORD: u8 = 21;
+    fn from(reason: Reason) -> u8 {
+        match reason {
+            Reason::BadMapLength => 1,
+            Reason::NoMatch => 4,
+            Reason::NoResult => 5,
+            Reason::NoRoom => 6,
+            Reason::NewCycle => 7,
+            Reason::BadGraphHeader => 20,
+            Reason::BadGraphRecord => 21,
+            Reason::BadGraphName => 22,
+            Reason::GraphHasCycle => 23,
+            Reason::BadGraphCount => 24,
+            Reason::BadRuleHeader => 30,
+            Reason::BadRuleRecord => 31,
+            Reason::BadRuleOrder => 32,
+            Reason::BadRuleOutputs => 33,
+            Reason::BadRuleExpression => 34,
+            Reason::BadMovesLength => 40,
+            Reason::NotAMatch => 41,
+            Reason::NoSuchVertex => 42,
+            Reason::ShortText => 43,
+            Reason::BadListing => 44,
+            Reason::UnsoundListing => 45,
+            Reason::BadGraphLength => 46,
+        }
+    }
+}
 
-pub const BAD_GRAPH_NAME: u8 = 22;
-
-pub const GRAPH_HAS_CYCLE: u8 = 23;
-
-pub const BAD_GRAPH_COUNT: u8 = 24;
-
-// What is wrong with a rule block.
-pub const BAD_RULE_HEADER: u8 = 30;
-
-pub const BAD_RULE_RECORD: u8 = 31;
-
-pub const BAD_RULE_ORDER: u8 = 32;
-
-pub const BAD_RULE_OUTPUTS: u8 = 33;
-
-pub const BAD_RULE_EXPRESSION: u8 = 34;
-
-pub const NO_MATCH: u8 = 4;
-
-pub const NO_RESULT: u8 = 5;
-
-pub const NO_ROOM: u8 = 6;
-
-pub const NEW_CYCLE: u8 = 7;
-
-// The list of moves is not 2N bytes.
-pub const BAD_MOVES_LENGTH: u8 = 40;
-
-// The map is no match.
-pub const NOT_A_MATCH: u8 = 41;
-
-// The vertex is a rule input, or no source vertex.
-pub const NO_SUCH_VERTEX: u8 = 42;
-
-// The text buffer is shorter than the listing.
-pub const SHORT_TEXT: u8 = 43;
-
-// The text is no listing.
-pub const BAD_LISTING: u8 = 44;
-
-// The graph of the listing is not sound.
-pub const UNSOUND_LISTING: u8 = 45;
-
-// The graph buffer is not as long as the block of the listing's graph.
-pub const BAD_GRAPH_LENGTH: u8 = 46;
-
-// The refusal with this number and this place. No request names a value beside the place yet.
-pub fn refuse_at(number: u8, index: u32) -> Reply
-    ensures { result ≡ answer.refused_at number index }
+// The refusal for this reason, with this place. No request names a value beside the place yet.
+pub fn refuse_at(reason: Reason, index: u32) -> Reply
+    ensures { result ≡ answer.refused_at (reason_number reason) index }
 {
-    Reply::Refused(Refusal {
-        number,
+    Err(Refusal {
+        number: u8::from(reason),
         place: Place { index, value: 0 },
     })
 }
 
-// The refusal with this number, for which no request names a place.
-pub fn refuse(number: u8) -> Reply
-    ensures { result ≡ answer.refused number }
+// The refusal for this reason, for which no request names a place.
+pub fn refuse(reason: Reason) -> Reply
+    ensures { result ≡ answer.refused (reason_number reason) }
 {
-    refuse_at(number, 0)
+    refuse_at(reason, 0)
 }
 
 // Done, with the answer to a question: value 1 is yes, and 0 is no.
 pub fn answer_with(yes: bool) -> Reply
     ensures { result ≡ answer.answered yes }
 {
-    if !yes {
-        return Reply::Done(0);
-    }
-    Reply::Done(1)
+    Ok(u32::from(yes))
 }
 
 // The first of two replies that refuses, or done.
 pub fn first_refusal(one: Reply, other: Reply) -> Reply
     ensures { result ≡ answer.first_refusal (one ∷ other ∷ []) }
 {
-    match one {
-        Reply::Refused(refusal) => return Reply::Refused(refusal),
-        Reply::Done(_) => {}
-    }
-    match other {
-        Reply::Refused(refusal) => return Reply::Refused(refusal),
-        Reply::Done(_) => {}
-    }
-    Reply::Done(0)
+    one?;
+    other?;
+    Ok(0)
 }
 
 // In the number that the C side gets, where the place begins, at bit 8, and where the value does, at bit 40.
@@ -113,11 +119,11 @@ pub fn pack(reply: Reply) -> u64
     ensures { result ≡ answer.packed reply }
 {
     match reply {
-        Reply::Done(value) => VALUE_UNIT * (value as u64),
-        Reply::Refused(refusal) => {
-            let number = refusal.number as u64;
-            let index = refusal.place.index as u64;
-            let value = refusal.place.value as u64;
+        Ok(value) => VALUE_UNIT * u64::from(value),
+        Err(refusal) => {
+            let number = u64::from(refusal.number);
+            let index = u64::from(refusal.place.index);
+            let value = u64::from(refusal.place.value);
             number + PLACE_UNIT * index + VALUE_UNIT * value
         }
     }

@@ -1,13 +1,12 @@
 -- What a rewriting leaves at each of its ends, as the definition has them.
 -- Assumes nothing.
 use mathlib.Core.Path.{◌≡◌, sym, ◌∙◌}
-use mathlib.Core.Bool.{Bool, true}
 use mathlib.Core.List.{List}
 use mathlib.Core.Option.{none, some}
 use Prim.Native.Nat.{ℕ}
 use lib.ListN.{take}
 use Rattle.definitions.specs.declared.Refusal.{Refusal}
-use Rattle.definitions.specs.declared.Reply.TheVariants.{Done, Refused}
+use Rattle.std.specs.Prelude.{Ok, Err}
 use Rattle.definitions.specs.Reply.{no_match, refused, done}
 use Rattle.definitions.specs.Graph.{Graph, graph_of, graph_block, SoundGraph}
 use Rattle.definitions.specs.Rule.{side_capacity, source_count, rule_of}
@@ -17,16 +16,16 @@ use Rattle.rule_fields.specs.Fixed.{fixed_of}
 use Rattle.rule_nodes.specs.Working.{WorkingRule}
 use Rattle.rule_sound.proofs.Fixed.{fixing_of}
 use Rattle.theory.proofs.Least.{least_match_lem}
-use Rattle.match_outputs.specs.Finds.{Finds}
+use Rattle.match_outputs.specs.Finds.{LeastImages}
 use Rattle.new_plan.specs.Planned.{Matched}
 
 module _ (graph rule : List ℕ) (start : ℕ) (images : List ℕ) where
-  pub blocks_refused : (refusal : Refusal) → blocks_reply graph rule images ≡ Refused refusal
-      → outcome (Refused refusal) graph images ≡ rewrite graph rule start images
+  pub blocks_refused : (refusal : Refusal) → blocks_reply graph rule images ≡ Err refusal
+      → outcome (Err refusal) graph images ≡ rewrite graph rule start images
   unfolding rewrite
   blocks_refused refusal h = rw (h, rewrite)
 
-  module _ {value : ℕ} (h : blocks_reply graph rule images ≡ Done value) where
+  module _ {value : ℕ} (h : blocks_reply graph rule images ≡ Ok value) where
     pub nothing_found : least_match (graph_of graph) (rule_of rule) start ≡ none
         → outcome (refused no_match) graph images ≡ rewrite graph rule start images
     unfolding rewrite
@@ -38,7 +37,7 @@ module _ (graph rule : List ℕ) (start : ℕ) (images : List ℕ) where
       at_match = rw (h, k, rewrite)
 
       pub turned_down_lem : (why : Refusal) → rewritten (graph_of graph) (rule_of rule) found ≡ turned_down why
-          → outcome (Refused why) graph images ≡ rewrite graph rule start images
+          → outcome (Err why) graph images ≡ rewrite graph rule start images
       unfolding replaced
       turned_down_lem why e = sym (rw (e, replaced)) ∙ at_match
 
@@ -48,13 +47,13 @@ module _ (graph rule : List ℕ) (start : ℕ) (images : List ℕ) where
       table_left new e = sym (rw (e, replaced)) ∙ at_match
 
 -- what a search found is the map of a match
-pub matched : (graph rule : List ℕ) (start : ℕ) (ok : Bool) (images : List ℕ) → SoundGraph graph → WorkingRule rule
-    → Finds (least_match (graph_of graph) (fixed_of rule) start) (source_count rule) ok images → ok ≡ true → Matched graph rule images
-matched graph rule start ok images sound_graph working finds success = record {
+pub matched : (graph rule : List ℕ) (start : ℕ) (images : List ℕ) → SoundGraph graph → WorkingRule rule
+    → LeastImages (least_match (graph_of graph) (fixed_of rule) start) (source_count rule) images → Matched graph rule images
+matched graph rule start images sound_graph working least = record {
   sound_graph = sound_graph;
   working = working;
-  size = finds.size success;
+  size = least.size;
   is_match = (least_match_lem (graph_of graph) (fixed_of rule) (fixing_of side_capacity (fixed_of rule) working.sound) start
-      (take (source_count rule) images) (finds.found success)).is_match;
-  rest = finds.rest success;
+      (take (source_count rule) images) least.found).is_match;
+  rest = least.rest;
 }

@@ -15,7 +15,7 @@ use commit::commit;
 use definitions::{MAP_PLACES, Reply, SIDE_CAPACITY};
 use graph_slots::blank_table;
 use new_plan::plan;
-use reply::{NO_MATCH, refuse};
+use reply::{Reason, refuse};
 use search::least_match;
 
 // Rewrites the graph at this match, or says how that is refused, and then leaves the graph as it is.
@@ -26,12 +26,9 @@ fn replace(graph: &mut [u8], rule: &[u8], images: &[u16; SIDE_CAPACITY]) -> Repl
 {
     let mut table = blank_table();
     let size = graph.len();
-    match plan(graph, rule, images, &mut table[0..size]) {
-        Reply::Refused(why) => return Reply::Refused(why),
-        Reply::Done(_) => {}
-    }
+    plan(graph, rule, images, &mut table[0..size])?;
     commit(graph, &table[0..size]);
-    Reply::Done(0)
+    Ok(0)
 }
 
 // Rewrites at the least match from `start`; no other is tried.
@@ -39,19 +36,11 @@ pub fn rewrite(graph: &mut [u8], rule: &[u8], start: usize, map: &mut [u8]) -> R
     ensures { operation.outcome result graph.new map.new
         ≡ operation.rewrite graph.old rule.now start map.old }
 {
-    match check_blocks(graph, rule, map) {
-        Reply::Refused(refusal) => return Reply::Refused(refusal),
-        Reply::Done(_) => {}
-    }
-    let found = least_match(graph, rule, start);
-    if !found.ok {
-        return refuse(NO_MATCH);
-    }
-    let images = found.images;
-    match replace(graph, rule, &images) {
-        Reply::Refused(refusal) => return Reply::Refused(refusal),
-        Reply::Done(_) => {}
-    }
+    check_blocks(graph, rule, map)?;
+    let Some(images) = least_match(graph, rule, start) else {
+        return refuse(Reason::NoMatch);
+    };
+    replace(graph, rule, &images)?;
     write_map(map, &images[0..MAP_PLACES]);
-    Reply::Done(0)
+    Ok(0)
 }

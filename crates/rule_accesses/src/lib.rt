@@ -9,7 +9,7 @@ ghost use Rattle.rule_fields.specs.Layout.{LentRule, ReadableRule};
 ghost use Rattle.rule_accesses.specs.Access.{top_from, TopsKnown, NodesFaultless};
 
 use definitions::{FORM_ACCESS, FORM_ANY, NODE_LIMIT, PATTERN_BYTES, RULE_HEADER_BYTES};
-use fields::{byte_at, greater};
+use fields::byte_at;
 use rule_fields::{node_count, source_count, target_count};
 use rule_nodes::{node_byte, node_form};
 
@@ -25,14 +25,14 @@ pub fn node_top(rule: &[u8], k: usize, tops: &[usize; NODE_LIMIT]) -> usize
     let left = node_byte(rule, k, 1);
     let right = node_byte(rule, k, 2);
     if form < FORM_ACCESS {
-        return 0;
+        0
+    } else if form == FORM_ACCESS {
+        left + 1
+    } else {
+        let first = tops[left];
+        let second = tops[right];
+        first.max(second)
     }
-    if form == FORM_ACCESS {
-        return left + 1;
-    }
-    let first = tops[left];
-    let second = tops[right];
-    greater(first, second)
 }
 
 // The top of every node. Each is found once, from those of its operands: to follow the operands from each use anew could take a
@@ -42,33 +42,26 @@ fn access_tops(rule: &[u8]) -> [usize; NODE_LIMIT]
     requires nodes_faultless { NodesFaultless rule.now }
     ensures { TopsKnown rule.now result }
 {
-    let nodes = node_count(rule);
     let mut tops = [0usize; NODE_LIMIT];
-    let mut k = 0;
-    while k < nodes {
-        let top = node_top(rule, k, &tops);
-        tops[k] = top;
-        k += 1;
+    for k in 0..node_count(rule) {
+        tops[k] = node_top(rule, k, &tops);
     }
     tops
 }
 
 // Whether vertex v may use node k as an attribute.
+#[tactic(auto, unfolding(definitions::specs::Rule::use_fits))]
 pub fn use_fits(rule: &[u8], tops: &[usize; NODE_LIMIT], v: usize, k: usize) -> bool
     requires lent_rule { LentRule rule.now }
     requires tops_known { TopsKnown rule.now tops.now }
     ensures { result ≡ use_fits rule.now v k }
 {
-    if node_count(rule) <= k {
-        return false;
-    }
-    if v < source_count(rule) {
-        return tops[k] <= v;
-    }
-    if node_form(rule, k) == FORM_ANY {
-        return false;
-    }
-    true
+    k < node_count(rule)
+        && if v < source_count(rule) {
+            tops[k] <= v
+        } else {
+            node_form(rule, k) != FORM_ANY
+        }
 }
 
 // Whether vertex v may use each node that is an attribute of it.
@@ -81,15 +74,7 @@ fn vertex_uses_fit(rule: &[u8], tops: &[usize; NODE_LIMIT], v: usize) -> bool
 {
     let at = RULE_HEADER_BYTES + PATTERN_BYTES * v;
     let count = byte_at(rule, at + 3);
-    let mut i = 0;
-    while i < count {
-        let k = byte_at(rule, at + 10 + i);
-        if !use_fits(rule, tops, v, k) {
-            return false;
-        }
-        i += 1;
-    }
-    true
+    (0..count).all(|i| use_fits(rule, tops, v, byte_at(rule, at + 10 + i)))
 }
 
 // The lowest vertex that uses a node wrongly, or the number of vertices.
@@ -101,12 +86,7 @@ pub fn bad_use(rule: &[u8]) -> usize
 {
     let vertices = source_count(rule) + target_count(rule);
     let tops = access_tops(rule);
-    let mut v = 0;
-    while v < vertices {
-        if !vertex_uses_fit(rule, &tops, v) {
-            return v;
-        }
-        v += 1;
-    }
-    vertices
+    (0..vertices)
+        .find(|&v| !vertex_uses_fit(rule, &tops, v))
+        .unwrap_or(vertices)
 }

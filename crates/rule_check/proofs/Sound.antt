@@ -10,11 +10,10 @@ use native.Mathlib.Omega.{arith}
 use borrow.Author.Tests.{lt-ltb, le-ltb, ltb-true, ltb-false, not-true}
 use lib.Dec.{ltb}
 use lib.ListN.{length, get_or}
-use Rattle.definitions.specs.declared.Reply.{Reply}
 use Rattle.definitions.specs.Lists.{lowest, all, all_below, range}
 use Rattle.definitions.specs.Fields.{byte_at}
 use Rattle.definitions.specs.Paths.{Reads}
-use Rattle.definitions.specs.Reply.{bad_rule_record, bad_rule_order, bad_rule_expression, done, refused_at}
+use Rattle.definitions.specs.Reply.{Reply, bad_rule_record, bad_rule_order, bad_rule_expression, done, refused_at}
 use Rattle.definitions.specs.Rule.{side_limit, source_count, target_count, node_count, vertex_at, Rule, rule_of, source_inputs, rule_header_fits, origin_fits, source_inputs_fit, target_inputs_fit, bad_vertex, traversal, out_of_order, reaches, source_outputs_fit, connected, all_named, outputs_fit, node_fits, bad_node, use_fits, bad_use, rule_reply, GoodOutputs, SoundRule, bad_vertex_of}
 use Rattle.definitions.specs.Faults.{None, BadVertex, Misplaced, BadNode, BadUse, RuleFault, header, vertex, order, outputs, node, attribute}
 use Rattle.laws.proofs.Lists.{decided, passes, fails, true_not_false, needed, all-member, all_members, all_below_at, all_below_some, any_below-found, any_below_some, get_or_any}

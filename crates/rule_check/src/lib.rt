@@ -6,10 +6,7 @@ ghost use Rattle.std.specs.Prelude.{◌≡◌};
 ghost use Rattle.definitions.specs.Rule.{rule_reply};
 
 use definitions::{Reply, SIDE_LIMIT};
-use reply::{
-    BAD_RULE_EXPRESSION, BAD_RULE_HEADER, BAD_RULE_ORDER, BAD_RULE_OUTPUTS, BAD_RULE_RECORD,
-    refuse, refuse_at,
-};
+use reply::{Reason, refuse, refuse_at};
 use rule_accesses::bad_use;
 use rule_expressions::bad_node;
 use rule_fields::{node_count, source_count, target_count};
@@ -23,28 +20,28 @@ pub fn check(rule: &[u8]) -> Reply
     ensures { result ≡ rule_reply rule.now }
 {
     if !header_fits(rule, SIDE_LIMIT) {
-        return refuse(BAD_RULE_HEADER);
+        return refuse(Reason::BadRuleHeader);
     }
     let sources = source_count(rule);
     let vertices = sources + target_count(rule);
     let unfit = bad_vertex(rule);
     if unfit < vertices {
-        return refuse_at(BAD_RULE_RECORD, unfit as u32);
+        return refuse_at(Reason::BadRuleRecord, unfit as u32);
     }
     let misplaced = first_misplaced(rule);
     if misplaced < sources {
-        return refuse_at(BAD_RULE_ORDER, misplaced as u32);
+        return refuse_at(Reason::BadRuleOrder, misplaced as u32);
     }
     if !outputs_fit(rule) {
-        return refuse(BAD_RULE_OUTPUTS);
+        return refuse(Reason::BadRuleOutputs);
     }
     let node = bad_node(rule);
     if node < node_count(rule) {
-        return refuse_at(BAD_RULE_EXPRESSION, node as u32);
+        return refuse_at(Reason::BadRuleExpression, node as u32);
     }
     let user = bad_use(rule);
     if user < vertices {
-        return refuse_at(BAD_RULE_EXPRESSION, user as u32);
+        return refuse_at(Reason::BadRuleExpression, user as u32);
     }
-    Reply::Done(0)
+    Ok(0)
 }

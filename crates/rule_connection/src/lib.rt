@@ -17,16 +17,7 @@ fn has_marked_input(rule: &[u8], w: usize, found: &[bool; SIDE_CAPACITY]) -> boo
     requires w_bound { w < source_count rule.now }
     ensures { result ≡ input_marked (fixed_of rule.now) found.now w }
 {
-    let count = source_input_count(rule, w);
-    let mut i = 0;
-    while i < count {
-        let u = source_input(rule, w, i);
-        if found[u] {
-            return true;
-        }
-        i += 1;
-    }
-    false
+    (0..source_input_count(rule, w)).any(|i| found[source_input(rule, w, i)])
 }
 
 // Whether v reaches source vertex w, where found says it of the lower vertices: inputs are lower.
@@ -35,24 +26,17 @@ fn reaches_next(rule: &[u8], v: usize, w: usize, found: &[bool; SIDE_CAPACITY]) 
     requires w_bound { w < source_count rule.now }
     ensures { result ≡ reached_next (fixed_of rule.now) v found.now w }
 {
-    if v == w {
-        return true;
-    }
-    has_marked_input(rule, w, found)
+    v == w || has_marked_input(rule, w, found)
 }
 
 // At w, whether source vertex v reaches w.
 fn reached_from(rule: &[u8], v: usize) -> [bool; SIDE_CAPACITY]
     requires { LayeredRule rule.now }
-    ensures { (w : ℕ) → w < source_count rule.now → get_or result w false ≡ reaches (fixed_of rule.now) v w }
+    ensures { (w : ℕ) → get_or result w false ≡ reaches (fixed_of rule.now) v w }
 {
-    let count = source_count(rule);
     let mut found = [false; SIDE_CAPACITY];
-    let mut w = 0;
-    while w < count {
-        let next = reaches_next(rule, v, w, &found);
-        found[w] = next;
-        w += 1;
+    for w in 0..source_count(rule) {
+        found[w] = reaches_next(rule, v, w, &found);
     }
     found
 }
@@ -62,18 +46,8 @@ fn reaches_outputs(rule: &[u8], v: usize) -> bool
     requires { LayeredRule rule.now }
     ensures { result ≡ all (reaches (fixed_of rule.now) v) (fixed_of rule.now).source_outputs }
 {
-    let count = output_count(rule);
     let found = reached_from(rule, v);
-    let mut i = 0;
-    while i < count {
-        let o = source_output(rule, i);
-        if found[o] {
-            i += 1;
-        } else {
-            return false;
-        }
-    }
-    true
+    (0..output_count(rule)).all(|i| found[source_output(rule, i)])
 }
 
 // Whether some source vertex reaches every source output; with one output, that output itself does.
@@ -81,13 +55,5 @@ pub fn is_connected(rule: &[u8]) -> bool
     requires { LayeredRule rule.now }
     ensures { result ≡ connected (fixed_of rule.now) }
 {
-    let count = source_count(rule);
-    let mut v = 0;
-    while v < count {
-        if reaches_outputs(rule, v) {
-            return true;
-        }
-        v += 1;
-    }
-    false
+    (0..source_count(rule)).any(|v| reaches_outputs(rule, v))
 }

@@ -29,13 +29,7 @@ pub fn number_unused(rule: &[u8], k: usize) -> bool
 fn operands_unused(left: usize, right: usize) -> bool
     ensures { result ≡ (eqb left 0 && eqb right 0) }
 {
-    if left != 0 {
-        return false;
-    }
-    if right != 0 {
-        return false;
-    }
-    true
+    left == 0 && right == 0
 }
 
 // Whether an access names a source vertex, and an attribute place, counted from 1.
@@ -43,31 +37,17 @@ fn access_fits(rule: &[u8], vertex: usize, attribute: usize) -> bool
     requires { rule_header_bytes ≤ length rule.now }
     ensures { result ≡ (ltb vertex (source_count rule.now) && within 1 attribute attribute_limit) }
 {
-    if source_count(rule) <= vertex {
-        return false;
-    }
-    if attribute < 1 {
-        return false;
-    }
-    if ATTRIBUTE_LIMIT < attribute {
-        return false;
-    }
-    true
+    vertex < source_count(rule) && (1..=ATTRIBUTE_LIMIT).contains(&attribute)
 }
 
 // Whether node k may name node j as an operand: an earlier one that is not any.
+#[tactic(auto, unfolding(definitions::specs::Rule::operand_fits))]
 pub fn operand_fits(rule: &[u8], k: usize, j: usize) -> bool
     requires lent_rule { LentRule rule.now }
     requires k_bound { k < node_count rule.now }
     ensures { result ≡ operand_fits rule.now k j }
 {
-    if k <= j {
-        return false;
-    }
-    if node_form(rule, j) == FORM_ANY {
-        return false;
-    }
-    true
+    j < k && node_form(rule, j) != FORM_ANY
 }
 
 // Whether node k, whose form is none of 0 to 2, is an operation with two operands that it may name.
@@ -76,16 +56,11 @@ fn operation_fits(rule: &[u8], k: usize, form: usize, left: usize, right: usize)
     requires k_bound { k < node_count rule.now }
     ensures { result ≡ (leb form form_remainder && operand_fits rule.now k left && operand_fits rule.now k right) }
 {
-    if FORM_REMAINDER < form {
-        return false;
-    }
-    if !operand_fits(rule, k, left) {
-        return false;
-    }
-    operand_fits(rule, k, right)
+    form <= FORM_REMAINDER && operand_fits(rule, k, left) && operand_fits(rule, k, right)
 }
 
 // Whether node k has a form, its used fields in range, and its unused fields zero.
+#[tactic(auto, unfolding(definitions::specs::Rule::node_fits))]
 pub fn node_fits(rule: &[u8], k: usize) -> bool
     requires lent_rule { LentRule rule.now }
     requires k_bound { k < node_count rule.now }
@@ -94,23 +69,18 @@ pub fn node_fits(rule: &[u8], k: usize) -> bool
     let form = node_form(rule, k);
     let left = node_byte(rule, k, 1);
     let right = node_byte(rule, k, 2);
-    if node_byte(rule, k, 3) != 0 {
-        return false;
-    }
-    if form == FORM_CONSTANT {
-        return operands_unused(left, right);
-    }
-    // Only a constant has a number.
-    if !number_unused(rule, k) {
-        return false;
-    }
-    if form == FORM_ANY {
-        return operands_unused(left, right);
-    }
-    if form == FORM_ACCESS {
-        return access_fits(rule, left, right);
-    }
-    operation_fits(rule, k, form, left, right)
+    node_byte(rule, k, 3) == 0
+        && if form == FORM_CONSTANT {
+            operands_unused(left, right)
+        } else {
+            // Only a constant has a number.
+            number_unused(rule, k)
+                && match form {
+                    FORM_ANY => operands_unused(left, right),
+                    FORM_ACCESS => access_fits(rule, left, right),
+                    _ => operation_fits(rule, k, form, left, right),
+                }
+        }
 }
 
 // The lowest node with a fault, or the number of nodes.
@@ -119,12 +89,5 @@ pub fn bad_node(rule: &[u8]) -> usize
     ensures { result ≡ lowest (bad_node rule.now) (node_count rule.now) }
 {
     let nodes = node_count(rule);
-    let mut k = 0;
-    while k < nodes {
-        if !node_fits(rule, k) {
-            return k;
-        }
-        k += 1;
-    }
-    nodes
+    (0..nodes).find(|&k| !node_fits(rule, k)).unwrap_or(nodes)
 }

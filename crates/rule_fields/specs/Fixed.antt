@@ -5,7 +5,7 @@
 use Rattle.std.specs.Prelude.{Bool, cond, List, ℕ, ◌+◌, ◌*◌, eqb, get_or}
 use Rattle.definitions.specs.Lists.{build}
 use Rattle.definitions.specs.Fields.{byte_at, u16_at}
-use Rattle.definitions.specs.Rule.{target_base, node_limit, source_count, target_count, node_count, vertex_at, node_at, Expression, anything, Origin, Rule, origin_by, node_left, node_right, node_by, attribute_in, rule_by}
+use Rattle.definitions.specs.Rule.{target_base, node_limit, node_count, vertex_at, node_at, Expression, anything, Origin, Rule, origin_by, node_left, node_right, node_by, attribute_in, rule_by}
 use Rattle.definitions.specs.VariadicBlock.{field_limit, expanded_limit}
 
 -- what byte 4 of the made layout holds

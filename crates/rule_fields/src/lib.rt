@@ -66,9 +66,10 @@ pub fn target_split(rule: &[u8]) -> usize
     ensures { (result ≡ split_in rule.now) × (result ≤ side_capacity) }
 {
     if is_expanded(rule) {
-        return SIDE_CAPACITY;
+        SIDE_CAPACITY
+    } else {
+        TARGET_BASE
     }
-    TARGET_BASE
 }
 
 // How many nodes there are, in either layout.
@@ -78,9 +79,10 @@ pub fn fixed_node_count(rule: &[u8]) -> usize
 {
     let low = node_count(rule);
     if is_expanded(rule) {
-        return low + 256 * byte_at(rule, 14);
+        low + 256 * byte_at(rule, 14)
+    } else {
+        low
     }
-    low
 }
 
 // The node of attribute i of vertex v, here counted from 0.
@@ -94,50 +96,29 @@ fn attribute_node(rule: &[u8], v: usize, i: usize) -> usize
         let vertices = source_count(rule) + target_count(rule);
         let nodes = fixed_node_count(rule);
         let table = RULE_HEADER_BYTES + PATTERN_BYTES * vertices + NODE_BYTES * nodes;
-        return u16_at(rule, table + ATTRIBUTE_PLACE_BYTES * v + 2 * i);
+        u16_at(rule, table + ATTRIBUTE_PLACE_BYTES * v + 2 * i)
+    } else {
+        byte_at(rule, RULE_HEADER_BYTES + PATTERN_BYTES * v + 10 + i)
     }
-    byte_at(rule, RULE_HEADER_BYTES + PATTERN_BYTES * v + 10 + i)
 }
 
-// Where the record of source vertex j starts.
-fn source_at(rule: &[u8], j: usize) -> usize
-    requires whole_rule { WholeRule rule.now }
-    requires j_bound { j < source_count rule.now }
-    ensures { (result ≡ vertex_at j) × (result + pattern_bytes ≤ length rule.now) }
-{
-    RULE_HEADER_BYTES + PATTERN_BYTES * j
-}
-
-// Where the record of target vertex t starts: target records come after all source records.
-fn target_at(rule: &[u8], t: usize) -> usize
+// Which vertex target vertex t is: target records come after all source records.
+fn target_vertex(rule: &[u8], t: usize) -> usize
     requires whole_rule { WholeRule rule.now }
     requires t_bound { t < target_count rule.now }
-    ensures { (result ≡ vertex_at (source_count rule.now + t)) × (result + pattern_bytes ≤ length rule.now) }
+    ensures { result ≡ source_count rule.now + t }
 {
-    let v = source_count(rule) + t;
-    RULE_HEADER_BYTES + PATTERN_BYTES * v
+    source_count(rule) + t
 }
 
-// Byte i of the record of source vertex j: kind, operator, the two counts, then the places of inputs and of attributes.
-fn source_byte(rule: &[u8], j: usize, i: usize) -> usize
+// Byte i of the record of vertex v, a source or a target one: kind, operator, the two counts, then the places of inputs and of attributes.
+fn vertex_byte(rule: &[u8], v: usize, i: usize) -> usize
     requires whole_rule { WholeRule rule.now }
-    requires j_bound { j < source_count rule.now }
+    requires v_bound { v < source_count rule.now + target_count rule.now }
     requires i_lt_pattern_bytes { i < pattern_bytes }
-    ensures { (result ≡ byte_at rule.now (vertex_at j + i)) × (result < 256) }
+    ensures { (result ≡ byte_at rule.now (vertex_at v + i)) × (result < 256) }
 {
-    let at = source_at(rule, j);
-    byte_at(rule, at + i)
-}
-
-// Byte i of the record of target vertex t, in the same order.
-fn target_byte(rule: &[u8], t: usize, i: usize) -> usize
-    requires whole_rule { WholeRule rule.now }
-    requires t_bound { t < target_count rule.now }
-    requires i_lt_pattern_bytes { i < pattern_bytes }
-    ensures { (result ≡ byte_at rule.now (vertex_at (source_count rule.now + t) + i)) × (result < 256) }
-{
-    let at = target_at(rule, t);
-    byte_at(rule, at + i)
+    byte_at(rule, RULE_HEADER_BYTES + PATTERN_BYTES * v + i)
 }
 
 // The kind of source vertex j.
@@ -146,7 +127,7 @@ pub fn source_kind(rule: &[u8], j: usize) -> usize
     requires j_bound { j < source_count rule.now }
     ensures { (result ≡ (source_of (fixed_of rule.now) j).kind) × (result < 256) }
 {
-    source_byte(rule, j, 0)
+    vertex_byte(rule, j, 0)
 }
 
 // The operator of source vertex j.
@@ -155,7 +136,7 @@ pub fn source_operator(rule: &[u8], j: usize) -> usize
     requires j_bound { j < source_count rule.now }
     ensures { (result ≡ (source_of (fixed_of rule.now) j).operator) × (result < 256) }
 {
-    source_byte(rule, j, 1)
+    vertex_byte(rule, j, 1)
 }
 
 // How many inputs source vertex j has.
@@ -164,7 +145,7 @@ pub fn source_input_count(rule: &[u8], j: usize) -> usize
     requires j_bound { j < source_count rule.now }
     ensures { (result ≡ length (source_inputs (fixed_of rule.now) j)) × (result ≤ input_limit) }
 {
-    source_byte(rule, j, 2)
+    vertex_byte(rule, j, 2)
 }
 
 // What input place i of source vertex j names.
@@ -174,7 +155,7 @@ pub fn source_input(rule: &[u8], j: usize, i: usize) -> usize
     requires i_in_bounds { i < length (source_inputs (fixed_of rule.now) j) }
     ensures { (result ≡ get_or (source_inputs (fixed_of rule.now) j) i 255) × (result < 256) }
 {
-    source_byte(rule, j, 4 + i)
+    vertex_byte(rule, j, 4 + i)
 }
 
 // How many attributes source vertex j has.
@@ -183,7 +164,7 @@ pub fn source_attribute_count(rule: &[u8], j: usize) -> usize
     requires j_bound { j < source_count rule.now }
     ensures { (result ≡ length (source_of (fixed_of rule.now) j).attributes) × (result ≤ attribute_limit) }
 {
-    source_byte(rule, j, 3)
+    vertex_byte(rule, j, 3)
 }
 
 // The node of attribute i of source vertex j, here counted from 0.
@@ -203,7 +184,7 @@ pub fn target_kind(rule: &[u8], t: usize) -> usize
     requires t_bound { t < target_count rule.now }
     ensures { (result ≡ (target_of (fixed_of rule.now) t).kind) × (result < 256) }
 {
-    target_byte(rule, t, 0)
+    vertex_byte(rule, target_vertex(rule, t), 0)
 }
 
 // The operator of target vertex t.
@@ -212,7 +193,7 @@ pub fn target_operator(rule: &[u8], t: usize) -> usize
     requires t_bound { t < target_count rule.now }
     ensures { (result ≡ (target_of (fixed_of rule.now) t).operator) × (result < 256) }
 {
-    target_byte(rule, t, 1)
+    vertex_byte(rule, target_vertex(rule, t), 1)
 }
 
 // How many inputs target vertex t has.
@@ -221,7 +202,7 @@ pub fn target_input_count(rule: &[u8], t: usize) -> usize
     requires t_bound { t < target_count rule.now }
     ensures { (result ≡ length (target_of (fixed_of rule.now) t).inputs) × (result ≤ input_limit) }
 {
-    target_byte(rule, t, 2)
+    vertex_byte(rule, target_vertex(rule, t), 2)
 }
 
 // The place number in input place i of target vertex t.
@@ -231,7 +212,7 @@ pub fn target_input(rule: &[u8], t: usize, i: usize) -> usize
     requires i_in_bounds { i < length (target_of (fixed_of rule.now) t).inputs }
     ensures { (origin_in rule.now result ≡ get_or (target_of (fixed_of rule.now) t).inputs i (made 255)) × (result < 256) }
 {
-    target_byte(rule, t, 4 + i)
+    vertex_byte(rule, target_vertex(rule, t), 4 + i)
 }
 
 // How many attributes target vertex t has.
@@ -240,7 +221,7 @@ pub fn target_attribute_count(rule: &[u8], t: usize) -> usize
     requires t_bound { t < target_count rule.now }
     ensures { (result ≡ length (target_of (fixed_of rule.now) t).attributes) × (result ≤ attribute_limit) }
 {
-    target_byte(rule, t, 3)
+    vertex_byte(rule, target_vertex(rule, t), 3)
 }
 
 // The node of attribute i of target vertex t, here counted from 0.
@@ -251,8 +232,7 @@ pub fn target_attribute(rule: &[u8], t: usize, i: usize) -> usize
     ensures result_value { expression_in rule.now result ≡ get_or (target_of (fixed_of rule.now) t).attributes i anything }
     ensures value { result ≡ attribute_node rule.now (source_count rule.now + t) i }
 {
-    let vertex = source_count(rule) + t;
-    attribute_node(rule, vertex, i)
+    attribute_node(rule, target_vertex(rule, t), i)
 }
 
 // The source vertex that source output i is.
@@ -278,17 +258,7 @@ pub fn is_rule_input(rule: &[u8], j: usize) -> bool
     requires { WholeRule rule.now }
     ensures { result ≡ is_rule_input (fixed_of rule.now) j }
 {
-    if source_count(rule) <= j {
-        return false;
-    }
-    let kind = source_kind(rule, j);
-    if kind == KIND_EMPTY {
-        return true;
-    }
-    if kind == KIND_VARIABLE {
-        return true;
-    }
-    false
+    j < source_count(rule) && matches!(source_kind(rule, j), KIND_EMPTY | KIND_VARIABLE)
 }
 
 // Whether source vertex j is a Const.

@@ -13,31 +13,19 @@ use rule_fields::{node_count, output_count, source_count, target_count};
 use runs::is_filled;
 
 // Whether the header's four counts are in range, with at most `limit` vertices a side.
+#[tactic(auto, unfolding(definitions::specs::Rule::rule_sizes_fit))]
 pub fn sizes_fit(rule: &[u8], limit: usize) -> bool
     requires { rule_header_bytes ≤ length rule.now }
     ensures { result ≡ rule_sizes_fit limit rule.now }
 {
     let source = source_count(rule);
     let outputs = output_count(rule);
-    if source < 1 {
-        return false;
-    }
-    if limit < source {
-        return false;
-    }
-    if limit < target_count(rule) {
-        return false;
-    }
-    if outputs < 1 {
-        return false;
-    }
-    if RULE_OUTPUT_LIMIT < outputs {
-        return false;
-    }
-    if NODE_LIMIT < node_count(rule) {
-        return false;
-    }
-    true
+    1 <= source
+        && source <= limit
+        && target_count(rule) <= limit
+        && 1 <= outputs
+        && outputs <= RULE_OUTPUT_LIMIT
+        && node_count(rule) <= NODE_LIMIT
 }
 
 // Whether the source outputs name source vertices, and the unused output places hold 255.
@@ -48,17 +36,9 @@ pub fn output_places_fit(rule: &[u8]) -> bool
 {
     let source = source_count(rule);
     let outputs = output_count(rule);
-    let mut i = 0;
-    while i < outputs {
-        if source <= byte_at(rule, 10 + i) {
-            return false;
-        }
-        i += 1;
-    }
-    if !is_filled(rule, 10 + outputs, 12, 255) {
-        return false;
-    }
-    is_filled(rule, 12 + outputs, 14, 255)
+    (0..outputs).all(|i| byte_at(rule, 10 + i) < source)
+        && is_filled(rule, 10 + outputs, 12, 255)
+        && is_filled(rule, 12 + outputs, 14, 255)
 }
 
 // Whether the length is the one that the header's counts give.
@@ -72,26 +52,15 @@ pub fn length_fits(rule: &[u8]) -> bool
 }
 
 // Whether the length and the header are right, with at most `limit` vertices a side.
+#[tactic(auto, unfolding(definitions::specs::Rule::rule_header_fits, definitions::specs::Rule::rule_sizes_fit))]
 pub fn header_fits(rule: &[u8], limit: usize) -> bool
     ensures { result ≡ rule_header_fits limit rule.now }
 {
-    if rule.len() < RULE_HEADER_BYTES {
-        return false;
-    }
-    if !length_fits(rule) {
-        return false;
-    }
-    if !has_mark(rule, RULE_LETTER) {
-        return false;
-    }
-    if u16_at(rule, 4) != RULE_VERSION {
-        return false;
-    }
-    if !sizes_fit(rule, limit) {
-        return false;
-    }
-    if !output_places_fit(rule) {
-        return false;
-    }
-    is_filled(rule, 14, RULE_HEADER_BYTES, 0)
+    RULE_HEADER_BYTES <= rule.len()
+        && length_fits(rule)
+        && has_mark(rule, RULE_LETTER)
+        && u16_at(rule, 4) == RULE_VERSION
+        && sizes_fit(rule, limit)
+        && output_places_fit(rule)
+        && is_filled(rule, 14, RULE_HEADER_BYTES, 0)
 }

@@ -56,9 +56,6 @@ pub record Marking (base : ℕ) (xs : List Origin) (i : ℕ) (before used : List
   pub long : length used ≡ place_numbers
   pub marks : (p : ℕ) → (get_or used p false || holds base p (drop i xs)) ≡ (get_or before p false || holds base p xs)
 
-pub marking_begins : (base : ℕ) (xs : List Origin) (used : List Bool) → length used ≡ place_numbers → Marking base xs 0 used used
-marking_begins base xs used l = record { long = l; marks = λ p. refl }
-
 module _ (base : ℕ) (xs : List Origin) (i : ℕ) {before used : List Bool} (so_far : Marking base xs i before used) where
   pub marking_more : (x : ℕ) (d : Origin) → x < place_numbers → i < length xs → origin_by base x ≡ get_or xs i d
       → Marking base xs (i + 1) before (set used x true)

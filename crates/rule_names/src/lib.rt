@@ -22,27 +22,21 @@ fn mark_inputs(rule: &[u8], t: usize, used: &mut [bool; PLACE_NUMBERS])
     requires used_len { length used.old ≡ place_numbers }
     ensures { MarksAdded (split_in rule.now) (target_of (fixed_of rule.now) t).inputs used.old used.new }
 {
-    let count = target_input_count(rule, t);
-    let mut i = 0;
-    while i < count {
-        let place = target_input(rule, t, i);
-        used[place] = true;
-        i += 1;
+    for i in 0..target_input_count(rule, t) {
+        used[target_input(rule, t, i)] = true;
     }
 }
 
 // Marks each place number that a target output holds.
+// A loop for both lists would take the reading of a place as a closure with clauses of its own, and be no plainer.
 fn mark_outputs(rule: &[u8], used: &mut [bool; PLACE_NUMBERS])
     requires whole_rule { WholeRule rule.now }
     requires used_len { length used.old ≡ place_numbers }
     ensures { MarksAdded (split_in rule.now) (fixed_of rule.now).target_outputs used.old used.new }
 {
     let outputs = output_count(rule);
-    let mut i = 0;
-    while i < outputs {
-        let place = target_output(rule, i);
-        used[place] = true;
-        i += 1;
+    for i in 0..outputs {
+        used[target_output(rule, i)] = true;
     }
 }
 
@@ -52,11 +46,8 @@ fn marked(rule: &[u8]) -> [bool; PLACE_NUMBERS]
     ensures { NamesMarked rule.now result }
 {
     let mut used = [false; PLACE_NUMBERS];
-    let count = target_count(rule);
-    let mut t = 0;
-    while t < count {
+    for t in 0..target_count(rule) {
         mark_inputs(rule, t, &mut used);
-        t += 1;
     }
     mark_outputs(rule, &mut used);
     used
@@ -69,47 +60,7 @@ fn input_named(rule: &[u8], j: usize, used: &[bool; PLACE_NUMBERS]) -> bool
     requires names_marked { NamesMarked rule.now used.now }
     ensures { result ≡ input_named (fixed_of rule.now) j }
 {
-    if is_rule_input(rule, j) {
-        return used[j];
-    }
-    true
-}
-
-// Whether every rule input is named.
-fn inputs_named(rule: &[u8], used: &[bool; PLACE_NUMBERS]) -> bool
-    requires whole_rule { WholeRule rule.now }
-    requires names_marked { NamesMarked rule.now used.now }
-    ensures { result ≡ all_below (input_named (fixed_of rule.now)) (length (fixed_of rule.now).source) }
-{
-    let count = source_count(rule);
-    let mut j = 0;
-    while j < count {
-        if input_named(rule, j, used) {
-            j += 1;
-        } else {
-            return false;
-        }
-    }
-    true
-}
-
-// Whether every target vertex is named.
-fn vertices_named(rule: &[u8], used: &[bool; PLACE_NUMBERS]) -> bool
-    requires whole_rule { WholeRule rule.now }
-    requires names_marked { NamesMarked rule.now used.now }
-    ensures { result ≡ all_below (λ t. named (fixed_of rule.now) (made t)) (length (fixed_of rule.now).target) }
-{
-    let split = target_split(rule);
-    let count = target_count(rule);
-    let mut t = 0;
-    while t < count {
-        if used[split + t] {
-            t += 1;
-        } else {
-            return false;
-        }
-    }
-    true
+    !is_rule_input(rule, j) || used[j]
 }
 
 // Whether every rule input and every target vertex is named by some target place.
@@ -118,8 +69,8 @@ pub fn all_named(rule: &[u8]) -> bool
     ensures { result ≡ all_named (fixed_of rule.now) }
 {
     let used = marked(rule);
-    if inputs_named(rule, &used) {
-        return vertices_named(rule, &used);
-    }
-    false
+    let split = target_split(rule);
+    let count = target_count(rule);
+    (0..source_count(rule)).all(|j| input_named(rule, j, &used))
+        && (0..count).all(|t| used[split + t])
 }

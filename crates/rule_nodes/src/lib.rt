@@ -1,16 +1,15 @@
 // A rule block's expression nodes, field by field.
 #![tactic(auto)]
 
-ghost use Rattle.std.specs.Prelude.{◌≡◌, ◌+◌, ◌<◌, ◌≤◌, length};
+ghost use Rattle.std.specs.Prelude.{◌≡◌, ◌+◌, ◌*◌, ◌<◌, ◌≤◌, length};
 ghost use Rattle.definitions.specs.Fields.{byte_at, u32_at, signed};
 ghost use Rattle.definitions.specs.Rule.{node_bytes, node_at, node_form};
-ghost use Rattle.fields.specs.Integer.{integer_of};
 ghost use Rattle.rule_fields.specs.Fixed.{nodes_in, left_in, right_in};
 ghost use Rattle.rule_fields.specs.Layout.{WholeRule};
 ghost use Rattle.rule_nodes.specs.Nodes.{NarrowNode};
 
 use definitions::{NODE_BYTES, PATTERN_BYTES, RULE_HEADER_BYTES};
-use fields::{Integer, byte_at, i32_at};
+use fields::{byte_at, i32_at};
 use rule_fields::{source_count, target_count};
 
 // How many nodes a rule has at most, in either layout.
@@ -48,13 +47,23 @@ pub fn node_byte(rule: &[u8], k: usize, i: usize) -> usize
 }
 
 // The number of node k, its last four bytes.
-pub fn node_number(rule: &[u8], k: usize) -> Integer
+pub fn node_number(rule: &[u8], k: usize) -> i32
     requires whole_rule { WholeRule rule.now }
     requires k_bound { k < nodes_in rule.now }
-    ensures { integer_of result ≡ signed (u32_at rule.now (node_at rule.now k + 4)) }
+    ensures { result ≡ signed (u32_at rule.now (node_at rule.now k + 4)) }
 {
     let at = node_at(rule, k);
     i32_at(rule, at + 4)
+}
+
+// The number in byte i of node k, with byte i + 3 for its high byte.
+fn node_operand(rule: &[u8], k: usize, i: usize) -> usize
+    requires whole_rule { WholeRule rule.now }
+    requires k_bound { k < nodes_in rule.now }
+    requires i_bound { i + 3 < node_bytes }
+    ensures { result ≡ byte_at rule.now (node_at rule.now k + i) + 256 * byte_at rule.now (node_at rule.now k + (i + 3)) }
+{
+    node_byte(rule, k, i) + 256 * node_byte(rule, k, i + 3)
 }
 
 // The left operand of node k, an operation: in a lent block the high byte is zero.
@@ -64,9 +73,7 @@ pub fn node_left(rule: &[u8], k: usize) -> usize
     requires narrow_node { NarrowNode rule.now k }
     ensures { result ≡ left_in rule.now k }
 {
-    let low = node_byte(rule, k, 1);
-    let high = node_byte(rule, k, 4);
-    low + 256 * high
+    node_operand(rule, k, 1)
 }
 
 // The right operand of node k, an operation.
@@ -76,7 +83,5 @@ pub fn node_right(rule: &[u8], k: usize) -> usize
     requires narrow_node { NarrowNode rule.now k }
     ensures { result ≡ right_in rule.now k }
 {
-    let low = node_byte(rule, k, 2);
-    let high = node_byte(rule, k, 5);
-    low + 256 * high
+    node_operand(rule, k, 2)
 }

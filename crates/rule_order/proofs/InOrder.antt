@@ -13,12 +13,9 @@ use lib.ListN.{length, get_or, length-append, get_or-append}
 use lib.Seq.{ext_get_or, get_or-append_seam}
 use Rattle.definitions.specs.Lists.{tabulate, foldl, member, range}
 use Rattle.definitions.specs.Paths.{visit}
-use Rattle.definitions.specs.Rule.{side_limit, Rule, SoundRule, source_inputs, traversal}
-use Rattle.rule_fields.specs.Fixed.{fixed_of}
+use Rattle.definitions.specs.Rule.{Rule, source_inputs, traversal}
 use Rattle.laws.proofs.Lists.{decided}
 use Rattle.laws.proofs.Ranges.{length-range, range_at, range_more}
-use Rattle.laws.proofs.Rule.{outputs_below}
-use Rattle.rule_fields.proofs.Fixed.{length-source}
 use Rattle.rule_order.specs.InOrder.{InOrder, visited_after}
 use Rattle.rule_order.proofs.Laws.{passed, entered}
 

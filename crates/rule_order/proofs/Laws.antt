@@ -1,8 +1,8 @@
 -- The vertices visited so far, as the counter has them: what one vertex more does to 0, 1, .. n - 1, and why a list that is out of
 -- order stays so. The traversal only appends.
 -- Assumes nothing.
-use mathlib.Core.Path.{◌≡◌, refl, sym, ap, ◌∙◌}
-use mathlib.Core.Bool.{Bool, true, false, false≢true}
+use mathlib.Core.Path.{◌≡◌, sym, ap, ◌∙◌, subst}
+use mathlib.Core.Bool.{true, false}
 use mathlib.Core.List.{List, [], ◌∷◌, ◌++◌, append_assoc}
 use mathlib.Core.Logic.{⊎_elim}
 use Prim.Native.Nat.{ℕ, zero, suc, ◌+◌, ◌<◌, ◌≤◌}
@@ -13,11 +13,12 @@ use borrow.Author.Tests.{ltb-true, ltb-false, eq-eqb, ne_eqb}
 use lib.Dec.{ltb}
 use lib.ListN.{length, get_or, drop, drop_of_length-le, get_or-append, get_or-eq_default}
 use lib.Seq.{get_or_at, drop-cons}
+use Rattle.std.proofs.Common.{Result, Ok, Err}
 use Rattle.definitions.specs.Lists.{lowest, tabulate, foldl, member, range}
 use Rattle.definitions.specs.Paths.{visit}
 use Rattle.definitions.specs.Rule.{Rule, source_count, rule_output_count, source_inputs, traversal, out_of_order}
 use Rattle.rule_fields.specs.Fixed.{fixed_of}
-use Rattle.laws.proofs.Lists.{decided, true_not_false, lowest_none, lowest-found}
+use Rattle.laws.proofs.Lists.{decided, lowest_none, lowest-found}
 use Rattle.laws.proofs.Members.{mem_member, no_member, mem_range, range_mem}
 use Rattle.laws.proofs.Ranges.{length-range, range_at, range_more}
 use Rattle.rule_fields.proofs.Fixed.{length-source, length-source-outputs}
@@ -86,68 +87,62 @@ module _ (r : Rule) where
 
 -- ---- what the code's functions give
 
-right-count : {done : List ℕ} {next : ℕ} → done ≡ range 0 next → Counts done true next
-right-count e = record { right = λ t. e; wrong = λ f. absurd (false≢true (sym f)) }
-
-wrong_count : {done : List ℕ} {ok : Bool} {next : ℕ} → ok ≡ false → DiffersAt done next → Counts done ok next
-wrong_count f h = record { right = λ t. absurd (true_not_false t f); wrong = λ z. h }
-
 module _ (block : List ℕ) (v next : ℕ) (fits : next ≤ source_count block) where
   -- a depth above v is one more than another
-  above : {ok : Bool} {after : ℕ} → ((d : ℕ) → v ≤ d → Counts (visit (source_inputs (fixed_of block)) (suc d) (range 0 next) v) ok after)
-      → (d : ℕ) → v < d → Counts (visit (source_inputs (fixed_of block)) d (range 0 next) v) ok after
-  above h zero l = absurd (not-suc-le-zero l)
-  above h (suc d) l = h d (le_of_suc-le-suc l)
+  above : (given : Result ℕ ℕ) → ((d : ℕ) → v ≤ d → Counts (visit (source_inputs (fixed_of block)) (suc d) (range 0 next) v) given)
+      → (d : ℕ) → v < d → Counts (visit (source_inputs (fixed_of block)) d (range 0 next) v) given
+  above given h zero l = absurd (not-suc-le-zero l)
+  above given h (suc d) l = h d (le_of_suc-le-suc l)
 
-  pub visited_before : v < next → Visits block v next true next
-  visited_before h = record { counts = above (λ d l. right-count (passed (fixed_of block) d next v h)); small = fits }
+  pub visited_before : v < next → Visits block v next (Ok next)
+  visited_before h = record { counts = above (Ok next) (λ d l. passed (fixed_of block) d next v h); small = fits }
 
   module _ (fresh : next ≤ v) where
-    pub inputs_wrong : {ok : Bool} {after : ℕ} → VisitsInputs block v 0 next ok after → ok ≡ false → Visits block v next ok after
-    inputs_wrong i f = record {
-      counts = above (λ d l. wrong_count f (rw (entered (fixed_of block) d next v fresh)
-          (differs_more (v ∷ []) ((i.counts d l).wrong f))));
+    pub inputs_wrong : {j : ℕ} → VisitsInputs block v 0 next (Err j) → Visits block v next (Err j)
+    inputs_wrong {j} i = record {
+      counts = above (Err j) (λ d l. rw (entered (fixed_of block) d next v fresh) (differs_more (v ∷ []) (i.counts d l)));
       small = i.small;
     }
 
-    pub not_next : {ok : Bool} {after : ℕ} → VisitsInputs block v 0 next ok after → ok ≡ true → (v ≡ after → ⊥)
-        → Visits block v next false after
-    not_next {after = after} i t h = record {
-      counts = above (λ d l. wrong_count refl (record {
+    pub not_next : {after : ℕ} → VisitsInputs block v 0 next (Ok after) → (v ≡ after → ⊥) → Visits block v next (Err after)
+    not_next {after} i h = record {
+      counts = above (Err after) (λ d l. record {
         other = v;
         later = [];
         apart = h;
-        visited = entered (fixed_of block) d next v fresh ∙ ap (λ (xs : List ℕ). xs ++ v ∷ []) ((i.counts d l).right t);
-      }));
+        visited = entered (fixed_of block) d next v fresh ∙ ap (λ (xs : List ℕ). xs ++ v ∷ []) (i.counts d l);
+      });
       small = i.small;
     }
 
-    pub is_next : {ok : Bool} {after : ℕ} → VisitsInputs block v 0 next ok after → ok ≡ true → v ≡ after → v < source_count block
-        → Visits block v next true (after + 1)
-    is_next {after = after} i t e b = record {
-      counts = above (λ d l. right-count (entered (fixed_of block) d next v fresh ∙ rw ((i.counts d l).right t, e, add-one) (sym (range_more after))));
+    pub is_next : {after : ℕ} → VisitsInputs block v 0 next (Ok after) → v ≡ after → v < source_count block
+        → Visits block v next (Ok (after + 1))
+    is_next {after} i e b = record {
+      counts = above (Ok (after + 1)) (λ d l. entered (fixed_of block) d next v fresh ∙ rw (i.counts d l, e, add-one) (sym (range_more after)));
       small = omega arith;
     }
 
 module _ (block : List ℕ) (v i next : ℕ) where
-  pub inputs-done : length (source_inputs (fixed_of block) v) ≤ i → next ≤ source_count block → VisitsInputs block v i next true next
+  pub inputs-done : length (source_inputs (fixed_of block) v) ≤ i → next ≤ source_count block → VisitsInputs block v i next (Ok next)
   inputs-done h b = record {
-    counts = λ d l. right-count (none_left (fixed_of block) d (source_inputs (fixed_of block) v) i (range 0 next) h);
+    counts = λ d l. none_left (fixed_of block) d (source_inputs (fixed_of block) v) i (range 0 next) h;
     small = b;
   }
 
   module _ (u : ℕ) (h : i < length (source_inputs (fixed_of block) v)) (e : u ≡ get_or (source_inputs (fixed_of block) v) i 255) (lower : u < v) where
-    pub input_wrong : {ok : Bool} {after : ℕ} → Visits block u next ok after → ok ≡ false → VisitsInputs block v i next ok after
-    input_wrong one f = record {
-      counts = λ d l. wrong_count f (one_wrong (fixed_of block) d (source_inputs (fixed_of block) v) i next u h e ((one.counts d (omega arith)).wrong f));
+    pub input_wrong : {j : ℕ} → Visits block u next (Err j) → VisitsInputs block v i next (Err j)
+    input_wrong one = record {
+      counts = λ d l. one_wrong (fixed_of block) d (source_inputs (fixed_of block) v) i next u h e (one.counts d (omega arith));
       small = one.small;
     }
 
-    pub input_passed : {passed ok : Bool} {mid after : ℕ} → Visits block u next passed mid → passed ≡ true
-        → VisitsInputs block v (i + 1) mid ok after → VisitsInputs block v i next ok after
-    input_passed one t rest = record {
-      counts = λ d l. rw (one_first (fixed_of block) d (source_inputs (fixed_of block) v) i (range 0 next) u h e, (one.counts d (omega arith)).right t)
-          (rest.counts d l);
+    pub input_passed : {after : ℕ} {given : Result ℕ ℕ} → Visits block u next (Ok after) → VisitsInputs block v (i + 1) after given
+        → VisitsInputs block v i next given
+    input_passed {given = given} one rest = record {
+      counts = λ d l.
+          let first = one_first (fixed_of block) d (source_inputs (fixed_of block) v) i (range 0 next) u h e in
+          let others = λ (xs : List ℕ). foldl (visit (source_inputs (fixed_of block)) d) xs (drop (i + 1) (source_inputs (fixed_of block) v)) in
+          subst (λ (xs : List ℕ). Counts xs given) (sym (first ∙ ap others (one.counts d (omega arith)))) (rest.counts d l);
       small = rest.small;
     }
 
@@ -217,16 +212,15 @@ module _ (block : List ℕ) (i next u : ℕ) (more : Continues block i next) (h 
   within : i < length (fixed_of block).source_outputs
   within = rw (length-source-outputs block) h
 
-  pub output_wrong : {ok : Bool} {after : ℕ} → Visits block u next ok after → ok ≡ false
-      → after ≡ lowest (out_of_order (fixed_of block)) (source_count block)
-  output_wrong {after = after} one f =
-      let differs : DiffersAt (traversal (fixed_of block)) after = rw (← more) (one_wrong (fixed_of block) (source_count block)
-      (fixed_of block).source_outputs i next u within e ((one.counts (source_count block) inside).wrong f)) in
-      rw (length-source block) at (misplaced (fixed_of block) after (rw (length-source block) one.small) differs)
+  pub output_wrong : {j : ℕ} → Visits block u next (Err j) → j ≡ lowest (out_of_order (fixed_of block)) (source_count block)
+  output_wrong {j} one =
+      let differs : DiffersAt (traversal (fixed_of block)) j = rw (← more) (one_wrong (fixed_of block) (source_count block)
+      (fixed_of block).source_outputs i next u within e (one.counts (source_count block) inside)) in
+      rw (length-source block) at (misplaced (fixed_of block) j (rw (length-source block) one.small) differs)
 
-  pub output_passed : {ok : Bool} {after : ℕ} → Visits block u next ok after → ok ≡ true → Continues block (i + 1) after
-  output_passed one t =
+  pub output_passed : {after : ℕ} → Visits block u next (Ok after) → Continues block (i + 1) after
+  output_passed one =
       rw (
-        ← (one.counts (source_count block) inside).right t,
+        ← one.counts (source_count block) inside,
         ← one_first (fixed_of block) (source_count block) (fixed_of block).source_outputs i (range 0 next) u within e,
       ) more

@@ -1,6 +1,7 @@
 -- What a visit of a source vertex, or of its inputs, asks and gives where the first `next` vertices are visited already.
 -- Assumes nothing.
-use Rattle.std.specs.Prelude.{◌≡◌, Bool, true, false, List, ◌∷◌, ◌++◌, ℕ, ◌<◌, ◌≤◌, drop}
+use Rattle.std.specs.Prelude.{◌≡◌, Result, List, ◌∷◌, ◌++◌, ℕ, ◌<◌, ◌≤◌, drop}
+use Rattle.std.specs.Result.{MatchResult}
 use Rattle.definitions.specs.Lists.{foldl, range}
 use Rattle.definitions.specs.Paths.{visit}
 use Rattle.definitions.specs.Rule.{source_count, source_inputs}
@@ -20,17 +21,20 @@ pub record DiffersAt (done : List ℕ) (j : ℕ) : Type 0 where
   pub apart : other ≡ j → ⊥
   pub visited : done ≡ range 0 j ++ other ∷ later
 
--- The vertices visited so far are 0, 1, .. next - 1, or they are out of order for good, from place next on.
-pub record Counts (done : List ℕ) (ok : Bool) (next : ℕ) : Type 0 where
-  pub right : ok ≡ true → done ≡ range 0 next
-  pub wrong : ok ≡ false → DiffersAt done next
+-- The vertices visited so far are 0, 1, .. next - 1, or they are out of order for good, from a place on.
+abbrev pub Counts : List ℕ → Result ℕ ℕ → Type 0
+Counts done given = MatchResult given (λ next. done ≡ range 0 next) (λ j. DiffersAt done j)
+
+-- neither is more than there are vertices
+abbrev pub AtMost : ℕ → Result ℕ ℕ → Type 0
+AtMost count given = MatchResult given (λ next. next ≤ count) (λ j. j ≤ count)
 
 -- The depth d is the definition's; above v, it is enough, whatever it is.
-pub record Visits (block : List ℕ) (v next : ℕ) (ok : Bool) (after : ℕ) : Type 0 where
-  pub counts : (d : ℕ) → v < d → Counts (visit (source_inputs (fixed_of block)) d (range 0 next) v) ok after
-  pub small : after ≤ source_count block
+pub record Visits (block : List ℕ) (v next : ℕ) (given : Result ℕ ℕ) : Type 0 where
+  pub counts : (d : ℕ) → v < d → Counts (visit (source_inputs (fixed_of block)) d (range 0 next) v) given
+  pub small : AtMost (source_count block) given
 
 -- the same of the inputs of v from place i on
-pub record VisitsInputs (block : List ℕ) (v i next : ℕ) (ok : Bool) (after : ℕ) : Type 0 where
-  pub counts : (d : ℕ) → v ≤ d → Counts (foldl (visit (source_inputs (fixed_of block)) d) (range 0 next) (drop i (source_inputs (fixed_of block) v))) ok after
-  pub small : after ≤ source_count block
+pub record VisitsInputs (block : List ℕ) (v i next : ℕ) (given : Result ℕ ℕ) : Type 0 where
+  pub counts : (d : ℕ) → v ≤ d → Counts (foldl (visit (source_inputs (fixed_of block)) d) (range 0 next) (drop i (source_inputs (fixed_of block) v))) given
+  pub small : AtMost (source_count block) given

@@ -12,55 +12,37 @@ ghost use Rattle.rule_order.specs.Order.{MayVisit, Visits, VisitsInputs};
 
 use rule_fields::{output_count, source_input, source_input_count, source_output};
 
-// Whether the order is right so far, and how many vertices are visited in order. Where it is wrong, that is the first vertex in whose
-// place another one is visited; and it stays wrong, from the same vertex on, since a visit only adds vertices after those that are
-// visited.
-#[derive(Clone, Copy)]
-struct Visited {
-    ok: bool,
-    next: usize,
-}
-
-// Visits v, its inputs first, where next vertices are visited already.
+// Visits v, its inputs first, where next vertices are visited already, and gives how many are visited in order then. Where the order is
+// wrong, the error is the first vertex in whose place another one is visited; and it stays wrong, from the same vertex on, since a visit
+// only adds vertices after those that are visited.
 #[cycle(visit_visit_inputs)]
-fn visit(rule: &[u8], v: usize, next: usize) -> Visited
+fn visit(rule: &[u8], v: usize, next: usize) -> Result<usize, usize>
     requires { MayVisit rule.now v next }
-    ensures { Visits rule.now v next result.ok result.next }
+    ensures { Visits rule.now v next result }
 {
     if v < next {
-        return Visited { ok: true, next };
+        return Ok(next);
     }
-    let inputs = visit_inputs(rule, v, 0, next);
-    if !inputs.ok {
-        return inputs;
-    }
-    if v != inputs.next {
-        return Visited {
-            ok: false,
-            next: inputs.next,
-        };
-    }
-    Visited {
-        ok: true,
-        next: inputs.next + 1,
+    let after = visit_inputs(rule, v, 0, next)?;
+    if v == after {
+        Ok(after + 1)
+    } else {
+        Err(after)
     }
 }
 
-// Visits the inputs of v from place i on.
+// Visits the inputs of v from place i on, with the same result.
 #[cycle(visit_visit_inputs)]
-fn visit_inputs(rule: &[u8], v: usize, i: usize, next: usize) -> Visited
+fn visit_inputs(rule: &[u8], v: usize, i: usize, next: usize) -> Result<usize, usize>
     requires may_visit { MayVisit rule.now v next }
     requires i_in_bounds { i ≤ length (source_inputs (fixed_of rule.now) v) }
-    ensures { VisitsInputs rule.now v i next result.ok result.next }
+    ensures { VisitsInputs rule.now v i next result }
 {
     if i == source_input_count(rule, v) {
-        return Visited { ok: true, next };
+        return Ok(next);
     }
-    let input = visit(rule, source_input(rule, v, i), next);
-    if !input.ok {
-        return input;
-    }
-    visit_inputs(rule, v, i + 1, input.next)
+    let after = visit(rule, source_input(rule, v, i), next)?;
+    visit_inputs(rule, v, i + 1, after)
 }
 
 // The first source vertex in whose place the traversal from the outputs visits another, or before which it ends; or the number of
@@ -69,16 +51,12 @@ pub fn first_misplaced(rule: &[u8]) -> usize
     requires { LayeredRule rule.now }
     ensures { result ≡ lowest (out_of_order (fixed_of rule.now)) (source_count rule.now) }
 {
-    let outputs = output_count(rule);
     let mut next = 0;
-    let mut i = 0;
-    while i < outputs {
-        let output = visit(rule, source_output(rule, i), next);
-        if !output.ok {
-            return output.next;
+    for i in 0..output_count(rule) {
+        match visit(rule, source_output(rule, i), next) {
+            Ok(after) => next = after,
+            Err(misplaced) => return misplaced,
         }
-        next = output.next;
-        i += 1;
     }
     next
 }

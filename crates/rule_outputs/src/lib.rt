@@ -26,15 +26,7 @@ fn source_reads(rule: &[u8], j: usize, o: usize) -> bool
     requires j_bound { j < source_count rule.now }
     ensures { result ≡ member o (source_inputs (fixed_of rule.now) j) }
 {
-    let count = source_input_count(rule, j);
-    let mut i = 0;
-    while i < count {
-        if source_input(rule, j, i) == o {
-            return true;
-        }
-        i += 1;
-    }
-    false
+    (0..source_input_count(rule, j)).any(|i| source_input(rule, j, i) == o)
 }
 
 // Whether some source vertex reads o.
@@ -42,15 +34,7 @@ fn is_read(rule: &[u8], o: usize) -> bool
     requires { ReadableRule rule.now }
     ensures { result ≡ is_read (fixed_of rule.now) o }
 {
-    let count = source_count(rule);
-    let mut j = 0;
-    while j < count {
-        if source_reads(rule, j, o) {
-            return true;
-        }
-        j += 1;
-    }
-    false
+    (0..source_count(rule)).any(|j| source_reads(rule, j, o))
 }
 
 // Whether source vertex o may be an output: of kind 3, 4 or 5, and read by no source vertex.
@@ -59,17 +43,7 @@ fn may_be_output(rule: &[u8], o: usize) -> bool
     requires o_bound { o < source_count rule.now }
     ensures { result ≡ may_be_output (fixed_of rule.now) o }
 {
-    let kind = source_kind(rule, o);
-    if kind < KIND_CALL {
-        return false;
-    }
-    if KIND_PROJ < kind {
-        return false;
-    }
-    if is_read(rule, o) {
-        return false;
-    }
-    true
+    (KIND_CALL..=KIND_PROJ).contains(&source_kind(rule, o)) && !is_read(rule, o)
 }
 
 // Whether every source output may be one.
@@ -77,17 +51,7 @@ fn may_all_be_outputs(rule: &[u8]) -> bool
     requires { LayeredRule rule.now }
     ensures { result ≡ all (may_be_output (fixed_of rule.now)) (fixed_of rule.now).source_outputs }
 {
-    let count = output_count(rule);
-    let mut i = 0;
-    while i < count {
-        let o = source_output(rule, i);
-        if may_be_output(rule, o) {
-            i += 1;
-        } else {
-            return false;
-        }
-    }
-    true
+    (0..output_count(rule)).all(|i| may_be_output(rule, source_output(rule, i)))
 }
 
 // Whether source output i comes again after place i.
@@ -97,16 +61,8 @@ fn comes_again(rule: &[u8], i: usize) -> bool
     ensures { result ≡ member (get_or (fixed_of rule.now).source_outputs i 255)
         (drop (i + 1) (fixed_of rule.now).source_outputs) }
 {
-    let count = output_count(rule);
     let o = source_output(rule, i);
-    let mut k = i + 1;
-    while k < count {
-        if source_output(rule, k) == o {
-            return true;
-        }
-        k += 1;
-    }
-    false
+    (i + 1..output_count(rule)).any(|k| source_output(rule, k) == o)
 }
 
 // Whether no source vertex is an output twice.
@@ -114,26 +70,16 @@ fn are_distinct(rule: &[u8]) -> bool
     requires { WholeRule rule.now }
     ensures { result ≡ distinct (fixed_of rule.now).source_outputs }
 {
-    let count = output_count(rule);
-    let mut i = 0;
-    while i < count {
-        if comes_again(rule, i) {
-            return false;
-        }
-        i += 1;
-    }
-    true
+    (0..output_count(rule)).all(|i| !comes_again(rule, i))
 }
 
 // Whether the source outputs are distinct, and each may be one.
+#[tactic(auto, unfolding(definitions::specs::Rule::source_outputs_fit))]
 fn source_outputs_fit(rule: &[u8]) -> bool
     requires { LayeredRule rule.now }
     ensures { result ≡ source_outputs_fit (fixed_of rule.now) }
 {
-    if are_distinct(rule) {
-        return may_all_be_outputs(rule);
-    }
-    false
+    are_distinct(rule) && may_all_be_outputs(rule)
 }
 
 // ---- target outputs
@@ -145,33 +91,17 @@ fn target_outputs_fit(rule: &[u8]) -> bool
         (fixed_of rule.now).target_outputs }
 {
     let vertices = target_count(rule);
-    let count = output_count(rule);
-    let mut i = 0;
-    while i < count {
-        let p = target_output(rule, i);
-        if origin_fits(rule, vertices, p) {
-            i += 1;
-        } else {
-            return false;
-        }
-    }
-    true
+    (0..output_count(rule)).all(|i| origin_fits(rule, vertices, target_output(rule, i)))
 }
 
 // ---- all of them
 
 // Whether the source outputs fit, some source vertex reaches them all, the target outputs fit, and every rule input and target
 // vertex is named.
+#[tactic(auto, unfolding(definitions::specs::Rule::outputs_fit))]
 pub fn outputs_fit(rule: &[u8]) -> bool
     requires { LayeredRule rule.now }
     ensures { result ≡ outputs_fit (fixed_of rule.now) }
 {
-    if source_outputs_fit(rule) {
-        if is_connected(rule) {
-            if target_outputs_fit(rule) {
-                return all_named(rule);
-            }
-        }
-    }
-    false
+    source_outputs_fit(rule) && is_connected(rule) && target_outputs_fit(rule) && all_named(rule)
 }

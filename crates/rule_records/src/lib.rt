@@ -16,6 +16,7 @@ use rule_fields::{is_rule_input, source_count, target_count, target_split};
 use runs::is_filled;
 
 // Whether the record at `at` follows the tables, and its unused places hold 255.
+#[tactic(auto, unfolding(definitions::specs::Rule::pattern_fits))]
 fn pattern_fits(rule: &[u8], at: usize) -> bool
     requires { at + pattern_bytes ≤ length rule.now }
     ensures { result ≡ pattern_fits rule.now at }
@@ -24,13 +25,9 @@ fn pattern_fits(rule: &[u8], at: usize) -> bool
     let operator = byte_at(rule, at + 1);
     let inputs = byte_at(rule, at + 2);
     let attributes = byte_at(rule, at + 3);
-    if !shape_fits(kind, operator, inputs, attributes) {
-        return false;
-    }
-    if !is_filled(rule, at + 4 + inputs, at + 10, 255) {
-        return false;
-    }
-    is_filled(rule, at + 10 + attributes, at + PATTERN_BYTES, 255)
+    shape_fits(kind, operator, inputs, attributes)
+        && is_filled(rule, at + 4 + inputs, at + 10, 255)
+        && is_filled(rule, at + 10 + attributes, at + PATTERN_BYTES, 255)
 }
 
 // Whether every input of source vertex j names a lower vertex.
@@ -42,26 +39,21 @@ fn source_inputs_fit(rule: &[u8], j: usize) -> bool
 {
     let at = RULE_HEADER_BYTES + PATTERN_BYTES * j;
     let inputs = byte_at(rule, at + 2);
-    let mut i = 0;
-    while i < inputs {
-        if j <= byte_at(rule, at + 4 + i) {
-            return false;
-        }
-        i += 1;
-    }
-    true
+    (0..inputs).all(|i| byte_at(rule, at + 4 + i) < j)
 }
 
 // Whether the place number p of the target names a rule input, or a target vertex below t.
+#[tactic(auto, unfolding(definitions::specs::Rule::origin_fits, definitions::specs::Rule::origin_by))]
 pub fn origin_fits(rule: &[u8], t: usize, p: usize) -> bool
     requires { WholeRule rule.now }
     ensures { result ≡ origin_fits (fixed_of rule.now) t (origin_in rule.now p) }
 {
     let split = target_split(rule);
     if p < split {
-        return is_rule_input(rule, p);
+        is_rule_input(rule, p)
+    } else {
+        p - split < t
     }
-    p - split < t
 }
 
 // Whether target vertex t is of a target's kind, and its inputs name rule inputs and earlier target
@@ -75,37 +67,25 @@ fn target_inputs_fit(rule: &[u8], t: usize) -> bool
     let v = source_count(rule) + t;
     let at = RULE_HEADER_BYTES + PATTERN_BYTES * v;
     let kind = byte_at(rule, at);
-    if kind == KIND_EMPTY {
-        return false;
-    }
-    if kind == KIND_VARIABLE {
-        return false;
-    }
     let inputs = byte_at(rule, at + 2);
-    let mut i = 0;
-    while i < inputs {
-        if !origin_fits(rule, t, byte_at(rule, at + 4 + i)) {
-            return false;
-        }
-        i += 1;
-    }
-    true
+    !matches!(kind, KIND_EMPTY | KIND_VARIABLE)
+        && (0..inputs).all(|i| origin_fits(rule, t, byte_at(rule, at + 4 + i)))
 }
 
 // Whether vertex v, a source or a target one, has a good record and good input places.
+#[tactic(auto, unfolding(definitions::specs::Rule::bad_vertex_of))]
 fn vertex_fits(rule: &[u8], v: usize) -> bool
     requires whole_rule { WholeRule rule.now }
     requires v_bound { v < source_count rule.now + target_count rule.now }
     ensures { result ≡ not (bad_vertex_of (fixed_of rule.now) rule.now v) }
 {
-    if !pattern_fits(rule, RULE_HEADER_BYTES + PATTERN_BYTES * v) {
-        return false;
-    }
     let source = source_count(rule);
-    if v < source {
-        return source_inputs_fit(rule, v);
-    }
-    target_inputs_fit(rule, v - source)
+    pattern_fits(rule, RULE_HEADER_BYTES + PATTERN_BYTES * v)
+        && if v < source {
+            source_inputs_fit(rule, v)
+        } else {
+            target_inputs_fit(rule, v - source)
+        }
 }
 
 // The lowest vertex with a bad record or a bad input place, or the number of vertices.
@@ -114,12 +94,7 @@ pub fn bad_vertex(rule: &[u8]) -> usize
     ensures { result ≡ lowest (bad_vertex_of (fixed_of rule.now) rule.now) (source_count rule.now + target_count rule.now) }
 {
     let vertices = source_count(rule) + target_count(rule);
-    let mut v = 0;
-    while v < vertices {
-        if !vertex_fits(rule, v) {
-            return v;
-        }
-        v += 1;
-    }
-    vertices
+    (0..vertices)
+        .find(|&v| !vertex_fits(rule, v))
+        .unwrap_or(vertices)
 }

@@ -14,7 +14,8 @@ ghost use Rattle.rule_uses.specs.Demands.{demand_of};
 
 use definitions::SIDE_CAPACITY;
 use rule_fields::{
-    is_const, is_rule_input, source_count, source_input, source_input_count, source_output,
+    is_const, is_rule_input, output_count, source_count, source_input, source_input_count,
+    source_output,
 };
 
 // Whether source vertex j is an output.
@@ -22,33 +23,17 @@ fn is_source_output(rule: &[u8], j: usize) -> bool
     requires { WholeRule rule.now }
     ensures { result ≡ member j (fixed_of rule.now).source_outputs }
 {
-    let outputs = rule_fields::output_count(rule);
-    let mut i = 0;
-    while i < outputs {
-        if source_output(rule, i) == j {
-            return true;
-        }
-        i += 1;
-    }
-    false
+    (0..output_count(rule)).any(|i| source_output(rule, i) == j)
 }
 
 // Whether nothing outside a match may need the image of source vertex j, which is neither a rule input nor an output nor a Const.
+#[tactic(auto, unfolding(definitions::specs::Match::must_be_private, definitions::specs::Match::is_interior))]
 fn must_be_private(rule: &[u8], j: usize) -> bool
     requires whole_rule { WholeRule rule.now }
     requires j_bound { j < source_count rule.now }
     ensures { result ≡ must_be_private (fixed_of rule.now) j }
 {
-    if is_rule_input(rule, j) {
-        return false;
-    }
-    if is_const(rule, j) {
-        return false;
-    }
-    if is_source_output(rule, j) {
-        return false;
-    }
-    true
+    !is_rule_input(rule, j) && !is_const(rule, j) && !is_source_output(rule, j)
 }
 
 // Counts the input places of source vertex w, after those of the vertices below it.
@@ -57,11 +42,9 @@ fn add_source_inputs(rule: &[u8], w: usize, places: &mut [u16; SIDE_CAPACITY])
     ensures { Counted side_capacity (places_below (fixed_of rule.now) (w + 1)) places.new }
 {
     let inputs = source_input_count(rule, w);
-    let mut i = 0;
-    while i < inputs {
+    for i in 0..inputs {
         let input = source_input(rule, w, i);
         places[input] += 1;
-        i += 1;
     }
 }
 
@@ -70,12 +53,9 @@ pub fn count_places(rule: &[u8]) -> [u16; SIDE_CAPACITY]
     requires { CountableRule rule.now }
     ensures { Counted side_capacity (places_of (fixed_of rule.now)) result }
 {
-    let vertices = source_count(rule);
     let mut places = [0u16; SIDE_CAPACITY];
-    let mut w = 0;
-    while w < vertices {
+    for w in 0..source_count(rule) {
         add_source_inputs(rule, w, &mut places);
-        w += 1;
     }
     places
 }
@@ -86,16 +66,13 @@ pub fn count_demands(rule: &[u8]) -> [u16; SIDE_CAPACITY]
     ensures { (length result ≡ side_capacity)
         × ((j : ℕ) → j < source_count rule.now → get_or result j 0 ≡ demand_of (fixed_of rule.now) j) }
 {
-    let vertices = source_count(rule);
     let mut demands = count_places(rule);
-    let mut j = 0;
-    while j < vertices {
+    for j in 0..source_count(rule) {
         if must_be_private(rule, j) {
             demands[j] += 1;
         } else {
             demands[j] = 0;
         }
-        j += 1;
     }
     demands
 }

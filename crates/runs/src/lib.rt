@@ -1,7 +1,7 @@
 // Runs of equal bytes in a lent block, tested byte by byte or a word at a time. Nothing here reads past what its `requires` names.
 #![tactic(auto)]
 
-ghost use Rattle.std.specs.Prelude.{◌≡◌, ◌+◌, ◌*◌, ◌≤◌, min, length};
+ghost use Rattle.std.specs.Prelude.{◌≡◌, ◌+◌, ◌*◌, ◌≤◌, length};
 ghost use Rattle.definitions.specs.Fields.{filled};
 ghost use Rattle.fields.specs.Words.{word_bytes};
 
@@ -12,29 +12,12 @@ pub const WORD_BYTES: usize = 8;
 // The word whose bytes are all 1.
 const WORD_OF_ONES: usize = 72340172838076673;
 
-// The lesser of two numbers.
-fn lesser(a: usize, b: usize) -> usize
-    ensures { result ≡ min a b }
-{
-    if b < a {
-        return b;
-    }
-    a
-}
-
 // Whether the bytes from `from` up to `to` all hold `value`.
 pub fn is_filled(block: &[u8], from: usize, to: usize, value: usize) -> bool
     requires { to ≤ length block.now }
     ensures { result ≡ filled block.now from to value }
 {
-    let mut at = from;
-    while at < to {
-        if byte_at(block, at) != value {
-            return false;
-        }
-        at += 1;
-    }
-    true
+    (from..to).all(|at| byte_at(block, at) == value)
 }
 
 // Whether the 8 bytes from `at` on all hold `value`: they are compared as one word.
@@ -61,10 +44,7 @@ pub fn two_words_filled(block: &[u8], from: usize, to: usize, value: u8) -> bool
     requires to_in_bounds { to ≤ length block.now }
     ensures { result ≡ filled block.now from to value }
 {
-    if !word_filled(block, from, value) {
-        return false;
-    }
-    word_filled(block, to - WORD_BYTES, value)
+    word_filled(block, from, value) && word_filled(block, to - WORD_BYTES, value)
 }
 
 // The same where they are one word to three words long: a pair of words as above, and the last word, which may overlap it. There is no loop, so
@@ -75,10 +55,7 @@ pub fn three_words_filled(block: &[u8], from: usize, to: usize, value: u8) -> bo
     requires to_in_bounds { to ≤ length block.now }
     ensures { result ≡ filled block.now from to value }
 {
-    let middle = lesser(from + 2 * WORD_BYTES, to);
-    if !two_words_filled(block, from, middle, value) {
-        return false;
-    }
+    let middle = to.min(from + 2 * WORD_BYTES);
     let last = to - WORD_BYTES;
-    word_filled(block, last, value)
+    two_words_filled(block, from, middle, value) && word_filled(block, last, value)
 }

@@ -22,15 +22,16 @@ use Rattle.definitions.specs.Rewriting.{results, index_fits, vertex_results, tar
 use Rattle.laws.proofs.Lists.{decided, true_not_false, fails, all_below_at, all_below_every, all_below_some, lowest_none, lowest-found, lowest_passed, all_every, all_fails}
 use Rattle.laws.proofs.Filling.{filled_more}
 use Rattle.laws.proofs.Results.{joined, joined_some, kept, vertex-results}
-use Rattle.numbers.specs.declared.Value.{Value}
+use Rattle.std.specs.declared.option.Option as language
 use Rattle.numbers.specs.Value.{value_of}
 use Rattle.new_words.specs.Words.{word_of_value, index_like}
 use Rattle.new_words.proofs.Laws.{word_in, value-word}
 use Rattle.target_attributes.specs.declared.Lack.{Lack}
-use Rattle.target_attributes.specs.declared.Fitness.{Fitness}
-use Rattle.target_attributes.specs.declared.Fitness.TheVariants.{Fit, Unfit}
+use Rattle.std.specs.declared.result.Result.{Result}
+use Rattle.std.specs.declared.result.Result.TheVariants.{Ok, Err}
+use Rattle.std.specs.Result.{is_err}
 use Rattle.target_attributes.specs.Words.{is_given, Given}
-use Rattle.target_attributes.specs.Fitness.{fit_at, vertex_given, is_fit, first_unfit, vertex_fitness, target_fitness, Told}
+use Rattle.target_attributes.specs.Fitness.{Fitness, fit_at, vertex_given, is_fit, first_unfit, vertex_fitness, target_fitness, fitness_of, words_of, Told}
 
 -- ---- what is given
 
@@ -62,11 +63,11 @@ module _ (fit : ℕ → Bool) (n : ℕ) where
   abbrev unfit : ℕ → Bool
   unfit i = not (fit i)
 
-  pub unfit-first : (i : ℕ) → i < n → all_below fit i ≡ true → fit i ≡ false → Unfit (record { place = i }) ≡ first_unfit fit n
+  pub unfit-first : (i : ℕ) → i < n → all_below fit i ≡ true → fit i ≡ false → Err (record { place = i }) ≡ first_unfit fit n
   unfolding first_unfit
   unfit-first i l h f = simp (lowest-found unfit n i l (λ k m. ap not (all_below_at fit i k h m)) (ap not f), lt-ltb i n l)
 
-  pub none_unfit : (i : ℕ) → n ≤ i → all_below fit i ≡ true → Fit ≡ first_unfit fit n
+  pub none_unfit : (i : ℕ) → n ≤ i → all_below fit i ≡ true → Ok tt ≡ first_unfit fit n
   unfolding first_unfit
   none_unfit i m h = simp (lowest_none unfit n (λ k l. ap not (all_below_at fit i k h (omega arith))), le-ltb n n (omega arith))
 
@@ -80,6 +81,18 @@ module _ (fit : ℕ → Bool) (n : ℕ) where
       (λ (t : ltb (lowest unfit n) n ≡ false). simp t (sym (all_below_every fit n (λ k l.
       not-false (fit k) (lowest_passed unfit n k (omega (arith, ltb-false (lowest unfit n) n t)))))))
       (decided (ltb (lowest unfit n) n))
+
+-- what the library's test of an answer says
+module _ {A : Type 0} where
+  pub err-unfit : {b : Bool} (r : Result A Lack) → b ≡ is_err r → b ≡ true → is_fit r ≡ false
+  unfolding is_fit
+  err-unfit (Ok x) e h = absurd (true≢false (sym h ∙ e))
+  err-unfit (Err lack) e h = refl
+
+  pub ok-fit : {b : Bool} (r : Result A Lack) → b ≡ is_err r → b ≡ false → is_fit r ≡ true
+  unfolding is_fit
+  ok-fit (Ok x) e h = refl
+  ok-fit (Err lack) e h = absurd (false≢true (sym h ∙ e))
 
 -- ---- all target vertices
 
@@ -117,12 +130,12 @@ module _ (read : ℕ → ℕ → Option ℤ) (r : Rule) where
       (decided (all_below (vertex_given read r) (length r.target)))
 
   -- so what is answered says whether there are such
-  pub unfit_lacks : {answer : Fitness} {lack : Lack} → answer ≡ target_fitness read r → answer ≡ Unfit lack
+  pub unfit_lacks : {answer : Fitness} {lack : Lack} → answer ≡ target_fitness read r → answer ≡ Err lack
       → is_given (target_results read r.target) ≡ false
   unfolding is_fit
   unfit_lacks e f = sym target_fitness_lem ∙ ap is_fit (sym e ∙ f)
 
-  pub fit_found : {answer : Fitness} → answer ≡ target_fitness read r → answer ≡ Fit → is_given (target_results read r.target) ≡ true
+  pub fit_found : {answer : Fitness} → answer ≡ target_fitness read r → answer ≡ Ok tt → is_given (target_results read r.target) ≡ true
   unfolding is_fit
   fit_found e f = sym target_fitness_lem ∙ ap is_fit (sym e ∙ f)
 
@@ -170,7 +183,7 @@ result_words read (e ∷ es) zs h =
 -- ---- one by one
 
 module _ (read : ℕ → ℕ → Option ℤ) (p : Pattern Origin) where
-  pub fit-tested : {b : Bool} (i kind : ℕ) (v : Value) → kind ≡ p.kind → value_of v ≡ result_of read (get_or p.attributes i anything)
+  pub fit-tested : {b : Bool} (i kind : ℕ) (v : language.Option ℤ) → kind ≡ p.kind → value_of v ≡ result_of read (get_or p.attributes i anything)
       → b ≡ index_like kind (value_of v) → b ≡ fit_at read p i
   fit-tested i kind v k e h = rw (h, k, e)
 
@@ -182,7 +195,7 @@ module _ (read : ℕ → ℕ → Option ℤ) (p : Pattern Origin) where
   unfolding vertex_results kept
   vertex_given_lem = checked_given read p.kind p.attributes
 
-  pub words_more : (i : ℕ) (v : Value) → i < length p.attributes → length p.attributes ≤ attribute_limit
+  pub words_more : (i : ℕ) (v : language.Option ℤ) → i < length p.attributes → length p.attributes ≤ attribute_limit
       → value_of v ≡ result_of read (get_or p.attributes i anything) → set (words_to i) i (word_of_value v) ≡ words_to (i + 1)
   words_more i v l fits h =
       filled_more (λ e. word_in (result_of read e)) anything 0 attribute_limit p.attributes i (omega arith) l
@@ -211,18 +224,18 @@ module _ (read : ℕ → ℕ → Option ℤ) (p : Pattern Origin) where
       }
 
   -- the first attribute without a fit result is told,
-  pub told_unfit : (i : ℕ) (words : List ℕ) → i < length p.attributes → all_below (fit_at read p) i ≡ true → fit_at read p i ≡ false
-      → Told read p (record { fitness = Unfit (record { place = i }); words = words })
-  unfolding is_fit vertex_fitness
-  told_unfit i words l h f = record {
+  pub told_unfit : (i : ℕ) → i < length p.attributes → all_below (fit_at read p) i ≡ true → fit_at read p i ≡ false
+      → Told read p (Err (record { place = i }))
+  unfolding is_fit vertex_fitness fitness_of words_of
+  told_unfit i l h f = record {
     first = unfit-first (fit_at read p) (length p.attributes) i l h f;
-    given = vertex_lacks i words l f;
+    given = vertex_lacks i [] l f;
   }
 
   -- or the words of all
   pub told_fit : (i : ℕ) (words : List ℕ) → length p.attributes ≤ i → all_below (fit_at read p) i ≡ true → words ≡ words_to i
-      → Told read p (record { fitness = Fit; words = words })
-  unfolding is_fit vertex_fitness
+      → Told read p (Ok words)
+  unfolding is_fit vertex_fitness fitness_of words_of
   told_fit i words m h w = record {
     first = none_unfit (fit_at read p) (length p.attributes) i m h;
     given = vertex-found i words m h w;

@@ -20,23 +20,13 @@ pub struct Lack {
     pub place: usize,
 }
 
-// Whether all have fit results, or the first that has none.
-#[derive(Clone, Copy)]
-pub enum Fitness {
-    Fit,
-    Unfit(Lack),
-}
-
-// The words of a vertex's attributes, where all are fit; zero stands in the unused places. (An enum that held the array would have to
-// be proved without the borrow checker.)
-#[derive(Drop)]
-pub struct Words {
-    pub fitness: Fitness,
-    pub words: [u32; ATTRIBUTE_LIMIT],
-}
-
-// The attributes of target vertex t, or the first of them that is unfit.
-pub fn vertex_words(graph: &[u8], rule: &[u8], images: &[u16; SIDE_CAPACITY], t: usize) -> Words
+// The words of the attributes of target vertex t, with zero in the unused places, or the first of them that is unfit.
+pub fn vertex_words(
+    graph: &[u8],
+    rule: &[u8],
+    images: &[u16; SIDE_CAPACITY],
+    t: usize,
+) -> Result<[u32; ATTRIBUTE_LIMIT], Lack>
     requires evaluation { Evaluation graph.now rule.now images.now }
     requires t_bound { t < target_count rule.now }
     ensures { Told (read_attribute (graph_of graph.now) images.now)
@@ -45,40 +35,28 @@ pub fn vertex_words(graph: &[u8], rule: &[u8], images: &[u16; SIDE_CAPACITY], t:
     let kind = target_kind(rule, t);
     let count = target_attribute_count(rule, t);
     let mut words = [0u32; ATTRIBUTE_LIMIT];
-    let mut i = 0;
-    while i < count {
+    for i in 0..count {
         let value = target_value(graph, rule, images, t, i);
         if !is_fit(kind, value) {
-            return Words {
-                fitness: Fitness::Unfit(Lack { place: i }),
-                words,
-            };
+            return Err(Lack { place: i });
         }
         words[i] = word_of(value);
-        i += 1;
     }
-    Words {
-        fitness: Fitness::Fit,
-        words,
-    }
+    Ok(words)
 }
 
 // Whether every attribute of every target vertex has a fit result, or the first target vertex with one that has none.
-pub fn all_fit(graph: &[u8], rule: &[u8], images: &[u16; SIDE_CAPACITY]) -> Fitness
+pub fn all_fit(graph: &[u8], rule: &[u8], images: &[u16; SIDE_CAPACITY]) -> Result<(), Lack>
     requires { Evaluation graph.now rule.now images.now }
     ensures { result ≡ target_fitness (read_attribute (graph_of graph.now) images.now)
         (fixed_of rule.now) }
 {
     let count = target_count(rule);
-    let mut t = 0;
-    while t < count {
+    for t in 0..count {
         let found = vertex_words(graph, rule, images, t);
-        let fitness = found.fitness;
-        match fitness {
-            Fitness::Unfit(_) => return Fitness::Unfit(Lack { place: t }),
-            Fitness::Fit => {}
+        if found.is_err() {
+            return Err(Lack { place: t });
         }
-        t += 1;
     }
-    Fitness::Fit
+    Ok(())
 }

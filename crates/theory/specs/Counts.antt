@@ -1,9 +1,8 @@
 -- Request 5/13, by examples: what is counted, which counts are refused, and what the import takes and leaves.
 -- Assumes nothing.
 use Rattle.std.specs.Prelude.{◌≡◌, List, [], ◌∷◌, ℕ, length, set}
-use Rattle.definitions.specs.declared.Reply.{Reply}
 use Rattle.definitions.specs.Lists.{tabulate}
-use Rattle.definitions.specs.Reply.{done, refused_at, refused}
+use Rattle.definitions.specs.Reply.{Reply, done, refused_at, refused}
 use Rattle.definitions.specs.Graph.{Slot, empty_slot, true_count, graph_reply}
 use Rattle.definitions.specs.Import.{import_reply, import_graph}
 use Rattle.theory.specs.Examples.{variable, call, relu, block, old_block}

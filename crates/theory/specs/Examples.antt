@@ -3,9 +3,8 @@
 -- attributes are the paper's two numbers and whose others are 1, and a rule that multiplies each of the three with its like. The paper's
 -- graphs are of version 1: the examples are of what the import makes of them.
 -- Assumes nothing.
-use Rattle.std.specs.Prelude.{◌≡◌, List, [], ◌∷◌, ◌++◌, ℕ, ℤ, pos, negsuc, length, replicate, set}
+use Rattle.std.specs.Prelude.{◌≡◌, List, [], ◌∷◌, ◌++◌, ℕ, ℤ, pos, negsuc, length, replicate, set, Ok}
 use Rattle.std.proofs.Math.Option.{Option, none, some}
-use Rattle.definitions.specs.declared.Reply.TheVariants.{Done}
 use Rattle.definitions.specs.Lists.{padded, concat_map}
 use Rattle.definitions.specs.Fields.{u32_bytes}
 use Rattle.definitions.specs.Reply.{refused}
@@ -124,7 +123,7 @@ AllHold [] = Unit {0}
 AllHold (e ∷ es) = Holds e × AllHold es
 
 unfoldable pub done : List ℕ → List ℕ → Outcome
-done graph images = record { reply = Done 0; graph = graph; map = map_block images }
+done graph images = record { reply = Ok 0; graph = graph; map = map_block images }
 
 -- a refusal leaves both blocks as they came
 unfoldable pub refusal : ℕ → List ℕ → Outcome

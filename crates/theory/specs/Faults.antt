@@ -1,8 +1,7 @@
 -- Examples of faults, with the number and the place that each is told with: one of each kind, and several at once.
 -- Assumes nothing.
 use Rattle.std.specs.Prelude.{◌≡◌, List, [], ◌∷◌, ℕ, set}
-use Rattle.definitions.specs.declared.Reply.{Reply}
-use Rattle.definitions.specs.Reply.{done, refused_at}
+use Rattle.definitions.specs.Reply.{Reply, done, refused_at}
 use Rattle.definitions.specs.Graph.{empty_slot, graph_reply}
 use Rattle.definitions.specs.Rule.{rule_reply}
 use Rattle.theory.specs.Examples.{variable, call, relu, block, vertex, wild, calls, node, rule, rr}

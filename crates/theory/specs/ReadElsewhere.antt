@@ -1,8 +1,7 @@
 -- Request 6/13, by examples: for a graph, a rule, a map and a vertex, the reply, which is the answer or a refusal.
 -- Assumes nothing.
 use Rattle.std.specs.Prelude.{◌≡◌, true, false, List, [], ◌∷◌, ℕ, replicate, set}
-use Rattle.definitions.specs.declared.Reply.{Reply}
-use Rattle.definitions.specs.Reply.{answered, refused}
+use Rattle.definitions.specs.Reply.{Reply, answered, refused}
 use Rattle.definitions.specs.Graph.{Slot, empty_slot}
 use Rattle.definitions.specs.Operations.{map_block}
 use Rattle.definitions.specs.ReadElsewhere.{elsewhere_reply}

@@ -1,10 +1,9 @@
 -- Request 4/13, by examples: what a sweep empties and keeps, and where a squeeze moves slots.
 -- Assumes nothing.
 use Rattle.std.specs.Prelude.{◌≡◌, List, [], ◌∷◌, ℕ, set, replicate}
-use Rattle.definitions.specs.declared.Reply.{Reply}
 use Rattle.definitions.specs.Lists.{concat_map}
 use Rattle.definitions.specs.Fields.{u16_bytes}
-use Rattle.definitions.specs.Reply.{done, refused}
+use Rattle.definitions.specs.Reply.{Reply, done, refused}
 use Rattle.definitions.specs.Graph.{Slot, empty_slot, graph_reply}
 use Rattle.definitions.specs.Sweep.{sweep_graph}
 use Rattle.definitions.specs.Squeeze.{squeeze_reply, squeeze_graph, squeeze_moves}

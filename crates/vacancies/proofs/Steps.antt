@@ -1,31 +1,39 @@
--- What one turn of each loop does to the marks.
+-- What marks stand for, and what one turn of the loop does to them.
 -- Assumes nothing.
 use mathlib.Core.Path.{◌≡◌, sym, ap, ◌∙◌}
-use mathlib.Core.Bool.{Bool, true, false, not, ◌&&◌, ◌||◌, and-false, or-true, or-false, not-not}
+use mathlib.Core.Bool.{Bool, true, false, not, ◌&&◌, ◌||◌, or-true, or-false, not-not}
 use mathlib.Core.List.{List}
 use mathlib.Core.Logic.{⊎_elim}
-use Prim.Native.Nat.{ℕ, ◌+◌, ◌<◌}
+use Prim.Native.Nat.{ℕ, ◌+◌, ◌<◌, ◌≤◌}
 use native.Mathlib.Numerals.{add-one}
 use native.Mathlib.Omega.{arith}
-use borrow.Author.Tests.{eq-eqb, ne_eqb, eqb-true, eqb-false, lt-ltb, le-ltb, ltb-true, ltb-false}
-use lib.Dec.{eqb, ltb}
-use lib.ListN.{length, set, replicate, length-set, length-replicate}
+use borrow.Author.Tests.{eq-eqb, ne_eqb, eqb-true, eqb-false}
+use lib.Dec.{eqb}
+use lib.ListN.{length, get_or, set, length-set}
 use lib.Seq.{get_or-set_same, get_or-set_other}
-use Rattle.definitions.specs.Lists.{any_below}
-use Rattle.definitions.specs.Graph.{slot_limit, Graph, is_vertex}
-use Rattle.definitions.specs.Rule.{Rule}
-use Rattle.definitions.specs.Match.{image_of}
+use Rattle.definitions.specs.Lists.{any_below, tabulate, padded}
+use Rattle.definitions.specs.Graph.{slot_limit, slot_count, stored_count, Graph, graph_of, is_vertex}
+use Rattle.definitions.specs.Rule.{source_count, Rule}
+use Rattle.definitions.specs.Match.{image_of, places_of}
 use Rattle.definitions.specs.Rewriting.{goes, is_removed, stays}
-use Rattle.laws.proofs.Lists.{decided, and_left, and_right, any_below-found, any_below_some}
+use Rattle.laws.proofs.Lists.{decided, length-tabulate, get_or_tabulate, and_left, and_right, any_below-found, any_below_some}
 use Rattle.laws.proofs.Tests.{same_tests}
-use Rattle.laws.proofs.Builds.{get_or_none}
+use Rattle.laws.proofs.Padded.{length-padded, padded-at}
 use Rattle.laws.proofs.Rewriting.{removed_image, image_removed}
+use Rattle.laws.proofs.Match.{image-at}
 use Rattle.laws.specs.Marked.{Marked}
+use Rattle.rule_fields.specs.Fixed.{fixed_of}
+use Rattle.new_removal.specs.Removal.{Removable, goes_by}
+use Rattle.new_removal.proofs.Laws.{goes-counted}
 
 -- ---- marks
 
-pub marks_none : (n : ℕ) → Marked (λ k. false) n (replicate 512 false)
-marks_none n = record { size = length-replicate 512 false; each = λ k l. get_or_none 512 k false }
+-- the marks of the first n slots, and the others are not marked
+pub marks_of : (f : ℕ → Bool) (n : ℕ) → n ≤ slot_limit → Marked f n (padded slot_limit false (tabulate n f))
+marks_of f n l = record {
+  size = length-padded false slot_limit (tabulate n f) (rw (length-tabulate n f) l);
+  each = λ k below. padded-at false slot_limit (tabulate n f) k ∙ get_or_tabulate n f k false below;
+}
 
 pub marks_same : {f h : ℕ → Bool} {n : ℕ} {marks : List Bool} → ((k : ℕ) → k < n → f k ≡ h k) → Marked f n marks → Marked h n marks
 marks_same e m = record { size = m.size; each = λ k l. m.each k l ∙ e k l }
@@ -41,43 +49,7 @@ marks_put {marks = marks} u l t e m = record {
       (decided (eqb k u));
 }
 
--- ---- the slots that are Empty as the block came
-
--- an Empty slot below k
-pub empty_below : Graph → ℕ → ℕ → Bool
-empty_below g k i = ltb i k && not (is_vertex g i)
-
-pub empty_none : (g : Graph) (i : ℕ) → false ≡ empty_below g 0 i
-unfolding empty_below
-empty_none g i = simp (le-ltb i 0 (omega arith))
-
-module _ (g : Graph) (k : ℕ) where
-  other_empty : (i : ℕ) → (i ≡ k → ⊥) → empty_below g k i ≡ empty_below g (k + 1) i
-  unfolding empty_below
-  other_empty i h = ⊎_elim
-      (λ (t : ltb i k ≡ true). simp (t, lt-ltb i (k + 1) (omega (arith, ltb-true i k t))))
-      (λ (t : ltb i k ≡ false). simp (t, le-ltb i (k + 1) (omega (arith, ltb-false i k t, h))))
-      (decided (ltb i k))
-
-  pub empty_more : {n : ℕ} {marks : List Bool} → k < slot_limit → is_vertex g k ≡ false → Marked (empty_below g k) n marks
-      → Marked (empty_below g (k + 1)) n (set marks k true)
-  unfolding empty_below
-  empty_more l t m = marks_put k l (simp (t, lt-ltb k (k + 1) (omega arith))) other_empty m
-
-  pub empty_pass : {n : ℕ} {marks : List Bool} → is_vertex g k ≡ true → Marked (empty_below g k) n marks
-      → Marked (empty_below g (k + 1)) n marks
-  unfolding empty_below
-  empty_pass t m = marks_same
-      (λ i l. ⊎_elim
-      (λ (s : eqb i k ≡ true). rw (eqb-true i k s) (simp (t, and-false)))
-      (λ (s : eqb i k ≡ false). other_empty i (eqb-false i k s))
-      (decided (eqb i k))) m
-
-  pub empty_all : (i : ℕ) → i < k → empty_below g k i ≡ not (is_vertex g i)
-  unfolding empty_below
-  empty_all i l = simp (lt-ltb i k l)
-
--- ---- and those that the removal leaves Empty
+-- ---- the slots that the removal leaves Empty
 
 -- slot i is the image of source vertex j, and goes
 abbrev freed : Graph → Rule → List ℕ → ℕ → ℕ → Bool
@@ -127,3 +99,30 @@ module _ (g : Graph) (r : Rule) (images : List ℕ) where
       (λ (t : is_vertex g i ≡ true). simp (t, not-not))
       (λ (t : is_vertex g i ≡ false). simp t)
       (decided (is_vertex g i)))
+
+-- ---- the image of source vertex j, which the code reads as v
+module _ (graph rule images : List ℕ) (removable : Removable graph rule images) (j v : ℕ) (l : j < source_count rule)
+    (e : v ≡ get_or images j 0) where
+  pub image_same : v ≡ image_of images j
+  image_same = e ∙ sym (image-at images j (omega (arith, removable.image_size, removable.patterns.readable.whole.source)))
+
+  pub image_inside : v < slot_count graph
+  image_inside = rw image_same (removable.slots j l)
+
+  goes-so : {places : ℕ} {b : Bool} → places ≡ places_of (fixed_of rule) j → goes_by (fixed_of rule) j (stored_count graph v) places ≡ b
+      → goes (graph_of graph) (fixed_of rule) images j ≡ b
+  goes-so {places} counted t = sym (goes-counted graph rule images removable j l v places image_same counted) ∙ t
+
+  -- the turn marks it where it goes,
+  pub turn_put : {n places : ℕ} {marks : List Bool} → places ≡ places_of (fixed_of rule) j
+      → goes_by (fixed_of rule) j (stored_count graph v) places ≡ true
+      → Marked (free_below (graph_of graph) (fixed_of rule) images j) n marks
+      → Marked (free_below (graph_of graph) (fixed_of rule) images (j + 1)) n (set marks v true)
+  turn_put counted t = free_put (graph_of graph) (fixed_of rule) images j v image_same (omega (arith, image_inside, removable.table.slots)) (goes-so counted t)
+
+  -- and changes nothing where it stays
+  pub turn_pass : {n places : ℕ} {marks : List Bool} → places ≡ places_of (fixed_of rule) j
+      → goes_by (fixed_of rule) j (stored_count graph v) places ≡ false
+      → Marked (free_below (graph_of graph) (fixed_of rule) images j) n marks
+      → Marked (free_below (graph_of graph) (fixed_of rule) images (j + 1)) n marks
+  turn_pass counted t = free_pass (graph_of graph) (fixed_of rule) images j (goes-so counted t)

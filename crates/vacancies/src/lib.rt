@@ -10,9 +10,9 @@ ghost use Rattle.new_removal.specs.Removal.{Removable};
 ghost use Rattle.laws.specs.Marked.{Marked};
 
 use definitions::{KIND_EMPTY, SIDE_CAPACITY, SLOT_LIMIT};
-use fields::widened;
 use graph_fields::{kind_of, slot_count};
 use new_removal::image_goes;
+use padding::padded;
 use rule_fields::source_count;
 use rule_uses::count_places;
 
@@ -22,15 +22,7 @@ fn mark_empty(graph: &[u8]) -> [bool; SLOT_LIMIT]
     ensures { Marked (λ k. not (is_vertex (graph_of graph.now) k)) (slot_count graph.now) result }
 {
     let slots = slot_count(graph);
-    let mut free = [false; SLOT_LIMIT];
-    let mut k = 0;
-    while k < slots {
-        if kind_of(graph, k) == KIND_EMPTY {
-            free[k] = true;
-        }
-        k += 1;
-    }
-    free
+    padded(slots, false, |k| kind_of(graph, k) == KIND_EMPTY)
 }
 
 // Marks the slots that are Empty after the removal: the images that go too.
@@ -42,13 +34,11 @@ pub fn find_free(graph: &[u8], rule: &[u8], images: &[u16; SIDE_CAPACITY]) -> [b
     let vertices = source_count(rule);
     let places = count_places(rule);
     let mut free = mark_empty(graph);
-    let mut j = 0;
-    while j < vertices {
-        let image = widened(images[j]);
+    for j in 0..vertices {
+        let image = usize::from(images[j]);
         if image_goes(graph, rule, &places, j, image) {
             free[image] = true;
         }
-        j += 1;
     }
     free
 }

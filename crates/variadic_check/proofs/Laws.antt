@@ -9,10 +9,9 @@ use native.Mathlib.Omega.{arith}
 use borrow.Author.Tests.{leb-true, ltb-true, ltb-false, eqb-true, ne_eqb, not-false, lt-ltb, le-ltb}
 use lib.Dec.{eqb, leb, ltb}
 use lib.ListN.{length}
-use Rattle.definitions.specs.declared.Reply.{Reply}
 use Rattle.definitions.specs.Lists.{lowest}
 use Rattle.definitions.specs.Fields.{byte_at, u16_at}
-use Rattle.definitions.specs.Reply.{bad_rule_header, bad_rule_record, bad_rule_order, bad_rule_outputs, bad_rule_expression, done, refused_at, refused, flag, place, judged}
+use Rattle.definitions.specs.Reply.{Reply, bad_rule_header, bad_rule_record, bad_rule_order, bad_rule_outputs, bad_rule_expression, done, refused_at, refused, flag, place, judged}
 use Rattle.definitions.specs.Rule.{side_limit, node_limit, source_count, target_count, node_count, vertex_at, node_at, rule_of, rule_sizes_fit, pattern_fits, source_inputs_fit, target_inputs_fit, bad_vertex, bad_vertex_of, out_of_order, outputs_fit, rule_header_fits}
 use Rattle.definitions.specs.VariadicBlock.{variadic_version, is_variadic, variadic_of, variadic_header_fits, source_templates_fit, target_templates_fit, bad_variadic_vertex, shared_outputs, bad_variadic_node, bad_variadic_use, variadic_faults}
 use Rattle.laws.proofs.Lists.{decided, and_left, needed, lowest_passed, lowest-found, lowest_none, lowest-holds, lowest-whole}

@@ -9,10 +9,7 @@ ghost use Rattle.variadic_plain.specs.Plain.{plain_block};
 ghost use Rattle.variadic_check.specs.Faults.{block_faults};
 
 use definitions::{NODE_BYTES, NODE_LIMIT, PATTERN_BYTES, RULE_HEADER_BYTES, Reply, SIDE_LIMIT};
-use reply::{
-    BAD_RULE_EXPRESSION, BAD_RULE_HEADER, BAD_RULE_ORDER, BAD_RULE_OUTPUTS, BAD_RULE_RECORD,
-    refuse, refuse_at,
-};
+use reply::{Reason, refuse, refuse_at};
 use rule_fields::{node_count, source_count, target_count};
 use rule_order::first_misplaced;
 use rule_outputs::outputs_fit;
@@ -45,27 +42,27 @@ fn check_parts(rule: &[u8], plain: &[u8]) -> Reply
     // Templates are looked at below the first vertex that is bad without them.
     let unfit = bad_templates(rule, bad_vertex(plain));
     if unfit < vertices {
-        return refuse_at(BAD_RULE_RECORD, unfit as u32);
+        return refuse_at(Reason::BadRuleRecord, unfit as u32);
     }
     let misplaced = first_misplaced(plain);
     if misplaced < sources {
-        return refuse_at(BAD_RULE_ORDER, misplaced as u32);
+        return refuse_at(Reason::BadRuleOrder, misplaced as u32);
     }
     if !outputs_fit(plain) {
-        return refuse(BAD_RULE_OUTPUTS);
+        return refuse(Reason::BadRuleOutputs);
     }
     if !shared_outputs(rule) {
-        return refuse(BAD_RULE_OUTPUTS);
+        return refuse(Reason::BadRuleOutputs);
     }
     let node = bad_node(rule);
     if node < node_count(rule) {
-        return refuse_at(BAD_RULE_EXPRESSION, node as u32);
+        return refuse_at(Reason::BadRuleExpression, node as u32);
     }
     let user = bad_use(rule);
     if user < vertices {
-        return refuse_at(BAD_RULE_EXPRESSION, user as u32);
+        return refuse_at(Reason::BadRuleExpression, user as u32);
     }
-    Reply::Done(0)
+    Ok(0)
 }
 
 // The reply for any bytes as a version 2 rule block, as far as they are looked at as they stand.
@@ -73,7 +70,7 @@ pub fn check_block(rule: &[u8]) -> Reply
     ensures { result ≡ judged (block_faults rule.now) }
 {
     if !header_fits(rule) {
-        return refuse(BAD_RULE_HEADER);
+        return refuse(Reason::BadRuleHeader);
     }
     let mut plain = blank_rule();
     let size = rule.len();

@@ -16,15 +16,19 @@ pub const VARIADIC_VERSION: usize = 2;
 pub const TEMPLATE_MARK: usize = 128;
 // What byte 15 holds where the target has no named Tuple.
 pub const NO_TUPLE: usize = 255;
+// The most fields that the named Tuple may stand for, and so the highest index.
+pub const FIELD_LIMIT: usize = 6;
+// The forms of an expression node of version 2 alone.
+pub const FORM_INDEX: usize = 8;
+
+pub const FORM_SUM: usize = 9;
 
 // Whether the block has version 2; one that ends before its version has none.
+#[tactic(auto, unfolding(definitions::specs::VariadicBlock::is_variadic))]
 pub fn is_variadic(rule: &[u8]) -> bool
     ensures { result ≡ is_variadic rule.now }
 {
-    if rule.len() < 6 {
-        return false;
-    }
-    u16_at(rule, 4) == VARIADIC_VERSION
+    6 <= rule.len() && u16_at(rule, 4) == VARIADIC_VERSION
 }
 
 // Whether vertex v is marked as a template. A number past the last vertex may name a byte past the block, and that has no mark.
@@ -33,10 +37,7 @@ pub fn is_marked(rule: &[u8], v: usize) -> bool
     ensures { result ≡ marked rule.now v }
 {
     let at = RULE_HEADER_BYTES + PATTERN_BYTES * v;
-    if rule.len() <= at {
-        return false;
-    }
-    TEMPLATE_MARK <= byte_at(rule, at)
+    at < rule.len() && TEMPLATE_MARK <= byte_at(rule, at)
 }
 
 // Whether byte 14 names a source vertex, and byte 15 a target vertex or none.
@@ -45,37 +46,20 @@ fn tuples_fit(rule: &[u8]) -> bool
     ensures { result ≡ (ltb (byte_at rule.now 14) (source_count rule.now)
         && (eqb (byte_at rule.now 15) no_tuple || ltb (byte_at rule.now 15) (target_count rule.now))) }
 {
-    if source_count(rule) <= byte_at(rule, 14) {
-        return false;
-    }
     let tuple = byte_at(rule, 15);
-    if tuple == NO_TUPLE {
-        return true;
-    }
-    tuple < target_count(rule)
+    byte_at(rule, 14) < source_count(rule) && (tuple == NO_TUPLE || tuple < target_count(rule))
 }
 
 // Whether the length and the header are right.
+#[tactic(auto, unfolding(definitions::specs::VariadicBlock::variadic_header_fits, definitions::specs::Rule::rule_sizes_fit))]
 pub fn header_fits(rule: &[u8]) -> bool
     ensures { result ≡ variadic_header_fits rule.now }
 {
-    if rule.len() < RULE_HEADER_BYTES {
-        return false;
-    }
-    if !length_fits(rule) {
-        return false;
-    }
-    if !has_mark(rule, RULE_LETTER) {
-        return false;
-    }
-    if !is_variadic(rule) {
-        return false;
-    }
-    if !sizes_fit(rule, SIDE_LIMIT) {
-        return false;
-    }
-    if !output_places_fit(rule) {
-        return false;
-    }
-    tuples_fit(rule)
+    RULE_HEADER_BYTES <= rule.len()
+        && length_fits(rule)
+        && has_mark(rule, RULE_LETTER)
+        && is_variadic(rule)
+        && sizes_fit(rule, SIDE_LIMIT)
+        && output_places_fit(rule)
+        && tuples_fit(rule)
 }

@@ -4,7 +4,7 @@ use mathlib.Core.Path.{◌≡◌, refl}
 use mathlib.Core.Bool.{true, false, cond}
 use mathlib.Core.List.{List, [], ◌∷◌}
 use mathlib.Core.Logic.{⊎_elim}
-use Prim.Native.Nat.{ℕ, suc, ◌+◌, ◌-◌, ◌*◌, ◌/◌, ◌%◌, ◌<◌, ◌≤◌}
+use Prim.Native.Nat.{ℕ, suc, ◌+◌, ◌-◌, ◌/◌, ◌%◌, ◌<◌, ◌≤◌}
 use native.Mathlib.Omega.{arith}
 use native.Mathlib.Nat.{mul-le-mul, div-lt_iff_lt-mul, mod-lt}
 use borrow.Author.Tests.{lt-ltb, le-ltb, eq-eqb, ne_eqb, eqb-true, eqb-false}
@@ -12,14 +12,14 @@ use lib.Dec.{eqb}
 use lib.ListN.{length, get_or}
 use Rattle.definitions.specs.Fields.{byte_at}
 use Rattle.definitions.specs.Graph.{input_limit}
-use Rattle.definitions.specs.Rule.{form_sum, rule_output_count, vertex_at, node_form}
+use Rattle.definitions.specs.Rule.{rule_output_count, vertex_at}
 use Rattle.definitions.specs.Variadic.{original, copy_index}
 use Rattle.definitions.specs.VariadicBlock.{template_mark, field_limit}
 use Rattle.laws.proofs.Lists.{decided}
 use Rattle.variadic_order.specs.Sides.{place_count, place_of, side_copy, field_count, field_place, field_index}
 use Rattle.variadic_order.specs.Visits.{SideCopy}
 use Rattle.variadic_order.proofs.Fields.{tuple-count, other_count}
-use Rattle.variadic_layout.specs.Terms.{term_of}
+use Rattle.variadic_terms.specs.Terms.{term_of}
 use Rattle.variadic_layout.specs.Bytes.{unused_byte, number_from, block_byte, head_byte, place_number, output_byte, field_number, record_byte, attribute_term, table_byte, header_bytes}
 use Rattle.variadic_layout.specs.Written.{CopyOf, PlaceLayout}
 
@@ -120,15 +120,6 @@ module _ (block : List ℕ) (first n c b : ℕ) where
       → table_byte block first n c b ≡ term_of block n (block_byte block first c (10 + b / 2)) (copy_index c) / 256
   unfolding table_byte attribute_term
   table_high l e = rw (lt-ltb (b / 2) (block_byte block first c 3) l, ne_eqb (b % 2) 0 e)
-
-module _ (block : List ℕ) (n k i : ℕ) where
-  pub term_sum : node_form block k ≡ form_sum → term_of block n k i ≡ k * (n + 1) + n
-  unfolding term_of
-  term_sum e = rw (eq-eqb (node_form block k) form_sum e)
-
-  pub term_other : (node_form block k ≡ form_sum → ⊥) → term_of block n k i ≡ k * (n + 1) + i
-  unfolding term_of
-  term_other e = rw (ne_eqb (node_form block k) form_sum e)
 
 -- ---- copies
 

@@ -18,7 +18,7 @@ use Rattle.laws.proofs.Lists.{decided}
 use Rattle.rule_fields.specs.Fixed.{is_expanded, nodes_in, expression_in, attribute_place_bytes, table_at, attribute_node, attribute_of_fixed}
 use Rattle.rule_fields.proofs.Fixed.{attribute_expression}
 use Rattle.variadic_order.specs.Sides.{place_count, place_of, field_count, field_place, field_index}
-use Rattle.variadic_layout.specs.Terms.{term_of}
+use Rattle.variadic_terms.specs.Terms.{term_of}
 use Rattle.variadic_layout.specs.Bytes.{block_byte, head_byte, field_number, record_byte, attribute_term, table_byte}
 use Rattle.variadic_layout.specs.Written.{CopyOf}
 use Rattle.variadic_layout.specs.Laid.{TermsIn}

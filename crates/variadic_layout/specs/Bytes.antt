@@ -9,7 +9,7 @@ use Rattle.definitions.specs.Variadic.{original, copy_index}
 use Rattle.definitions.specs.VariadicBlock.{template_mark}
 use Rattle.rule_fields.specs.Fixed.{expanded_version}
 use Rattle.variadic_order.specs.Sides.{side_copy, field_count, field_place, field_index}
-use Rattle.variadic_layout.specs.Terms.{term_of}
+use Rattle.variadic_terms.specs.Terms.{term_of}
 
 -- what an unused place holds
 abbrev pub unused_byte : ℕ

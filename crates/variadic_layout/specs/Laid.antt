@@ -8,7 +8,7 @@ use Rattle.definitions.specs.Rule.{rule_header_bytes, pattern_bytes, node_bytes,
 use Rattle.definitions.specs.Variadic.{target_names, source_order, target_order, source_number, seen}
 use Rattle.definitions.specs.VariadicBlock.{expanded_limit, variadic_of}
 use Rattle.rule_fields.specs.Fixed.{fixed_node_limit, expression_in, attribute_place_bytes, table_at}
-use Rattle.variadic_layout.specs.Terms.{term_of}
+use Rattle.variadic_terms.specs.Terms.{term_of}
 use Rattle.variadic_layout.specs.Bytes.{output_byte, record_byte, table_byte, header_bytes}
 
 -- a layout of 64 vertices a side and of all the nodes that 64 nodes can give fits

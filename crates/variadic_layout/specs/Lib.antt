@@ -1,4 +1,3 @@
-pub mod Terms
 pub mod Bytes
 pub mod Written
 pub mod Laid

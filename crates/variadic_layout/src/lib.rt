@@ -9,32 +9,28 @@ ghost use Rattle.definitions.specs.VariadicBlock.{field_limit, expanded_limit, v
 ghost use Rattle.rule_fields.specs.Fixed.{attribute_place_bytes};
 ghost use Rattle.variadic_order.specs.Order.{Ordered};
 ghost use Rattle.variadic_order.specs.Sides.{field_count, field_place};
-ghost use Rattle.variadic_layout.specs.Terms.{term_of};
 ghost use Rattle.variadic_layout.specs.Bytes.{number_from, head_byte, table_byte};
 ghost use Rattle.variadic_layout.specs.Written.{BlockLayout, CopyOf, Numbers, PlaceLayout, Written};
 ghost use Rattle.variadic_layout.specs.Parts.{part_place, part_output, part_field, part_record, part_header, Numbered, PartCopy, PartCopies, PartOutputs, source_part, target_part};
 ghost use Rattle.variadic_layout.specs.Laid.{layout_bytes, Laid};
 
-use definitions::{
-    NODE_BYTES, NODE_LIMIT, PATTERN_BYTES, RULE_HEADER_BYTES, RULE_LETTER, TARGET_BASE,
-};
+use definitions::{NODE_BYTES, NODE_LIMIT, PATTERN_BYTES, RULE_HEADER_BYTES, RULE_LETTER};
 use fields::byte_at;
-use rule_fields::{
-    ATTRIBUTE_PLACE_BYTES, EXPANDED_VERSION, node_count, output_count, source_count, target_count,
-};
+use rule_fields::{ATTRIBUTE_PLACE_BYTES, EXPANDED_VERSION, node_count, output_count};
+use variadic_header::{FIELD_LIMIT, TEMPLATE_MARK};
 use variadic_order::{
-    COPIES, COPY_STRIDE, EXPANDED_LIMIT, Side, TEMPLATE_MARK, copy_of, field_count, side_byte,
+    COPIES, COPY_STRIDE, EXPANDED_LIMIT, Side, copy_of, field_count, side_byte, source_side,
+    target_side,
 };
+use variadic_terms::term_of;
 use writing::copy;
 
-// A node of the block gives so many nodes at most, one for each index from 0 to 6.
-const TERM_LIMIT: usize = 7;
+// A node of the block gives so many nodes at most, one for each index from 0 to the highest.
+const TERM_LIMIT: usize = FIELD_LIMIT + 1;
 // The bytes of the largest layout.
 pub const LAYOUT_BYTES: usize = RULE_HEADER_BYTES
     + (PATTERN_BYTES + ATTRIBUTE_PLACE_BYTES) * 2 * EXPANDED_LIMIT
     + NODE_BYTES * NODE_LIMIT * TERM_LIMIT;
-// A node of this form is a sum.
-const FORM_SUM: usize = 9;
 // What an unused place holds.
 const UNUSED_BYTE: usize = 255;
 // Where the block's source outputs start, and its target outputs.
@@ -186,34 +182,12 @@ fn write_records(
     ensures { Written at (pattern_bytes * part.count) (λ m. part_record rule.now part inputs.now
         numbers.now n (get_or copies.now (m / pattern_bytes) 0) (m % pattern_bytes)) made.old made.new }
 {
-    let size = PATTERN_BYTES * part.count;
-    let mut m = 0;
-    while m < size {
+    for m in 0..PATTERN_BYTES * part.count {
         let j = m / PATTERN_BYTES;
         let c = copies[j] as usize;
         let byte = record_byte(rule, part, n, c, m % PATTERN_BYTES, inputs, numbers);
         made[at + m] = byte as u8;
-        m += 1;
     }
-}
-
-// The node that is the block's node k where the index is `index`; a sum is the same for every index.
-fn term_of(rule: &[u8], n: usize, k: usize, index: usize) -> usize
-    requires k_in_bounds { node_at rule.now (k + 1) ≤ length rule.now }
-    requires k_lt_node_limit { k < node_limit }
-    requires n_le_field_limit { n ≤ field_limit }
-    requires index_le_field_limit { index ≤ field_limit }
-    ensures { (result ≡ term_of rule.now n k index) × (result < 512) }
-{
-    let vertices = source_count(rule) + target_count(rule);
-    let form = byte_at(
-        rule,
-        RULE_HEADER_BYTES + PATTERN_BYTES * vertices + NODE_BYTES * k,
-    );
-    if form == FORM_SUM {
-        return k * (n + 1) + n;
-    }
-    k * (n + 1) + index
 }
 
 // Byte b of the row of copy c in the table: two bytes for each attribute, the lower one first.
@@ -250,14 +224,11 @@ fn write_table(
     ensures { Written at (attribute_place_bytes * part.count) (λ m. table_byte rule.now part.side.first n
         (get_or copies.now (m / attribute_place_bytes) 0) (m % attribute_place_bytes)) made.old made.new }
 {
-    let size = ATTRIBUTE_PLACE_BYTES * part.count;
-    let mut m = 0;
-    while m < size {
+    for m in 0..ATTRIBUTE_PLACE_BYTES * part.count {
         let j = m / ATTRIBUTE_PLACE_BYTES;
         let c = copies[j] as usize;
         let byte = table_byte(rule, part.side, n, c, m % ATTRIBUTE_PLACE_BYTES);
         made[at + m] = byte as u8;
-        m += 1;
     }
 }
 
@@ -328,11 +299,7 @@ fn source_part(rule: &[u8], sources: usize) -> Part
     ensures { result ≡ source_part rule.now sources }
 {
     Part {
-        side: Side {
-            first: 0,
-            base: 0,
-            tuple: byte_at(rule, 14),
-        },
+        side: source_side(rule),
         split: 0,
         inputs: sources,
         count: sources,
@@ -345,11 +312,7 @@ fn target_part(rule: &[u8], sources: usize, targets: usize) -> Part
     ensures { result ≡ target_part rule.now sources targets }
 {
     Part {
-        side: Side {
-            first: source_count(rule),
-            base: TARGET_BASE,
-            tuple: byte_at(rule, 15),
-        },
+        side: target_side(rule),
         split: EXPANDED_LIMIT,
         inputs: sources,
         count: targets,

@@ -14,6 +14,7 @@ use Rattle.definitions.specs.Rule.{node_limit, node_count, Expression, anything,
 use Rattle.definitions.specs.VariadicBlock.{variadic_of, needs_index, variadic_node_fits, bad_variadic_node}
 use Rattle.laws.proofs.Lists.{decided, needed, lowest_passed}
 use Rattle.laws.proofs.Builds.{build_more, get_or_padded, map-build}
+use Rattle.rule_nodes.proofs.Operands.{left-earlier, right-earlier}
 use Rattle.variadic_nodes.specs.Needs.{needs_from, NeedsKnown, VariadicFaultless}
 
 module _ (block : List ℕ) where
@@ -30,9 +31,17 @@ module _ (block : List ℕ) where
         needed (leb (node_form block k) form_remainder) fits
         (λ f. simp (f, ne_eqb (node_form block k) form_index no_index, ne_eqb (node_form block k) form_sum no-sum, and-false))
 
-    pub fixed-fits : (node_form block k ≡ form_index → ⊥) → (node_form block k ≡ form_sum → ⊥) → node_fits block k ≡ true
+    pub fixed_fits : (node_form block k ≡ form_index → ⊥) → (node_form block k ≡ form_sum → ⊥) → node_fits block k ≡ true
     unfolding variadic_node_fits
-    fixed-fits no_index no-sum = simp (fixed-form no_index no-sum) at fits
+    fixed_fits no_index no-sum = simp (fixed-form no_index no-sum) at fits
+
+    -- the operands of an operation stand before it
+    module _ (operation : form_access < node_form block k) (no_index : node_form block k ≡ form_index → ⊥) (no-sum : node_form block k ≡ form_sum → ⊥) where
+      pub fixed_left : node_left block k < k
+      fixed_left = left-earlier block k (fixed_fits no_index no-sum) operation
+
+      pub fixed_right : node_right block k < k
+      fixed_right = right-earlier block k (fixed_fits no_index no-sum) operation
 
     pub summed_earlier : node_form block k ≡ form_sum → node_left block k < k
     unfolding variadic_node_fits operand_fits

@@ -10,20 +10,19 @@ ghost use Rattle.rule_fields.specs.Layout.{LentRule, ReadableRule};
 ghost use Rattle.rule_accesses.specs.Access.{top_from, TopsKnown};
 ghost use Rattle.variadic_nodes.specs.Needs.{needs_from, NeedsKnown, VariadicFaultless};
 
-use definitions::{FORM_ACCESS, FORM_REMAINDER, NODE_LIMIT, PATTERN_BYTES, RULE_HEADER_BYTES};
+use definitions::{
+    FORM_ACCESS, FORM_ANY, FORM_CONSTANT, FORM_REMAINDER, NODE_LIMIT, PATTERN_BYTES,
+    RULE_HEADER_BYTES,
+};
 use fields::byte_at;
 use rule_accesses::{node_top, use_fits};
 use rule_expressions::{node_fits, number_unused, operand_fits};
 use rule_fields::{node_count, source_count, target_count};
 use rule_nodes::{node_byte, node_form};
-use variadic_header::is_marked;
-
-// The forms of version 2 alone.
-pub const FORM_INDEX: usize = 8;
-
-pub const FORM_SUM: usize = 9;
+use variadic_header::{FORM_INDEX, FORM_SUM, is_marked};
 
 // Whether node k has a form, its used fields in range, and its unused fields zero.
+#[tactic(auto, unfolding(definitions::specs::VariadicBlock::variadic_node_fits))]
 fn variadic_node_fits(rule: &[u8], k: usize) -> bool
     requires lent_rule { LentRule rule.now }
     requires k_bound { k < node_count rule.now }
@@ -33,23 +32,15 @@ fn variadic_node_fits(rule: &[u8], k: usize) -> bool
     if form <= FORM_REMAINDER {
         return node_fits(rule, k);
     }
-    if node_byte(rule, k, 3) != 0 {
-        return false;
-    }
-    if !number_unused(rule, k) {
-        return false;
-    }
-    if node_byte(rule, k, 2) != 0 {
-        return false;
-    }
     let left = node_byte(rule, k, 1);
-    if form == FORM_INDEX {
-        return left == 0;
-    }
-    if form != FORM_SUM {
-        return false;
-    }
-    operand_fits(rule, k, left)
+    node_byte(rule, k, 3) == 0
+        && number_unused(rule, k)
+        && node_byte(rule, k, 2) == 0
+        && match form {
+            FORM_INDEX => left == 0,
+            FORM_SUM => operand_fits(rule, k, left),
+            _ => false,
+        }
 }
 
 // The lowest node with a fault, or the number of nodes.
@@ -58,32 +49,24 @@ pub fn bad_node(rule: &[u8]) -> usize
     ensures { result ≡ lowest (bad_variadic_node rule.now) (node_count rule.now) }
 {
     let nodes = node_count(rule);
-    let mut k = 0;
-    while k < nodes {
-        if !variadic_node_fits(rule, k) {
-            return k;
-        }
-        k += 1;
-    }
-    nodes
+    (0..nodes)
+        .find(|&k| !variadic_node_fits(rule, k))
+        .unwrap_or(nodes)
 }
 
 // The top of node k, as of version 1: one more than the highest source vertex that it accesses, through sums too.
+#[tactic(auto, using(crate::proofs::Laws::fixed_fits, crate::proofs::Laws::summed_earlier), unfolding(rule_accesses::specs::Access::top_from))]
 fn variadic_top(rule: &[u8], k: usize, tops: &[usize; NODE_LIMIT]) -> usize
     requires lent_rule { LentRule rule.now }
     requires k_bound { k < node_count rule.now }
     requires k_value { variadic_node_fits rule.now k ≡ true }
     ensures { result ≡ top_from rule.now tops.now k }
 {
-    let form = node_form(rule, k);
-    if form == FORM_INDEX {
-        return 0;
+    match node_form(rule, k) {
+        FORM_INDEX => 0,
+        FORM_SUM => tops[node_byte(rule, k, 1)],
+        _ => node_top(rule, k, tops),
     }
-    if form == FORM_SUM {
-        let left = node_byte(rule, k, 1);
-        return tops[left];
-    }
-    node_top(rule, k, tops)
 }
 
 // The top of every node, each found once, from those of its operands.
@@ -92,44 +75,29 @@ fn variadic_tops(rule: &[u8]) -> [usize; NODE_LIMIT]
     requires variadic_faultless { VariadicFaultless rule.now }
     ensures { TopsKnown rule.now result }
 {
-    let nodes = node_count(rule);
     let mut tops = [0usize; NODE_LIMIT];
-    let mut k = 0;
-    while k < nodes {
-        let top = variadic_top(rule, k, &tops);
-        tops[k] = top;
-        k += 1;
+    for k in 0..node_count(rule) {
+        tops[k] = variadic_top(rule, k, &tops);
     }
     tops
 }
 
 // Whether node k needs the index: whether the index, or a template's attribute, stands in it outside of every sum. `needs` has that of the
 // earlier nodes.
+#[tactic(auto, using(crate::proofs::Laws::fixed_left, crate::proofs::Laws::fixed_right), unfolding(crate::specs::Needs::needs_from))]
 fn needs_index(rule: &[u8], k: usize, needs: &[bool; NODE_LIMIT]) -> bool
     requires lent_rule { LentRule rule.now }
     requires k_bound { k < node_count rule.now }
     requires k_value { variadic_node_fits rule.now k ≡ true }
     ensures { result ≡ needs_from rule.now needs.now k }
 {
-    let form = node_form(rule, k);
     let left = node_byte(rule, k, 1);
-    let right = node_byte(rule, k, 2);
-    if form < FORM_ACCESS {
-        return false;
+    match node_form(rule, k) {
+        FORM_ANY | FORM_CONSTANT | FORM_SUM => false,
+        FORM_ACCESS => is_marked(rule, left),
+        FORM_INDEX => true,
+        _ => needs[left] || needs[node_byte(rule, k, 2)],
     }
-    if form == FORM_ACCESS {
-        return is_marked(rule, left);
-    }
-    if form == FORM_INDEX {
-        return true;
-    }
-    if form == FORM_SUM {
-        return false;
-    }
-    if needs[left] {
-        return true;
-    }
-    needs[right]
 }
 
 // Whether each node needs the index, each found once, from those of its operands.
@@ -138,18 +106,15 @@ fn index_needs(rule: &[u8]) -> [bool; NODE_LIMIT]
     requires variadic_faultless { VariadicFaultless rule.now }
     ensures { NeedsKnown rule.now result }
 {
-    let nodes = node_count(rule);
     let mut needs = [false; NODE_LIMIT];
-    let mut k = 0;
-    while k < nodes {
-        let need = needs_index(rule, k, &needs);
-        needs[k] = need;
-        k += 1;
+    for k in 0..node_count(rule) {
+        needs[k] = needs_index(rule, k, &needs);
     }
     needs
 }
 
 // Whether vertex v may use node k as an attribute.
+#[tactic(auto, unfolding(definitions::specs::VariadicBlock::variadic_use_fits, definitions::specs::Rule::use_fits))]
 fn variadic_use_fits(
     rule: &[u8],
     tops: &[usize; NODE_LIMIT],
@@ -163,13 +128,7 @@ fn variadic_use_fits(
     requires needs_known { NeedsKnown rule.now needs.now }
     ensures { result ≡ variadic_use_fits rule.now v k }
 {
-    if !use_fits(rule, tops, v, k) {
-        return false;
-    }
-    if is_marked(rule, v) {
-        return true;
-    }
-    !needs[k]
+    use_fits(rule, tops, v, k) && (is_marked(rule, v) || !needs[k])
 }
 
 // Whether vertex v may use each node that is an attribute of it.
@@ -188,15 +147,7 @@ fn vertex_uses_fit(
 {
     let at = RULE_HEADER_BYTES + PATTERN_BYTES * v;
     let count = byte_at(rule, at + 3);
-    let mut i = 0;
-    while i < count {
-        let k = byte_at(rule, at + 10 + i);
-        if !variadic_use_fits(rule, tops, needs, v, k) {
-            return false;
-        }
-        i += 1;
-    }
-    true
+    (0..count).all(|i| variadic_use_fits(rule, tops, needs, v, byte_at(rule, at + 10 + i)))
 }
 
 // The lowest vertex that uses a node wrongly, or the number of vertices.
@@ -209,12 +160,7 @@ pub fn bad_use(rule: &[u8]) -> usize
     let vertices = source_count(rule) + target_count(rule);
     let tops = variadic_tops(rule);
     let needs = index_needs(rule);
-    let mut v = 0;
-    while v < vertices {
-        if !vertex_uses_fit(rule, &tops, &needs, v) {
-            return v;
-        }
-        v += 1;
-    }
-    vertices
+    (0..vertices)
+        .find(|&v| !vertex_uses_fit(rule, &tops, &needs, v))
+        .unwrap_or(vertices)
 }

@@ -2,7 +2,7 @@
 -- Assumes nothing.
 use mathlib.Core.Path.{◌≡◌, refl}
 use mathlib.Core.Bool.{true, false}
-use mathlib.Core.List.{List}
+use mathlib.Core.List.{List, []}
 use mathlib.Core.Logic.{⊎_elim}
 use Prim.Native.Nat.{ℕ, suc, ◌+◌, ◌-◌, ◌*◌, ◌/◌, ◌%◌, ◌<◌, ◌≤◌}
 use native.Mathlib.Omega.{arith}
@@ -14,7 +14,7 @@ use Rattle.definitions.specs.VariadicBlock.{template_mark, field_limit, marked}
 use Rattle.laws.proofs.Lists.{decided}
 use Rattle.variadic_order.specs.Order.{copy_numbers}
 use Rattle.variadic_order.specs.Sides.{place_count, place_of, side_copy, place_names, field_count, field_place, field_index, field_names}
-use Rattle.variadic_order.specs.Visits.{Names}
+use Rattle.variadic_order.specs.Visits.{NamesOne}
 
 -- ---- copies
 
@@ -45,24 +45,19 @@ module _ (block : List ℕ) (first u : ℕ) where
 -- ---- places
 
 module _ (block : List ℕ) (first base : ℕ) where
-  pub names_none : (i p v : ℕ) → p < base → Names (place_names block first base i p) v copy_numbers
+  pub names_none : (i p : ℕ) → p < base → place_names block first base i p ≡ []
   unfolding place_names
-  names_none i p v h = record {
-    none = λ l. rw (lt-ltb p base h);
-    one = λ l. absurd (omega arith);
-    lower = λ l. absurd (omega arith);
-  }
+  names_none i p h = rw (lt-ltb p base h)
 
   pub names_one : (i p v x : ℕ) → base ≤ p → p < base + v → v ≤ side_limit → i ≤ field_limit → x ≡ side_copy block first i (p - base)
-      → Names (place_names block first base i p) v x
+      → NamesOne (place_names block first base i p) v x
   unfolding place_names
   names_one i p v x h l few index e =
       let small : p - base < side_limit = omega arith in
-      let below : x < copy_numbers = rw e (copy_below block first (p - base) i small index) in
       record {
-        none = λ k. absurd (omega arith);
-        one = λ k. rw (le-ltb p base h, e) refl;
-        lower = λ k. rw (e, copy-original block first (p - base) i small) (omega arith);
+        below = rw e (copy_below block first (p - base) i small index);
+        one = rw (le-ltb p base h, e) refl;
+        lower = rw (e, copy-original block first (p - base) i small) (omega arith);
       }
 
   -- ---- fields, of the named Tuple and of another copy

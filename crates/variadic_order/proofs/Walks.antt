@@ -15,7 +15,7 @@ use Rattle.definitions.specs.Variadic.{original}
 use Rattle.definitions.specs.VariadicBlock.{expanded_limit}
 use Rattle.variadic_order.specs.Order.{copy_numbers, Ordered}
 use Rattle.variadic_order.specs.Sides.{field_count, field_names, names_from, side_names}
-use Rattle.variadic_order.specs.Visits.{Visited, Names, Visits, VisitsNames}
+use Rattle.variadic_order.specs.Visits.{Visited, NamesOne, Visits, VisitsNames}
 use Rattle.variadic_order.proofs.Orders.{no_number, some_number, ordered_visited, ordered_more, ordered_full, ordered_longer, visits_longer}
 
 -- ---- numbers from i on
@@ -99,14 +99,18 @@ module _ (block : List ℕ) (first base tuple n : ℕ) where
             ∙ w.higher x (omega arith);
       }
 
+  pub names_visited : {c : ℕ} {copies numbers : List ℕ} {count : ℕ} {copies_after numbers_after : List ℕ} {after : ℕ}
+      → Visits block first base tuple n c copies numbers count copies_after numbers_after after → after ≤ expanded_limit
+      → Visited copies_after numbers_after after
+  names_visited {c} u f = ordered_visited (u.ordered (suc (original c)) (omega arith)) f
+
   -- ---- what a copy names
 
-  module _ (c i named : ℕ) (left : i < field_count block first base tuple n c) (m : Names (field c i) (original c) named)
-      (k : named < copy_numbers) where
+  module _ (c i named : ℕ) (left : i < field_count block first base tuple n c) (m : NamesOne (field c i) (original c) named) where
     one_first : (d : ℕ) (done : List ℕ) → foldl (visit names d) done (names_from block first base tuple n c i)
         ≡ foldl (visit names d) (visit names d done named) (names_from block first base tuple n c (i + 1))
     unfolding foldl
-    one_first d done = rw (names-next c i left, m.one k)
+    one_first d done = rw (names-next c i left, m.one)
 
   module _ (c i : ℕ) {copies numbers : List ℕ} {count : ℕ} where
     pub names-done : i ≡ field_count block first base tuple n c → Visited copies numbers count
@@ -114,32 +118,28 @@ module _ (block : List ℕ) (first base tuple n : ℕ) where
     unfolding foldl
     names-done e v = record { ordered = λ d l. rw (names-end c i e) v.ordered; higher = λ x l. refl }
 
-    module _ (left : i < field_count block first base tuple n c) (named : ℕ) (m : Names (field c i) (original c) named)
-        {copies_after numbers_after : List ℕ} {after : ℕ} where
+    module _ (left : i < field_count block first base tuple n c) {copies_after numbers_after : List ℕ} {after : ℕ} where
       -- the field is a rule input
-      pub names_skipped : copy_numbers ≤ named
+      pub names_skipped : field c i ≡ []
           → VisitsNames block first base tuple n c (i + 1) copies numbers count copies_after numbers_after after
           → VisitsNames block first base tuple n c i copies numbers count copies_after numbers_after after
-      names_skipped k w = record { ordered = λ d l. rw (names-next c i left, m.none k) (w.ordered d l); higher = w.higher }
+      names_skipped none w = record { ordered = λ d l. rw (names-next c i left, none) (w.ordered d l); higher = w.higher }
 
-      module _ (k : named < copy_numbers) where
-        module _ (u : Visits block first base tuple n named copies numbers count copies_after numbers_after after) where
-          pub names_over : expanded_limit < after → VisitsNames block first base tuple n c i copies numbers count copies_after numbers_after after
-          names_over f = record {
-            ordered = λ d l. rw (one_first c i named left m k d (take count copies))
-                (ordered_longer (u.ordered d (omega (arith, m.lower k))) f
-                (visits_longer names d (names_from block first base tuple n c (i + 1)) (visit names d (take count copies) named)));
-            higher = λ x l. u.higher x (omega (arith, m.lower k));
-          }
+      module _ (named : ℕ) (m : NamesOne (field c i) (original c) named)
+          (u : Visits block first base tuple n named copies numbers count copies_after numbers_after after) where
+        pub names_over : expanded_limit < after → VisitsNames block first base tuple n c i copies numbers count copies_after numbers_after after
+        names_over f = record {
+          ordered = λ d l. rw (one_first c i named left m d (take count copies))
+              (ordered_longer (u.ordered d (omega (arith, m.lower))) f
+              (visits_longer names d (names_from block first base tuple n c (i + 1)) (visit names d (take count copies) named)));
+          higher = λ x l. u.higher x (omega (arith, m.lower));
+        }
 
-          pub names_visited : after ≤ expanded_limit → Visited copies_after numbers_after after
-          names_visited f = ordered_visited (u.ordered (suc (original named)) (omega arith)) f
-
-          pub names_passed : {copies_last numbers_last : List ℕ} {last : ℕ} → after ≤ expanded_limit
-              → VisitsNames block first base tuple n c (i + 1) copies_after numbers_after after copies_last numbers_last last
-              → VisitsNames block first base tuple n c i copies numbers count copies_last numbers_last last
-          names_passed f w = record {
-            ordered = λ d l. rw (one_first c i named left m k d (take count copies), ← (u.ordered d (omega (arith, m.lower k))).whole f)
-                (w.ordered d l);
-            higher = λ x l. w.higher x l ∙ u.higher x (omega (arith, m.lower k));
-          }
+        pub names_passed : {copies_last numbers_last : List ℕ} {last : ℕ} → after ≤ expanded_limit
+            → VisitsNames block first base tuple n c (i + 1) copies_after numbers_after after copies_last numbers_last last
+            → VisitsNames block first base tuple n c i copies numbers count copies_last numbers_last last
+        names_passed f w = record {
+          ordered = λ d l. rw (one_first c i named left m d (take count copies), ← (u.ordered d (omega (arith, m.lower))).whole f)
+              (w.ordered d l);
+          higher = λ x l. w.higher x l ∙ u.higher x (omega (arith, m.lower));
+        }

@@ -6,9 +6,17 @@ use Rattle.std.specs.Prelude.{cond, List, [], ◌∷◌, ℕ, suc, ◌+◌, ◌-
 use Rattle.definitions.specs.Lists.{concat_map, range}
 use Rattle.definitions.specs.Fields.{byte_at}
 use Rattle.definitions.specs.Graph.{input_limit}
-use Rattle.definitions.specs.Rule.{side_limit, rule_output_limit, rule_output_count, vertex_at}
+use Rattle.definitions.specs.Rule.{side_limit, target_base, source_count, rule_output_limit, rule_output_count, vertex_at}
 use Rattle.definitions.specs.Variadic.{copy, original, copy_index}
 use Rattle.definitions.specs.VariadicBlock.{marked}
+use Rattle.variadic_order.specs.declared.Side.{Side}
+
+-- the two sides as the code has them: bytes 14 and 15 name the Tuples
+abbrev pub source_side : List ℕ → Side
+source_side block = record { first = 0; base = 0; tuple = byte_at block 14 }
+
+abbrev pub target_side : List ℕ → Side
+target_side block = record { first = source_count block; base = target_base; tuple = byte_at block 15 }
 
 module _ (block : List ℕ) (first : ℕ) where
   -- how many input places vertex u has, and the number that stands in place i of them

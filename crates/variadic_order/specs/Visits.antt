@@ -1,6 +1,6 @@
 -- What a visit of a copy, or of what it names, asks and gives.
 -- Assumes nothing.
-use Rattle.std.specs.Prelude.{◌≡◌, List, [], ◌∷◌, ℕ, ◌+◌, ◌<◌, ◌≤◌, get_or, take}
+use Rattle.std.specs.Prelude.{◌≡◌, List, [], ◌∷◌, ℕ, ◌+◌, ◌<◌, ◌≤◌, get_or, take, Option, MatchOption, unwrap_or}
 use Rattle.definitions.specs.Lists.{foldl}
 use Rattle.definitions.specs.Paths.{visit}
 use Rattle.definitions.specs.Rule.{rule_header_bytes, rule_output_limit}
@@ -31,11 +31,19 @@ pub record Visited (copies numbers : List ℕ) (count : ℕ) : Type 0 where
   pub space : count ≤ expanded_limit
   pub ordered : Ordered (take count copies) copies numbers count
 
--- what a place of vertex v names, as the code tells it: `named` itself, a copy of a lower vertex; or nothing, where `named` is no copy
-pub record Names (names : List ℕ) (v named : ℕ) : Type 0 where
-  pub none : copy_numbers ≤ named → names ≡ []
-  pub one : named < copy_numbers → names ≡ named ∷ []
-  pub lower : named < copy_numbers → original named < v
+-- a place of vertex v names `named` alone, a copy of a lower vertex
+pub record NamesOne (names : List ℕ) (v named : ℕ) : Type 0 where
+  pub below : named < copy_numbers
+  pub one : names ≡ named ∷ []
+  pub lower : original named < v
+
+-- what a place of vertex v names, as the code tells it: a copy of a lower vertex, or nothing
+abbrev pub Names : List ℕ → ℕ → Option ℕ → Type 0
+Names names v named = MatchOption named (names ≡ []) (λ c. NamesOne names v c)
+
+-- how many copies are visited, as the code tells it: where it gives none, one more than a fixed rule may have
+abbrev pub visited_count : Option ℕ → ℕ
+visited_count after = unwrap_or after (expanded_limit + 1)
 
 -- The depth d is the definition's; above c's vertex it is enough, whatever it is. Copies of higher vertices are not visited.
 pub record Visits (block : List ℕ) (first base tuple n c : ℕ) (copies numbers : List ℕ) (count : ℕ)

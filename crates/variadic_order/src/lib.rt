@@ -2,26 +2,25 @@
 // copy once, from the listed outputs. A shared vertex is its own number, and copy i of a template v is v + 16 i.
 #![tactic(auto)]
 
-ghost use Rattle.std.specs.Prelude.{◌≡◌, ◌+◌, ◌*◌, ◌<◌, ◌≤◌, length};
+ghost use Rattle.std.specs.Prelude.{◌≡◌, ◌+◌, ◌*◌, ◌<◌, ◌≤◌, length, IfSome};
 ghost use Rattle.definitions.specs.Graph.{input_limit};
-ghost use Rattle.definitions.specs.Rule.{pattern_bytes, target_base, source_count, target_count, vertex_at};
+ghost use Rattle.definitions.specs.Rule.{rule_header_bytes, pattern_bytes, target_base, source_count, target_count, vertex_at};
 ghost use Rattle.definitions.specs.Fields.{byte_at};
 ghost use Rattle.definitions.specs.Variadic.{original, source_order, target_order};
-ghost use Rattle.definitions.specs.VariadicBlock.{field_limit, variadic_of};
+ghost use Rattle.definitions.specs.VariadicBlock.{field_limit, expanded_limit, variadic_of};
 ghost use Rattle.variadic_order.specs.Order.{Ordered};
-ghost use Rattle.variadic_order.specs.Sides.{place_of, side_copy, place_names, field_count, field_names, SideLayout, OutputLayout};
-ghost use Rattle.variadic_order.specs.Visits.{SideCopy, SidePlace, Visited, Names, Visits, VisitsNames, SideOutputs, SideOrdered};
+ghost use Rattle.variadic_order.specs.Sides.{source_side, target_side, place_of, side_copy, place_names, field_count, field_names, SideLayout, OutputLayout};
+ghost use Rattle.variadic_order.specs.Visits.{SideCopy, SidePlace, Visited, Names, Visits, VisitsNames, SideOutputs, SideOrdered, visited_count};
 
 use definitions::{PATTERN_BYTES, RULE_HEADER_BYTES, SIDE_CAPACITY, SIDE_LIMIT, TARGET_BASE};
 use fields::byte_at;
 use rule_fields::{output_count, source_count};
+use variadic_header::{FIELD_LIMIT, TEMPLATE_MARK};
 
-// A kind from here on is a template's.
-pub const TEMPLATE_MARK: usize = 128;
 // From a copy of a template to the next.
 pub const COPY_STRIDE: usize = SIDE_LIMIT;
-// Copies are below this: the index is at most 6. As a copy's number it stands for none.
-pub const COPIES: usize = 112;
+// Copies are below this: a shared vertex has the index 0, and a template's copies those from 1 to the highest.
+pub const COPIES: usize = COPY_STRIDE * (FIELD_LIMIT + 1);
 // A fixed rule has at most so many vertices a side.
 pub const EXPANDED_LIMIT: usize = SIDE_CAPACITY;
 
@@ -35,12 +34,36 @@ pub struct Side {
 }
 
 // The first `count` copies are those of the side in visiting order, and numbers[c] is one more than the number of copy c, or 0 where it
-// has none. Where there are more than 64 copies, count is 65.
+// has none. Where there are more than 64 copies, count is 65. The count stands beside arrays of a fixed length, since there is no heap.
 #[derive(Drop)]
 pub struct Order {
     pub copies: [u8; EXPANDED_LIMIT],
     pub numbers: [u8; COPIES],
     pub count: usize,
+}
+
+// The source's side of the block.
+pub fn source_side(rule: &[u8]) -> Side
+    requires { rule_header_bytes ≤ length rule.now }
+    ensures { result ≡ source_side rule.now }
+{
+    Side {
+        first: 0,
+        base: 0,
+        tuple: byte_at(rule, 14),
+    }
+}
+
+// The target's side of the block: its records follow the source's.
+pub fn target_side(rule: &[u8]) -> Side
+    requires { rule_header_bytes ≤ length rule.now }
+    ensures { result ≡ target_side rule.now }
+{
+    Side {
+        first: source_count(rule),
+        base: TARGET_BASE,
+        tuple: byte_at(rule, 15),
+    }
 }
 
 // Byte i of the record of vertex u of the side.
@@ -58,10 +81,7 @@ pub fn field_count(rule: &[u8], side: Side, n: usize, c: usize) -> usize
     ensures { (result ≡ field_count rule.now side.first side.base side.tuple n c) × (result ≤ input_limit * field_limit) }
 {
     let places = side_byte(rule, side.first, c % COPY_STRIDE, 2);
-    if c == side.tuple {
-        return places * n;
-    }
-    places
+    if c == side.tuple { places * n } else { places }
 }
 
 // Vertex u of the side where the index is `index`: a template's copy of that index, or u itself, which is shared.
@@ -71,38 +91,41 @@ pub fn copy_of(rule: &[u8], first: usize, u: usize, index: usize) -> usize
     ensures { result ≡ side_copy rule.now first index u }
 {
     if side_byte(rule, first, u, 0) < TEMPLATE_MARK {
-        return u;
+        u
+    } else {
+        u + COPY_STRIDE * index
     }
-    u + COPY_STRIDE * index
 }
 
-// The copy that input place i of vertex u names where the index is `index`, or COPIES where it names a rule input.
-fn named_by(rule: &[u8], side: Side, u: usize, i: usize, index: usize) -> usize
+// The copy that input place i of vertex u names where the index is `index`, or none where it names a rule input.
+fn named_by(rule: &[u8], side: Side, u: usize, i: usize, index: usize) -> Option<usize>
     requires { SidePlace rule.now side.first side.base u i index }
     ensures { Names (place_names rule.now side.first side.base index
         (place_of rule.now side.first u i)) u result }
 {
     let place = side_byte(rule, side.first, u, 4 + i);
     if place < side.base {
-        return COPIES;
+        None
+    } else {
+        Some(copy_of(rule, side.first, place - side.base, index))
     }
-    copy_of(rule, side.first, place - side.base, index)
 }
 
-// The copy that field i of copy c names, or COPIES where it names a rule input.
-fn name_at(rule: &[u8], side: Side, n: usize, c: usize, i: usize) -> usize
+// The copy that field i of copy c names, or none where it names a rule input.
+fn name_at(rule: &[u8], side: Side, n: usize, c: usize, i: usize) -> Option<usize>
     requires side_copy { SideCopy rule.now side.first side.base n c }
     requires i_bound { i < field_count rule.now side.first side.base side.tuple n c }
     ensures { Names (field_names rule.now side.first side.base side.tuple n c i) (original c) result }
 {
     if c == side.tuple {
-        return named_by(rule, side, c % COPY_STRIDE, i / n, i % n + 1);
+        named_by(rule, side, c % COPY_STRIDE, i / n, i % n + 1)
+    } else {
+        named_by(rule, side, c % COPY_STRIDE, i, c / COPY_STRIDE)
     }
-    named_by(rule, side, c % COPY_STRIDE, i, c / COPY_STRIDE)
 }
 
-// Visits copy c, what it names first, where `count` copies are visited already, and counts those that are visited then; a copy that has
-// its number is not entered again.
+// Visits copy c, what it names first, where `count` copies are visited already, and counts those that are visited then, or gives none where
+// they are too many; a copy that has its number is not entered again.
 #[cycle(visit_visit_names)]
 fn visit(
     rule: &[u8],
@@ -112,22 +135,23 @@ fn visit(
     count: usize,
     copies: &mut [u8; EXPANDED_LIMIT],
     numbers: &mut [u8; COPIES],
-) -> usize
+) -> Option<usize>
     requires side_copy { SideCopy rule.now side.first side.base n c }
     requires visited { Visited copies.old numbers.old count }
-    ensures { Visits rule.now side.first side.base side.tuple n c copies.old numbers.old
-        count copies.new numbers.new result }
+    ensures visits { Visits rule.now side.first side.base side.tuple n c copies.old numbers.old
+        count copies.new numbers.new (visited_count result) }
+    ensures few { IfSome result (λ after. after ≤ expanded_limit) }
 {
     if numbers[c] != 0 {
-        return count;
+        return Some(count);
     }
-    let after = visit_names(rule, side, n, c, 0, count, copies, numbers);
+    let after = visit_names(rule, side, n, c, 0, count, copies, numbers)?;
     if EXPANDED_LIMIT <= after {
-        return EXPANDED_LIMIT + 1;
+        return None;
     }
     copies[after] = c as u8;
     numbers[c] = (after + 1) as u8;
-    after + 1
+    Some(after + 1)
 }
 
 // Visits what copy c names, from field i on.
@@ -141,25 +165,24 @@ fn visit_names(
     count: usize,
     copies: &mut [u8; EXPANDED_LIMIT],
     numbers: &mut [u8; COPIES],
-) -> usize
+) -> Option<usize>
     requires side_copy { SideCopy rule.now side.first side.base n c }
     requires i_bound { i ≤ field_count rule.now side.first side.base side.tuple n c }
     requires visited { Visited copies.old numbers.old count }
-    ensures { VisitsNames rule.now side.first side.base side.tuple n c i copies.old
-        numbers.old count copies.new numbers.new result }
+    ensures visits { VisitsNames rule.now side.first side.base side.tuple n c i copies.old
+        numbers.old count copies.new numbers.new (visited_count result) }
+    ensures few { IfSome result (λ after. after ≤ expanded_limit) }
 {
     if i == field_count(rule, side, n, c) {
-        return count;
+        return Some(count);
     }
-    let named = name_at(rule, side, n, c, i);
-    if COPIES <= named {
-        return visit_names(rule, side, n, c, i + 1, count, copies, numbers);
+    match name_at(rule, side, n, c, i) {
+        None => visit_names(rule, side, n, c, i + 1, count, copies, numbers),
+        Some(named) => {
+            let after = visit(rule, side, n, named, count, copies, numbers)?;
+            visit_names(rule, side, n, c, i + 1, after, copies, numbers)
+        }
     }
-    let after = visit(rule, side, n, named, count, copies, numbers);
-    if EXPANDED_LIMIT < after {
-        return after;
-    }
-    visit_names(rule, side, n, c, i + 1, after, copies, numbers)
 }
 
 // The copies of a side in visiting order, from the outputs that the block lists from byte `at` on.
@@ -167,32 +190,21 @@ fn order_of(rule: &[u8], side: Side, at: usize, n: usize) -> Order
     requires { SideOutputs rule.now side.first side.base at n }
     ensures { SideOrdered rule.now side.first side.base side.tuple at n result.copies result.numbers result.count }
 {
-    let outputs = output_count(rule);
     let mut copies = [0; EXPANDED_LIMIT];
     let mut numbers = [0; COPIES];
     let mut count = 0;
-    let mut i = 0;
-    while i < outputs {
+    for i in 0..output_count(rule) {
         let place = byte_at(rule, at + i);
         if side.base <= place {
-            count = visit(
-                rule,
-                side,
-                n,
-                place - side.base,
-                count,
-                &mut copies,
-                &mut numbers,
-            );
-            if EXPANDED_LIMIT < count {
-                return Order {
-                    copies,
-                    numbers,
-                    count,
-                };
+            let u = place - side.base;
+            match visit(rule, side, n, u, count, &mut copies, &mut numbers) {
+                Some(after) => count = after,
+                None => {
+                    count = EXPANDED_LIMIT + 1;
+                    break;
+                }
             }
         }
-        i += 1;
     }
     Order {
         copies,
@@ -208,12 +220,7 @@ pub fn source_order(rule: &[u8], n: usize) -> Order
     requires le_n { (1 ≤ n) × (n ≤ field_limit) }
     ensures { Ordered (source_order (variadic_of rule.now) n) result.copies result.numbers result.count }
 {
-    let side = Side {
-        first: 0,
-        base: 0,
-        tuple: byte_at(rule, 14),
-    };
-    order_of(rule, side, 10, n)
+    order_of(rule, source_side(rule), 10, n)
 }
 
 // The copies of the target vertices in visiting order, in the fixed rule for n.
@@ -223,10 +230,5 @@ pub fn target_order(rule: &[u8], n: usize) -> Order
     requires le_n { (1 ≤ n) × (n ≤ field_limit) }
     ensures { Ordered (target_order (variadic_of rule.now) n) result.copies result.numbers result.count }
 {
-    let side = Side {
-        first: source_count(rule),
-        base: TARGET_BASE,
-        tuple: byte_at(rule, 15),
-    };
-    order_of(rule, side, 12, n)
+    order_of(rule, target_side(rule), 12, n)
 }

@@ -11,26 +11,20 @@ use rule_fields::{source_count, target_count};
 use variadic_header::TEMPLATE_MARK;
 
 // What byte `at` of the header holds where it held `byte`: the version is 1, and no Tuple is named.
+#[tactic(auto, unfolding(crate::specs::Plain::plain_header_byte))]
 fn header_byte(at: usize, byte: usize) -> usize
     requires { byte < 256 }
     ensures { (result ≡ plain_header_byte at byte) × (result < 256) }
 {
-    if at == 4 {
-        return RULE_VERSION;
+    match at {
+        4 => RULE_VERSION,
+        5 | 14 | 15 => 0,
+        _ => byte,
     }
-    if at == 5 {
-        return 0;
-    }
-    if at == 14 {
-        return 0;
-    }
-    if at == 15 {
-        return 0;
-    }
-    byte
 }
 
 // What byte `at` holds, where the records end at `end`. A record starts with its kind, at a multiple of 16.
+#[tactic(auto, unfolding(crate::specs::Plain::plain_byte))]
 fn plain_byte(rule: &[u8], end: usize, at: usize) -> usize
     requires at_in_bounds { at < length rule.now }
     requires end_value { end ≡ node_at rule.now 0 }
@@ -38,15 +32,12 @@ fn plain_byte(rule: &[u8], end: usize, at: usize) -> usize
 {
     let byte = byte_at(rule, at);
     if at < RULE_HEADER_BYTES {
-        return header_byte(at, byte);
+        header_byte(at, byte)
+    } else if at < end && at % PATTERN_BYTES == 0 {
+        byte % TEMPLATE_MARK
+    } else {
+        byte
     }
-    if end <= at {
-        return byte;
-    }
-    if at % PATTERN_BYTES == 0 {
-        return byte % TEMPLATE_MARK;
-    }
-    byte
 }
 
 // Writes the version 1 block into a lent buffer of the same length.
@@ -57,10 +48,7 @@ pub fn write_plain(rule: &[u8], plain: &mut [u8])
 {
     let vertices = source_count(rule) + target_count(rule);
     let end = RULE_HEADER_BYTES + PATTERN_BYTES * vertices;
-    let size = rule.len();
-    let mut at = 0;
-    while at < size {
-        plain[at] = plain_byte(rule, end, at) as u8;
-        at += 1;
+    for (at, byte) in plain.iter_mut().enumerate() {
+        *byte = plain_byte(rule, end, at) as u8;
     }
 }

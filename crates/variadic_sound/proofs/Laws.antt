@@ -1,7 +1,7 @@
 -- Laws about the highest accesses of the nodes, and about what they decide of an attribute.
 -- Assumes nothing.
 use mathlib.Core.Path.{◌≡◌, refl, sym, ap, ◌∙◌}
-use mathlib.Core.Bool.{true, false, ◌&&◌, ◌||◌}
+use mathlib.Core.Bool.{Bool, true, false, ◌&&◌, ◌||◌}
 use mathlib.Core.List.{List}
 use mathlib.Core.Logic.{⊎_elim}
 use Prim.Native.Nat.{ℕ, zero, suc, ◌+◌, ◌<◌, ◌≤◌, max}
@@ -12,17 +12,19 @@ use borrow.Author.Tests.{ltb-true, ltb-false, eqb-true, eqb-false}
 use lib.Dec.{eqb, ltb, leb, leb-zero}
 use lib.ListN.{length, get_or, set, replicate, length-set}
 use lib.Seq.{get_or-set_same, get_or-set_other}
-use Rattle.definitions.specs.Fields.{Bytes}
-use Rattle.definitions.specs.Rule.{source_count, target_count, Expression, anything, constant, access, apply, index, sum, form_any, form_access, node_at, node_form, node_left, source_of, target_of, accesses_below}
-use Rattle.definitions.specs.FixedRule.{definite, is_any}
+use Rattle.definitions.specs.Fields.{byte_at, Bytes}
+use Rattle.definitions.specs.Rule.{source_count, target_count, vertex_at, Expression, anything, constant, access, apply, index, sum, form_any, form_access, node_at, node_form, node_left, source_of, target_of, accesses_below}
+use Rattle.definitions.specs.Lists.{all_below, all}
+use Rattle.definitions.specs.FixedRule.{definite, is_any, source_uses_fit, target_uses_fit}
 use Rattle.rule_fields.specs.Fixed.{fixed_node_limit, nodes_in, left_in, right_in, expression_in, attribute_node, fixed_of}
-use Rattle.rule_fields.proofs.Fixed.{length-source, source-attributes-at, target-attributes-at}
+use Rattle.rule_fields.proofs.Fixed.{length-source, source-attributes-at, source_attribute_at, target-attributes-at, target_attribute_at, attribute_expression}
 use Rattle.rule_nodes.specs.Nodes.{GoodNode}
 use Rattle.rule_accesses.specs.Access.{top_access}
 use Rattle.rule_accesses.proofs.Laws.{below_top}
 use Rattle.match_leaves.proofs.Laws.{any-node, constant_node, access_node}
 use Rattle.match_values.proofs.Laws.{operation_node}
-use Rattle.laws.proofs.Lists.{decided, true_not_false}
+use Rattle.laws.proofs.Lists.{decided, true_not_false, all_every, all-at, all_below_at, all_below_every}
+use Rattle.laws.proofs.Tests.{same_tests}
 use Rattle.variadic_sound.specs.Judged.{Judgeable, TopsBelow, TopsOf}
 
 -- ---- the highest access of a node, by its form
@@ -108,6 +110,13 @@ source_use j e h =
     (λ (t : is_any e ≡ false). let sure : definite e ≡ true = simp t at h in simp (t, sure) (below_top j e))
     (decided (is_any e))
 
+-- a test of every element, by the places
+all_by_place : {A : Type 0} (q : A → Bool) (d : A) (xs : List A) (p : ℕ → Bool) → ((i : ℕ) → i < length xs → p i ≡ q (get_or xs i d))
+    → all_below p (length xs) ≡ all q xs
+all_by_place q d xs p same = same_tests
+    (λ h. all_every q d xs (λ i l. sym (same i l) ∙ all_below_at p (length xs) i h l))
+    (λ h. all_below_every p (length xs) (λ i l. same i l ∙ all-at q d xs i h l))
+
 module _ (block tops : List ℕ) (judged : Judgeable block) (known : TopsOf block tops) where
   abbrev source_attributes : ℕ → List Expression
   source_attributes j = (source_of (fixed_of block) j).attributes
@@ -139,3 +148,27 @@ module _ (block tops : List ℕ) (judged : Judgeable block) (known : TopsOf bloc
         simp (judged.targets t i vertex place, length-source block)
         (below_top (source_count block) e
         ∙ ap (λ (n : ℕ). leb n (source_count block)) (ap top_access (sym same) ∙ sym (known.known node target-node)))
+
+  -- all attributes, by their places in the record
+  pub source_uses : (j : ℕ) → j < source_count block
+      → all_below (λ i. leb (get_or tops (attribute_node block j i) 0) j) (byte_at block (vertex_at j + 3)) ≡ source_uses_fit (fixed_of block) j
+  unfolding source_uses_fit
+  source_uses j vertex =
+      ap (all_below (λ i. leb (get_or tops (attribute_node block j i) 0) j)) (sym (source-attributes-at block j vertex))
+      ∙ all_by_place (λ e. is_any e || definite e && accesses_below j e) anything (source_attributes j)
+      (λ i. leb (get_or tops (attribute_node block j i) 0) j)
+      (λ i place. sym (source-read j i (attribute_node block j i) vertex place refl
+      (attribute_expression block j i ∙ sym (source_attribute_at block j i anything vertex place))))
+
+  pub target_uses : (t : ℕ) → t < target_count block
+      → all_below (λ i. leb (get_or tops (attribute_node block (source_count block + t) i) 0) (source_count block))
+      (byte_at block (vertex_at (source_count block + t) + 3))
+      ≡ target_uses_fit (fixed_of block) t
+  unfolding target_uses_fit
+  target_uses t vertex =
+      ap (all_below (λ i. leb (get_or tops (attribute_node block (source_count block + t) i) 0) (source_count block)))
+      (sym (target-attributes-at block t vertex))
+      ∙ all_by_place (λ e. definite e && accesses_below (length (fixed_of block).source) e) anything (target_attributes t)
+      (λ i. leb (get_or tops (attribute_node block (source_count block + t) i) 0) (source_count block))
+      (λ i place. sym (target-read t i (attribute_node block (source_count block + t) i) vertex place refl
+      (attribute_expression block (source_count block + t) i ∙ sym (target_attribute_at block t i anything vertex place))))

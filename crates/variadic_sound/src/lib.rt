@@ -2,20 +2,21 @@
 // again: places that are unused, and expressions that are any as a whole or definite.
 #![tactic(auto)]
 
-ghost use Rattle.std.specs.Prelude.{◌≡◌, ◌<◌, ltb, length};
+ghost use Rattle.std.specs.Prelude.{◌≡◌, ◌+◌, ◌<◌, leb, ltb, length, get_or};
 ghost use Rattle.definitions.specs.Lists.{all, all_below};
-ghost use Rattle.definitions.specs.Rule.{side_capacity, source_count, target_count};
+ghost use Rattle.definitions.specs.Fields.{byte_at};
+ghost use Rattle.definitions.specs.Rule.{side_capacity, source_count, target_count, vertex_at};
 ghost use Rattle.definitions.specs.FixedRule.{source_uses_fit, target_uses_fit, sound_fixed};
-ghost use Rattle.rule_fields.specs.Fixed.{nodes_in, expression_in, fixed_of};
+ghost use Rattle.rule_fields.specs.Fixed.{nodes_in, expression_in, attribute_node, fixed_of};
 ghost use Rattle.rule_fields.specs.Layout.{WholeRule};
 ghost use Rattle.rule_accesses.specs.Access.{top_access};
 ghost use Rattle.variadic_sound.specs.Judged.{Judgeable, TopsBelow, TopsOf};
 
-use definitions::FORM_ACCESS;
-use fields::{greater, widened};
+use definitions::{FORM_ACCESS, PATTERN_BYTES, RULE_HEADER_BYTES};
+use fields::byte_at;
 use rule_fields::{
-    fixed_node_count, output_count, source_attribute, source_attribute_count, source_count,
-    source_output, target_attribute, target_attribute_count, target_count,
+    fixed_node_count, output_count, source_attribute, source_count, source_output,
+    target_attribute, target_count,
 };
 use rule_nodes::{FIXED_NODE_LIMIT, node_byte, node_form, node_left, node_right};
 use rule_order::first_misplaced;
@@ -40,7 +41,7 @@ fn node_top(rule: &[u8], k: usize, tops: &[u16; FIXED_NODE_LIMIT]) -> usize
     }
     let left = node_left(rule, k);
     let right = node_right(rule, k);
-    greater(widened(tops[left]), widened(tops[right]))
+    usize::from(tops[left]).max(usize::from(tops[right]))
 }
 
 // The same for every node, each found once from those of its operands.
@@ -48,18 +49,43 @@ fn access_tops(rule: &[u8]) -> [u16; FIXED_NODE_LIMIT]
     requires { Judgeable rule.now }
     ensures { TopsOf rule.now result }
 {
-    let nodes = fixed_node_count(rule);
     let mut tops = [0u16; FIXED_NODE_LIMIT];
-    let mut k = 0;
-    while k < nodes {
-        let top = node_top(rule, k, &tops);
-        tops[k] = top as u16;
-        k += 1;
+    for k in 0..fixed_node_count(rule) {
+        tops[k] = node_top(rule, k, &tops) as u16;
     }
     tops
 }
 
 // ---- the attributes of each vertex
+
+// One more than the highest source vertex that attribute i of vertex v accesses; target vertices are counted behind the source's.
+fn attribute_top(rule: &[u8], tops: &[u16; FIXED_NODE_LIMIT], v: usize, i: usize) -> usize
+    requires judgeable { Judgeable rule.now }
+    requires tops_of { TopsOf rule.now tops.now }
+    requires v_bound { v < source_count rule.now + target_count rule.now }
+    requires i_bound { i < byte_at rule.now (vertex_at v + 3) }
+    ensures { result ≡ get_or tops.now (attribute_node rule.now v i) 0 }
+{
+    let sources = source_count(rule);
+    if v < sources {
+        let node = source_attribute(rule, v, i);
+        usize::from(tops[node])
+    } else {
+        let node = target_attribute(rule, v - sources, i);
+        usize::from(tops[node])
+    }
+}
+
+// Whether every attribute of vertex v accesses vertices below `limit` only.
+fn attributes_below(rule: &[u8], tops: &[u16; FIXED_NODE_LIMIT], v: usize, limit: usize) -> bool
+    requires judgeable { Judgeable rule.now }
+    requires tops_of { TopsOf rule.now tops.now }
+    requires v_bound { v < source_count rule.now + target_count rule.now }
+    ensures { result ≡ all_below (λ i. leb (get_or tops.now (attribute_node rule.now v i) 0) limit) (byte_at rule.now (vertex_at v + 3)) }
+{
+    let count = byte_at(rule, RULE_HEADER_BYTES + PATTERN_BYTES * v + 3);
+    (0..count).all(|i| attribute_top(rule, tops, v, i) <= limit)
+}
 
 // Whether every attribute of source vertex j accesses lower vertices only.
 fn source_uses_fit(rule: &[u8], tops: &[u16; FIXED_NODE_LIMIT], j: usize) -> bool
@@ -68,16 +94,7 @@ fn source_uses_fit(rule: &[u8], tops: &[u16; FIXED_NODE_LIMIT], j: usize) -> boo
     requires j_bound { j < source_count rule.now }
     ensures { result ≡ source_uses_fit (fixed_of rule.now) j }
 {
-    let count = source_attribute_count(rule, j);
-    let mut i = 0;
-    while i < count {
-        let node = source_attribute(rule, j, i);
-        if j < widened(tops[node]) {
-            return false;
-        }
-        i += 1;
-    }
-    true
+    attributes_below(rule, tops, j, j)
 }
 
 // Whether every attribute of target vertex t accesses source vertices.
@@ -88,16 +105,7 @@ fn target_uses_fit(rule: &[u8], tops: &[u16; FIXED_NODE_LIMIT], t: usize) -> boo
     ensures { result ≡ target_uses_fit (fixed_of rule.now) t }
 {
     let sources = source_count(rule);
-    let count = target_attribute_count(rule, t);
-    let mut i = 0;
-    while i < count {
-        let node = target_attribute(rule, t, i);
-        if sources < widened(tops[node]) {
-            return false;
-        }
-        i += 1;
-    }
-    true
+    attributes_below(rule, tops, sources + t, sources)
 }
 
 // Whether those of all source vertices do.
@@ -106,15 +114,7 @@ fn sources_use_fit(rule: &[u8], tops: &[u16; FIXED_NODE_LIMIT]) -> bool
     requires tops_of { TopsOf rule.now tops.now }
     ensures { result ≡ all_below (source_uses_fit (fixed_of rule.now)) (length (fixed_of rule.now).source) }
 {
-    let count = source_count(rule);
-    let mut j = 0;
-    while j < count {
-        if !source_uses_fit(rule, tops, j) {
-            return false;
-        }
-        j += 1;
-    }
-    true
+    (0..source_count(rule)).all(|j| source_uses_fit(rule, tops, j))
 }
 
 // Whether those of all target vertices do.
@@ -123,15 +123,7 @@ fn targets_use_fit(rule: &[u8], tops: &[u16; FIXED_NODE_LIMIT]) -> bool
     requires tops_of { TopsOf rule.now tops.now }
     ensures { result ≡ all_below (target_uses_fit (fixed_of rule.now)) (length (fixed_of rule.now).target) }
 {
-    let count = target_count(rule);
-    let mut t = 0;
-    while t < count {
-        if !target_uses_fit(rule, tops, t) {
-            return false;
-        }
-        t += 1;
-    }
-    true
+    (0..target_count(rule)).all(|t| target_uses_fit(rule, tops, t))
 }
 
 // ---- the rule
@@ -142,15 +134,7 @@ fn outputs_inside(rule: &[u8]) -> bool
     ensures { result ≡ all (λ o. ltb o (length (fixed_of rule.now).source)) (fixed_of rule.now).source_outputs }
 {
     let sources = source_count(rule);
-    let outputs = output_count(rule);
-    let mut i = 0;
-    while i < outputs {
-        if sources <= source_output(rule, i) {
-            return false;
-        }
-        i += 1;
-    }
-    true
+    (0..output_count(rule)).all(|i| source_output(rule, i) < sources)
 }
 
 // The tests in document 01's order, each of which takes from those before it what it reads.

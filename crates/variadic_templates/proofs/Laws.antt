@@ -8,13 +8,12 @@ use Prim.Native.Nat.{ℕ, zero, suc, ◌+◌, ◌-◌, ◌<◌}
 use native.Mathlib.Omega.{arith}
 use borrow.Author.Tests.{ltb-true, ltb-false}
 use lib.Dec.{ltb}
-use lib.ListN.{length, get_or}
-use Rattle.definitions.specs.Lists.{tabulate, any}
+use Rattle.definitions.specs.Lists.{tabulate, any, any_below}
 use Rattle.definitions.specs.Fields.{byte_at}
-use Rattle.definitions.specs.Rule.{source_count, target_count, vertex_at, rule_output_count, made, origin_of, pattern_from}
+use Rattle.definitions.specs.Rule.{source_count, target_count, vertex_at, rule_output_count, origin_of, pattern_from, rule_by, rule_of}
 use Rattle.definitions.specs.VariadicBlock.{marked, unmarked, variadic_of, origin_template, templates_fit, source_templates_fit, target_templates_fit}
-use Rattle.laws.proofs.Lists.{decided, length-tabulate, get_or_tabulate}
-use Rattle.laws.proofs.Rule.{length-source-outputs, length-target-outputs, source-output_of, target-output_of}
+use Rattle.laws.proofs.Lists.{decided, length-tabulate}
+use Rattle.laws.proofs.TableTests.{any_tabulated}
 use Rattle.laws.proofs.Walks.{any_same}
 use Rattle.variadic_header.proofs.Vertices.{source-at, target_at}
 use Rattle.variadic_templates.specs.Templates.{bad_templates, places_of, place_marked, names_template, is_named_tuple, tuple_fits, vertex_templates_fit}
@@ -62,29 +61,13 @@ module _ (block : List ℕ) (v : ℕ) where
       simp t (fits-target (omega arith) (omega arith) t))
       (decided (ltb v (source_count block))))
 
-  -- ---- places and outputs
-
-  pub length-places : length (places_of block v) ≡ byte_at block (vertex_at v + 2)
-  unfolding places_of
-  length-places = length-tabulate (byte_at block (vertex_at v + 2)) (λ i. byte_at block (vertex_at v + 4 + i))
-
-  pub place_at : (i : ℕ) → i < byte_at block (vertex_at v + 2) → get_or (places_of block v) i 255 ≡ byte_at block (vertex_at v + 4 + i)
-  unfolding places_of
-  place_at i l = get_or_tabulate (byte_at block (vertex_at v + 2)) (λ i. byte_at block (vertex_at v + 4 + i)) i 255 l
+-- ---- outputs
 
 module _ (block : List ℕ) where
-  pub outputs-count : length (variadic_of block).plain.source_outputs ≡ rule_output_count block
-  unfolding variadic_of
-  outputs-count = length-source-outputs block
+  pub sources_read : any_below (λ i. marked block (byte_at block (10 + i))) (rule_output_count block) ≡ any (variadic_of block).source_template (variadic_of block).plain.source_outputs
+  unfolding variadic_of rule_of rule_by
+  sources_read = any_tabulated (marked block) (rule_output_count block) (λ i. byte_at block (10 + i))
 
-  pub output-at : (i : ℕ) → i < rule_output_count block → get_or (variadic_of block).plain.source_outputs i 255 ≡ byte_at block (10 + i)
-  unfolding variadic_of
-  output-at i l = source-output_of block i 255 l
-
-  pub origins_count : length (variadic_of block).plain.target_outputs ≡ rule_output_count block
-  unfolding variadic_of
-  origins_count = length-target-outputs block
-
-  pub origin_at : (i : ℕ) → i < rule_output_count block → get_or (variadic_of block).plain.target_outputs i (made 255) ≡ origin_of (byte_at block (12 + i))
-  unfolding variadic_of
-  origin_at i l = target-output_of block i (made 255) l
+  pub targets_read : any_below (λ i. origin_template (variadic_of block) (origin_of (byte_at block (12 + i)))) (rule_output_count block) ≡ any (origin_template (variadic_of block)) (variadic_of block).plain.target_outputs
+  unfolding variadic_of rule_of rule_by
+  targets_read = any_tabulated (origin_template (variadic_of block)) (rule_output_count block) (λ i. origin_of (byte_at block (12 + i)))

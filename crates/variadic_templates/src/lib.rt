@@ -17,28 +17,32 @@ use rule_fields::{output_count, source_count};
 use variadic_header::{TEMPLATE_MARK, is_marked};
 
 // Whether place number p of the target names a template.
+#[tactic(auto, unfolding(definitions::specs::VariadicBlock::origin_template, definitions::specs::Rule::origin_by, definitions::specs::VariadicBlock::variadic_of))]
 fn origin_marked(rule: &[u8], p: usize) -> bool
     requires rule_header_bytes_in_bounds { rule_header_bytes ≤ length rule.now }
     requires p_lt_place_numbers { p < place_numbers }
     ensures { result ≡ origin_template (variadic_of rule.now) (origin_of p) }
 {
     if p < TARGET_BASE {
-        return is_marked(rule, p);
+        is_marked(rule, p)
+    } else {
+        let t = p - TARGET_BASE;
+        is_marked(rule, source_count(rule) + t)
     }
-    let t = p - TARGET_BASE;
-    is_marked(rule, source_count(rule) + t)
 }
 
 // Whether place number p of vertex v names a template.
+#[tactic(auto, unfolding(crate::specs::Templates::place_marked))]
 fn place_marked(rule: &[u8], v: usize, p: usize) -> bool
     requires rule_header_bytes_in_bounds { rule_header_bytes ≤ length rule.now }
     requires p_lt_place_numbers { p < place_numbers }
     ensures { result ≡ place_marked rule.now v p }
 {
     if v < source_count(rule) {
-        return is_marked(rule, p);
+        is_marked(rule, p)
+    } else {
+        origin_marked(rule, p)
     }
-    origin_marked(rule, p)
 }
 
 // Whether some input of vertex v names a template.
@@ -50,46 +54,38 @@ fn names_template(rule: &[u8], v: usize) -> bool
 {
     let at = RULE_HEADER_BYTES + PATTERN_BYTES * v;
     let count = byte_at(rule, at + 2);
-    let mut i = 0;
-    while i < count {
-        let p = byte_at(rule, at + 4 + i);
-        if place_marked(rule, v, p) {
-            return true;
-        }
-        i += 1;
-    }
-    false
+    (0..count).any(|i| place_marked(rule, v, byte_at(rule, at + 4 + i)))
 }
 
 // Whether vertex v is a Tuple that the header names.
+#[tactic(auto, unfolding(crate::specs::Templates::is_named_tuple))]
 fn is_named_tuple(rule: &[u8], v: usize) -> bool
     requires { rule_header_bytes ≤ length rule.now }
     ensures { result ≡ is_named_tuple rule.now v }
 {
     let source = source_count(rule);
     if v < source {
-        return v == byte_at(rule, 14);
+        v == byte_at(rule, 14)
+    } else {
+        v - source == byte_at(rule, 15)
     }
-    v - source == byte_at(rule, 15)
 }
 
 // Whether vertex v is a shared Tuple of one field.
+#[tactic(auto, unfolding(crate::specs::Templates::tuple_fits))]
 fn tuple_fits(rule: &[u8], v: usize) -> bool
     requires whole_rule { WholeRule rule.now }
     requires v_bound { v < source_count rule.now + target_count rule.now }
     ensures { result ≡ tuple_fits rule.now v }
 {
-    if is_marked(rule, v) {
-        return false;
-    }
     let at = RULE_HEADER_BYTES + PATTERN_BYTES * v;
-    if byte_at(rule, at) % TEMPLATE_MARK != KIND_TUPLE {
-        return false;
-    }
-    byte_at(rule, at + 2) == 1
+    !is_marked(rule, v)
+        && byte_at(rule, at) % TEMPLATE_MARK == KIND_TUPLE
+        && byte_at(rule, at + 2) == 1
 }
 
 // Whether vertex v names templates only where it may, and is a good Tuple where it is a named one.
+#[tactic(auto, using(crate::proofs::Laws::templates_read), unfolding(crate::specs::Templates::vertex_templates_fit))]
 fn templates_fit(rule: &[u8], v: usize) -> bool
     requires whole_rule { WholeRule rule.now }
     requires v_bound { v < source_count rule.now + target_count rule.now }
@@ -97,12 +93,10 @@ fn templates_fit(rule: &[u8], v: usize) -> bool
     ensures { result ≡ not (bad_templates rule.now v) }
 {
     if is_named_tuple(rule, v) {
-        return tuple_fits(rule, v);
+        tuple_fits(rule, v)
+    } else {
+        is_marked(rule, v) || !names_template(rule, v)
     }
-    if is_marked(rule, v) {
-        return true;
-    }
-    !names_template(rule, v)
 }
 
 // The lowest vertex below `end` that is a bad Tuple or names a template that it may not, or `end`.
@@ -112,14 +106,7 @@ pub fn bad_templates(rule: &[u8], end: usize) -> usize
     requires short_below { ShortBelow rule.now end }
     ensures { result ≡ lowest (bad_templates rule.now) end }
 {
-    let mut v = 0;
-    while v < end {
-        if !templates_fit(rule, v) {
-            return v;
-        }
-        v += 1;
-    }
-    end
+    (0..end).find(|&v| !templates_fit(rule, v)).unwrap_or(end)
 }
 
 // Whether no output is a template, on either side.
@@ -127,16 +114,7 @@ pub fn shared_outputs(rule: &[u8]) -> bool
     requires { WholeRule rule.now }
     ensures { result ≡ shared_outputs (variadic_of rule.now) }
 {
-    let count = output_count(rule);
-    let mut i = 0;
-    while i < count {
-        if is_marked(rule, byte_at(rule, 10 + i)) {
-            return false;
-        }
-        if origin_marked(rule, byte_at(rule, 12 + i)) {
-            return false;
-        }
-        i += 1;
-    }
-    true
+    let outputs = output_count(rule);
+    !(0..outputs).any(|i| is_marked(rule, byte_at(rule, 10 + i)))
+        && !(0..outputs).any(|i| origin_marked(rule, byte_at(rule, 12 + i)))
 }

@@ -9,14 +9,15 @@ use native.Mathlib.Nat.{div-lt_iff_lt-mul, mul-le-mul_right, suc-mul}
 use native.Mathlib.Omega.{arith}
 use borrow.Author.Tests.{leb-true, leb-false, ltb-true, le-leb, lt-leb, eq-eqb, ne_eqb, eqb-true, eqb-false}
 use lib.Dec.{eqb, ltb, leb}
-use Rattle.definitions.specs.Rule.{side_limit, node_limit, source_count, node_count, form_any, form_constant, form_access, form_remainder, form_index, form_sum, node_form, node_left, node_right, operand_fits, node_fits}
+use lib.ListN.{length}
+use Rattle.definitions.specs.Rule.{side_limit, node_limit, source_count, node_count, node_at, form_any, form_constant, form_access, form_remainder, form_index, form_sum, node_form, node_left, node_right, operand_fits, node_fits}
 use Rattle.definitions.specs.VariadicBlock.{field_limit, variadic_node_fits}
 use Rattle.laws.proofs.Lists.{decided, true_not_false, needed}
 use Rattle.rule_fields.specs.Fixed.{is_expanded, fixed_node_limit}
 use Rattle.rule_fields.specs.Layout.{LentRule}
 use Rattle.rule_fields.proofs.Fixed.{lent_split}
 use Rattle.rule_nodes.proofs.Operands.{left-earlier, right-earlier}
-use Rattle.variadic_terms.specs.Terms.{descend, bottom}
+use Rattle.variadic_terms.specs.Terms.{descend, bottom, Expandable}
 
 -- node k's first node, and those of its indices, end before the first of a later node
 pub before_product : (a k w i : ℕ) → a < k → i < w → a * w + i < k * w
@@ -33,6 +34,10 @@ few_products k n l m = omega (arith, mul-le-mul_right {m = k} {n = node_limit} (
 -- place numbers leave a lent block space for 16 source vertices
 pub narrow_sources : (block : List ℕ) → is_expanded block ≡ false → LentRule block → source_count block ≤ side_limit
 narrow_sources block lent layout = omega (arith, layout.whole.split, lent_split block lent)
+
+-- every node is whole in the block
+pub node_whole : (block : List ℕ) → Expandable block → (k : ℕ) → k < node_count block → node_at block (k + 1) ≤ length block
+node_whole block e k l = omega (arith, e.layout.whole.size, e.layout.same_nodes)
 
 -- what a node that is no sum may be
 pub data Form (block : List ℕ) (k : ℕ) : Type 0 where

@@ -2,29 +2,19 @@
 #![tactic(auto)]
 
 ghost use Rattle.std.specs.Prelude.{◌≡◌, false, ℕ, ◌+◌, ◌*◌, ◌<◌, ◌≤◌, eqb, length};
-ghost use Rattle.definitions.specs.Rule.{node_bytes, side_capacity, source_count, node_count, form_access, form_sum, node_form};
+ghost use Rattle.definitions.specs.Rule.{node_bytes, node_limit, side_capacity, source_count, node_count, node_at, form_access, form_sum, node_form};
 ghost use Rattle.definitions.specs.Variadic.{source_copy};
 ghost use Rattle.definitions.specs.VariadicBlock.{field_limit, variadic_of};
 ghost use Rattle.variadic_terms.specs.Terms.{term_bytes, any_term, constant_term, operation_term, term_of, bottom, constant_at, access_at, plain_term, sum_term, term_at, number_in, copy_limit, Expandable, TermWritten, TermsWritten};
 
 use definitions::{
     FORM_ACCESS, FORM_ADD, FORM_ANY, FORM_CONSTANT, NODE_BYTES, PATTERN_BYTES, RULE_HEADER_BYTES,
-    SIDE_LIMIT,
 };
 use fields::byte_at;
-use rule_fields::node_count;
+use rule_fields::{node_count, source_count, target_count};
 use rule_nodes::{node_at, node_byte, node_form};
-
-// The highest index of a copy.
-const FIELD_LIMIT: usize = 6;
-// The numbers of copies: each source vertex is shared, or has an index from 1 to the highest.
-pub const COPY_LIMIT: usize = SIDE_LIMIT * (FIELD_LIMIT + 1);
-// What is added to the kind of a template.
-const TEMPLATE_MARK: usize = 128;
-// The forms that stand in variadic rules alone.
-const FORM_INDEX: usize = 8;
-
-const FORM_SUM: usize = 9;
+use variadic_header::{FORM_INDEX, FORM_SUM};
+use variadic_order::{COPIES, copy_of};
 
 // A node of the fixed rule: its form, the low bytes of its operands, or what is accessed, and its last four bytes, which are a constant's
 // number, or start with the high bytes of the operands.
@@ -75,7 +65,7 @@ fn operation_term(form: u8, left: usize, right: usize) -> Term
 }
 
 // The number of copy c among the source vertices of the fixed rule, or how many these are where it is none of them.
-fn copy_number(numbers: &[u8; COPY_LIMIT], count: usize, c: usize) -> u8
+fn copy_number(numbers: &[u8; COPIES], count: usize, c: usize) -> u8
     requires count_le_side_capacity { count ≤ side_capacity }
     requires c_lt_copy_limit { c < copy_limit }
     ensures { result ≡ number_in numbers.now count c }
@@ -88,32 +78,35 @@ fn copy_number(numbers: &[u8; COPY_LIMIT], count: usize, c: usize) -> u8
 }
 
 // The number of source vertex v where the index is i: of a template the copy of that index counts.
-fn accessed(rule: &[u8], numbers: &[u8; COPY_LIMIT], count: usize, v: usize, i: usize) -> u8
+fn accessed(rule: &[u8], numbers: &[u8; COPIES], count: usize, v: usize, i: usize) -> u8
     requires expandable { Expandable rule.now }
     requires i_le_field_limit { i ≤ field_limit }
     requires count_le_side_capacity { count ≤ side_capacity }
     requires v_bound { v < source_count rule.now }
     ensures { (n : ℕ) → result ≡ number_in numbers.now count (source_copy (variadic_of rule.now) n i v) }
 {
-    if byte_at(rule, RULE_HEADER_BYTES + PATTERN_BYTES * v) < TEMPLATE_MARK {
-        return copy_number(numbers, count, v);
-    }
-    copy_number(numbers, count, v + SIDE_LIMIT * i)
+    copy_number(numbers, count, copy_of(rule, 0, v, i))
 }
 
-// The node of the fixed rule that stands for node k where the index is i. Of a sum it is the last one, whatever the index.
-fn term_of(rule: &[u8], n: usize, k: usize, i: usize) -> usize
-    requires expandable { Expandable rule.now }
-    requires i_le_n { i ≤ n }
+// The node of the fixed rule that stands for node k where the index is `index`. Of a sum it is the last one, whatever the index.
+pub fn term_of(rule: &[u8], n: usize, k: usize, index: usize) -> usize
+    requires k_in_bounds { node_at rule.now (k + 1) ≤ length rule.now }
+    requires k_lt_node_limit { k < node_limit }
     requires n_le_field_limit { n ≤ field_limit }
-    requires k_bound { k < node_count rule.now }
-    ensures { (result ≡ term_of rule.now n k i) × (result < 65536) }
+    requires index_le_field_limit { index ≤ field_limit }
+    ensures { (result ≡ term_of rule.now n k index) × (result < 512) }
 {
+    let vertices = source_count(rule) + target_count(rule);
+    let form = byte_at(
+        rule,
+        RULE_HEADER_BYTES + PATTERN_BYTES * vertices + NODE_BYTES * k,
+    );
     let first = k * (n + 1);
-    if node_form(rule, k) == FORM_SUM {
-        return first + n;
+    if form == FORM_SUM {
+        first + n
+    } else {
+        first + index
     }
-    first + i
 }
 
 // The constant that node k is.
@@ -127,7 +120,7 @@ fn same_constant(rule: &[u8], k: usize) -> Term
 }
 
 // The access that node k is, where the index is i.
-fn access_term(rule: &[u8], numbers: &[u8; COPY_LIMIT], count: usize, k: usize, i: usize) -> Term
+fn access_term(rule: &[u8], numbers: &[u8; COPIES], count: usize, k: usize, i: usize) -> Term
     requires expandable { Expandable rule.now }
     requires i_le_field_limit { i ≤ field_limit }
     requires count_le_side_capacity { count ≤ side_capacity }
@@ -148,7 +141,7 @@ fn access_term(rule: &[u8], numbers: &[u8; COPY_LIMIT], count: usize, k: usize, 
 // Node k, which is no sum, where the index is i.
 fn plain_term(
     rule: &[u8],
-    numbers: &[u8; COPY_LIMIT],
+    numbers: &[u8; COPIES],
     n: usize,
     count: usize,
     k: usize,
@@ -187,6 +180,7 @@ fn below_sums(rule: &[u8], k: usize) -> usize
     ensures { (result ≡ bottom rule.now k) × (result ≤ k) × (eqb (node_form rule.now result) form_sum ≡ false) }
 {
     let mut x = k;
+    // From a node to its operand: no range has these numbers.
     while node_form(rule, x) == FORM_SUM {
         x = node_byte(rule, x, 1);
     }
@@ -194,14 +188,7 @@ fn below_sums(rule: &[u8], k: usize) -> usize
 }
 
 // What the sum k has for index i: the sum of its terms from 1 to i.
-fn sum_term(
-    rule: &[u8],
-    numbers: &[u8; COPY_LIMIT],
-    n: usize,
-    count: usize,
-    k: usize,
-    i: usize,
-) -> Term
+fn sum_term(rule: &[u8], numbers: &[u8; COPIES], n: usize, count: usize, k: usize, i: usize) -> Term
     requires expandable { Expandable rule.now }
     requires i_le_n { i ≤ n }
     requires n_le_field_limit { n ≤ field_limit }
@@ -228,14 +215,7 @@ fn sum_term(
 }
 
 // Node k where the index is i.
-fn term_at(
-    rule: &[u8],
-    numbers: &[u8; COPY_LIMIT],
-    n: usize,
-    count: usize,
-    k: usize,
-    i: usize,
-) -> Term
+fn term_at(rule: &[u8], numbers: &[u8; COPIES], n: usize, count: usize, k: usize, i: usize) -> Term
     requires expandable { Expandable rule.now }
     requires i_le_n { i ≤ n }
     requires n_le_field_limit { n ≤ field_limit }
@@ -279,7 +259,7 @@ fn write_term(part: &mut [u8], m: usize, term: Term)
 
 // Writes all nodes of the fixed rule for n. `numbers` has one more than the number of each copy of a source vertex, or 0 where it has none, and
 // there are `count` source vertices.
-pub fn write_terms(rule: &[u8], n: usize, numbers: &[u8; COPY_LIMIT], count: usize, part: &mut [u8])
+pub fn write_terms(rule: &[u8], n: usize, numbers: &[u8; COPIES], count: usize, part: &mut [u8])
     requires expandable { Expandable rule.now }
     requires n_le_field_limit { n ≤ field_limit }
     requires count_le_side_capacity { count ≤ side_capacity }
@@ -287,11 +267,8 @@ pub fn write_terms(rule: &[u8], n: usize, numbers: &[u8; COPY_LIMIT], count: usi
     ensures { TermsWritten rule.now (number_in numbers.now count) n part.old part.new }
 {
     let width = n + 1;
-    let nodes = node_count(rule) * width;
-    let mut m = 0;
-    while m < nodes {
+    for m in 0..node_count(rule) * width {
         let term = term_at(rule, numbers, n, count, m / width, m % width);
         write_term(part, m, term);
-        m += 1;
     }
 }

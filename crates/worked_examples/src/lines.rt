@@ -1,5 +1,5 @@
 // The lines that the program prints.
-ghost use Rattle.std.specs.Prelude.{◌+◌, ◌<◌, ◌≤◌, length};
+ghost use Rattle.std.specs.Prelude.{◌<◌};
 
 use definitions::{HEADER_BYTES, INPUT_LIMIT, OUTPUT_LIMIT, SLOT_BYTES};
 use std::io;
@@ -11,36 +11,22 @@ const INPUTS_AT: usize = 4;
 
 const ATTRIBUTES_AT: usize = INPUTS_AT + 2 * INPUT_LIMIT;
 
-// The number in so many bytes from `at` on, the lowest one first. Of more than eight, the first eight count.
-pub fn number(block: &[u8], at: usize, width: usize) -> u64
-    requires { at + width ≤ length block.now }
-{
+// The number in these bytes, the lowest one first. Of more than eight, the first eight count.
+pub fn number(bytes: &[u8]) -> u64 {
     let mut value = 0;
-    let mut k = at + width;
-    while at < k {
-        k -= 1;
-        value = value % 72057594037927936 * 256 + block[k] as u64;
+    for &byte in bytes.iter().rev() {
+        value = value % 72057594037927936 * 256 + u64::from(byte);
     }
     value
 }
 
-// Prints the numbers of so many bytes each that stand between two places, with a space before each.
-pub fn print_numbers(
-    rt: &impl Print,
-    block: &[u8],
-    from: usize,
-    to: usize,
-    width: usize,
-) -> io::Result<()>
-    requires from_le_to { from ≤ to }
-    requires to_in_bounds { to ≤ length block.now }
-    requires width_nonzero { 0 < width }
+// Prints the numbers of so many bytes each that stand in a block, with a space before each.
+pub fn print_numbers(rt: &impl Print, block: &[u8], width: usize) -> io::Result<()>
+    requires { 0 < width }
 {
-    let mut at = from;
-    while width <= to - at {
+    for bytes in block.chunks_exact(width) {
         rt.write_all(b" ")?;
-        rt.print(number(block, at, width))?;
-        at += width;
+        rt.print(number(bytes))?;
     }
     Ok(())
 }
@@ -63,18 +49,14 @@ pub fn graph_lines(rt: &impl Print, graph: &[u8]) -> io::Result<()> {
         return Ok(());
     }
     rt.write_all(b"\noutputs:")?;
-    print_numbers(rt, graph, OUTPUTS_AT, OUTPUTS_AT + 2 * OUTPUT_LIMIT, 2)?;
-    let mut k: u64 = 0;
-    let mut at = HEADER_BYTES;
-    while SLOT_BYTES <= graph.len() - at {
+    print_numbers(rt, &graph[OUTPUTS_AT..OUTPUTS_AT + 2 * OUTPUT_LIMIT], 2)?;
+    for (k, slot) in graph[HEADER_BYTES..].chunks_exact(SLOT_BYTES).enumerate() {
         rt.write_all(b"\nslot ")?;
-        rt.print(k)?;
+        rt.print(k as u64)?;
         rt.write_all(b":")?;
-        print_numbers(rt, graph, at, at + 2, 1)?;
-        print_numbers(rt, graph, at + INPUTS_AT, at + INPUTS_AT + 4, 2)?;
-        print_numbers(rt, graph, at + ATTRIBUTES_AT, at + ATTRIBUTES_AT + 4, 4)?;
-        k += 1;
-        at += SLOT_BYTES;
+        print_numbers(rt, &slot[0..2], 1)?;
+        print_numbers(rt, &slot[INPUTS_AT..INPUTS_AT + 4], 2)?;
+        print_numbers(rt, &slot[ATTRIBUTES_AT..ATTRIBUTES_AT + 4], 4)?;
     }
     Ok(())
 }

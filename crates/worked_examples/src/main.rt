@@ -43,6 +43,7 @@ fn read_full<R: Read>(reader: &mut R, block: &mut [u8]) -> io::Result<usize>
     ensures end { IfOk result (λ n. n < length block.new → IsAtEnd (R.remaining reader.new)) }
 {
     let mut filled = 0;
+    // The library's read_exact says nothing of what came from a reader that ends before the block is full.
     while filled < block.len() {
         let count = reader.read(&mut block[filled..])?;
         if count == 0 {

@@ -1,23 +1,45 @@
 // Numbers, zeros and other bytes, written into a part of a block that the caller lends on, and one number at its place in a block.
 #![tactic(auto)]
 
-ghost use Rattle.std.specs.Prelude.{◌≡◌, ◌+◌, ◌*◌, ◌≤◌, length, replicate};
+ghost use Rattle.std.specs.Prelude.{◌≡◌, List, ℕ, ◌+◌, ◌*◌, ◌≤◌, length, replicate};
 ghost use Rattle.definitions.specs.Lists.{concat_map};
 ghost use Rattle.definitions.specs.Fields.{u16_bytes, u32_bytes};
 ghost use Rattle.writing.specs.Numbers.{with_u16};
 
-// Writes 16-bit numbers, each as two bytes, the lower one first.
-pub fn put_u16s(part: &mut [u8], numbers: &[u16])
-    requires { length part.old ≡ 2 * length numbers.now }
-    ensures { part.new ≡ concat_map u16_bytes numbers.now }
+// A number that stands in a block as W bytes, the lowest one first.
+pub trait Stored<const W: usize> {
+    ghost bytes: { Self → List ℕ };
+
+    fn to_bytes(self) -> [u8; W]
+        ensures { result ≡ bytes self };
+}
+
+impl Stored<2> for u16 {
+    ghost bytes = { u16_bytes };
+
+    fn to_bytes(self) -> [u8; 2] {
+        u16::to_le_bytes(self)
+    }
+}
+
+impl Stored<4> for u32 {
+    ghost bytes = { u32_bytes };
+
+    fn to_bytes(self) -> [u8; 4] {
+        u32::to_le_bytes(self)
+    }
+}
+
+// Writes numbers, each as its W bytes.
+pub fn put_numbers<const W: usize, T: Stored<W> + Copy>(part: &mut [u8], numbers: &[T])
+    requires { length part.old ≡ W * length numbers.now }
+    ensures { part.new ≡ concat_map T.bytes numbers.now }
 {
-    let count = numbers.len();
-    let mut i = 0;
-    while i < count {
-        let number = numbers[i];
-        part[2 * i] = (number % 256) as u8;
-        part[2 * i + 1] = (number / 256 % 256) as u8;
-        i += 1;
+    for (i, number) in numbers.iter().enumerate() {
+        let bytes = (*number).to_bytes();
+        let at = W * i;
+        let end = at + W;
+        part[at..end].copy_from_slice(&bytes);
     }
 }
 
@@ -28,36 +50,14 @@ pub fn put_u16_at(block: &mut [u8], at: usize, number: u16)
 {
     let end = at + 2;
     let numbers = [number];
-    put_u16s(&mut block[at..end], &numbers);
-}
-
-// Writes 32-bit words, each as four bytes, the lowest one first.
-pub fn put_u32s(part: &mut [u8], words: &[u32])
-    requires { length part.old ≡ 4 * length words.now }
-    ensures { part.new ≡ concat_map u32_bytes words.now }
-{
-    let count = words.len();
-    let mut i = 0;
-    while i < count {
-        let word = words[i];
-        part[4 * i] = (word % 256) as u8;
-        part[4 * i + 1] = (word / 256 % 256) as u8;
-        part[4 * i + 2] = (word / 65536 % 256) as u8;
-        part[4 * i + 3] = (word / 16777216 % 256) as u8;
-        i += 1;
-    }
+    put_numbers(&mut block[at..end], &numbers);
 }
 
 // Writes zero into every byte.
 pub fn clear(part: &mut [u8])
     ensures { part.new ≡ replicate (length part.old) 0 }
 {
-    let size = part.len();
-    let mut i = 0;
-    while i < size {
-        part[i] = 0;
-        i += 1;
-    }
+    part.fill(0);
 }
 
 // Writes the bytes of one block over another of the same length.
@@ -65,10 +65,5 @@ pub fn copy(to: &mut [u8], from: &[u8])
     requires { length to.old ≡ length from.now }
     ensures { to.new ≡ from.now }
 {
-    let size = from.len();
-    let mut i = 0;
-    while i < size {
-        to[i] = from[i];
-        i += 1;
-    }
+    to.copy_from_slice(from);
 }

@@ -12,6 +12,3 @@ use Rattle.acyclic.proofs.has_cycle.Given as goal
 
 abbrev pub invariant-loop-root : goal.invariant-loop-root
 invariant-loop-root l = Ready l.graph l.progress l.parent × ((v : ℕ) → v < l.root → get_or l.progress v 0 ≡ 8)
-
-abbrev pub decreases-loop-root : goal.decreases-loop-root
-decreases-loop-root l = l.count - l.root

@@ -1,20 +1,19 @@
 -- The first refusal is given, and the last check's reply where there is none before it.
 use mathlib.Core.Path.{sym, ◌∙◌}
 use Rattle.definitions.specs.Operations.{blocks_reply}
-use Rattle.laws.proofs.Reply.{first_done, first-refused, first_last}
+use Rattle.laws.proofs.Reply.{passed_on, first_done, first-refused, first_last}
 use Rattle.laws.proofs.Operations.{rule_valueless}
-use borrow.Author.Rules.{rules}
 use Rattle.blocks.proofs.check_blocks.Goals as goal
 
-pub returns-in-Refused : goal.returns-in-Refused
+pub returns-in_err-check_map : goal.returns-in_err-check_map
 unfolding blocks_reply
-returns-in-Refused c = sym (first-refused _ _ (sym c.check_map.ensures ∙ c.in-Refused.is))
+returns-in_err-check_map c = passed_on c.from_residual.ensures.1 ∙ sym (first-refused _ _ (sym c.in_err-check_map.ensures))
 
-pub returns-in-Refused-check : goal.returns-in-Refused-check
+pub returns-in_err-check : goal.returns-in_err-check
 unfolding blocks_reply
-returns-in-Refused-check c = sym (first_done _ (sym c.check_map.ensures ∙ c.in-Done.is) ∙ first-refused _ _ (sym c.check.ensures ∙ c.in-Refused-check.is))
+returns-in_err-check c = passed_on c.from_residual-in_err-check.ensures.1 ∙ sym (first_done _ (sym c.in_ok-check_map.ensures) ∙ first-refused _ _ (sym c.in_err-check.ensures))
 
 pub returns : goal.returns
 unfolding blocks_reply
-returns c = c.check-2.ensures ∙ sym (first_done _ (sym c.check_map.ensures ∙ c.in-Done.is)
-    ∙ first_done _ (sym c.check.ensures ∙ c.in-Done-check.is) ∙ first_last _ (rule_valueless _))
+returns c = c.check-2.ensures ∙ sym (first_done _ (sym c.in_ok-check_map.ensures)
+    ∙ first_done _ (sym c.in_ok-check.ensures) ∙ first_last _ (rule_valueless _))

@@ -1,7 +1,6 @@
 -- The length decides.
 use borrow.Author.Tests.{eq-eqb, ne_eqb}
 use Rattle.definitions.specs.Operations.{map_bytes, map_reply}
-use borrow.Author.Rules.{rules}
 use Rattle.blocks.proofs.check_map.Goals as goal
 
 pub returns-then-map-ne-MAP_BYTES : goal.returns-then-map-ne-MAP_BYTES

@@ -9,7 +9,4 @@ use Rattle.commit.proofs.Laws.{written-header, committed_all}
 use Rattle.commit.proofs.commit.Given as goal
 
 abbrev pub invariant-loop-k : goal.invariant-loop-k
-invariant-loop-k l = (l.k ≤ l.slots) × Committed (record_at l.k) l.graph l.table
-
-abbrev pub decreases-loop-k : goal.decreases-loop-k
-decreases-loop-k l = l.slots - l.k
+invariant-loop-k l = Committed (record_at l.k) l.graph l.table

@@ -13,11 +13,11 @@ use Rattle.commit.proofs.Laws.{whole_record, kept_slot, written-slot}
 use borrow.Author.Rules.{rules}
 use Rattle.commit.proofs.commit_slot.Goals as goal
 
-pub returns-then-same_record : goal.returns-then-same_record
-returns-then-same_record c = kept_slot c.args.graph.now c.args.table.now c.args.k c.requires.committed (c.same_record.ensures c.if-same_record.true)
+pub returns-else-not-same_record : goal.returns-else-not-same_record
+returns-else-not-same_record c = kept_slot c.args.graph.now c.args.table.now c.args.k c.requires.committed (c.same_record.ensures c.if-not-same_record.false)
 
-pub returns : goal.returns
-returns c = let at = record_at c.args.k in
+pub returns-then-not-same_record : goal.returns-then-not-same_record
+returns-then-not-same_record c = let at = record_at c.args.k in
     let tail = take tail_bytes (drop (at + tail_offset) c.args.table.now) in
     let given : at + slot_bytes - (at + tail_offset) ≡ tail_bytes = omega arith in
     let written : SlotWritten c.args.k (record_bytes tail c.read_record-record.result) c.args.graph.now c.write_slot.new.graph =

@@ -1,15 +1,17 @@
-use mathlib.Core.Path.{◌≡◌, refl, sym, ◌∙◌}
-use Prim.Native.Nat.{ℕ, ◌+◌, ◌-◌, ◌*◌, ◌<◌, ◌≤◌}
-use native.Mathlib.Nat.{not-suc-le-zero}
+use mathlib.Core.Path.{◌≡◌, sym, ◌∙◌}
+use mathlib.Core.List.{List}
+use Prim.Native.Nat.{ℕ, ◌+◌, ◌-◌}
 use native.Mathlib.Omega.{arith}
-use borrow.Author.Count.{below_more}
-use Rattle.definitions.specs.Fields.{u32_at}
-use Rattle.laws.proofs.Lists.{true_not_false}
-use Rattle.commit.proofs.Laws.{words_same}
+use lib.ListN.{take, drop}
+use lib.Pointwise.{bytes_decides}
+use Rattle.definitions.specs.Graph.{slot_bytes}
+use Rattle.graph_records.specs.Records.{slot_at}
 use Rattle.commit.proofs.same_record.Goals as goal
 
 pub returns : goal.returns
+unfolding slot_at
 returns c = λ e.
-    words_same c.args.graph.now c.args.table.now (λ j. omega (arith, c.shared_slice_known-1.given j))
-    (λ j. omega (arith, c.shared_slice_known-2-1.given j)) c.args.at c.requires.slot_bytes_in_bounds c.requires.slot_bytes_in_bounds_2
-    (λ i h. c.loop-i.invariant.1 i (omega arith))
+    let at = c.args.at in
+    let given : at + slot_bytes - at ≡ slot_bytes = omega arith in
+    let part : List ℕ → List ℕ = λ block. take (at + slot_bytes - at) (drop at block) in
+    rw given at ((bytes_decides (part c.args.graph.now) (part c.args.table.now)).0 (sym c.eq.ensures ∙ e))

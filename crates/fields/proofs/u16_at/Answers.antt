@@ -1,7 +1,6 @@
 -- The two bytes' numbers make the 16-bit number.
 use native.Mathlib.Omega.{arith}
 use Rattle.definitions.specs.Fields.{u16_at}
-use borrow.Author.Rules.{rules}
 use Rattle.fields.proofs.u16_at.Goals as goal
 
 pub returns : goal.returns

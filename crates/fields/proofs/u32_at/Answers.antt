@@ -1,7 +1,6 @@
 -- The two halves make the 32-bit word.
 use native.Mathlib.Omega.{arith}
 use Rattle.definitions.specs.Fields.{u32_at}
-use borrow.Author.Rules.{rules}
 use Rattle.fields.proofs.u32_at.Goals as goal
 
 pub returns : goal.returns

@@ -1,7 +1,6 @@
 -- The two halves make the 64-bit word.
 use native.Mathlib.Omega.{arith}
 use Rattle.fields.proofs.Words.{word_halves}
-use borrow.Author.Rules.{rules}
 use Rattle.fields.proofs.u64_at.Goals as goal
 
 pub returns : goal.returns

@@ -1,10 +1,7 @@
 -- Each kind of fault refuses once those before it do not hold; what a passed test says of the block is what the next one asks.
-use borrow.Author.Rules.{rules}
-use borrow.Author.Tests.{not-true, not-false}
 use mathlib.Core.Path.{◌≡◌, sym, ap, ◌∙◌}
 use mathlib.Core.Bool.{true}
-use mathlib.Core.List.{List}
-use Prim.Native.Nat.{ℕ, ◌≤◌}
+use Prim.Native.Nat.{◌≤◌}
 use native.Mathlib.Omega.{arith}
 use Rattle.definitions.specs.Lists.{lowest}
 use Rattle.definitions.specs.Reply.{bad_graph_record, bad_graph_name, refused_at}

@@ -12,17 +12,15 @@ use Rattle.graph_counts.proofs.Laws.{with_length, recounted-length, recounted-sl
 use Rattle.graph_counts.proofs.store_counts.Goals as goal
 
 pub loop-k-init : goal.loop-k-init
-loop-k-init c = (omega arith, recounted-start c.args.graph.now c.requires.readable.whole)
+loop-k-init c = recounted-start c.args.graph.now c.requires.readable.whole
 
 pub loop-k-preserved : goal.loop-k-preserved
 loop-k-preserved c = let inside : c.loop-k.k < slot_count c.args.graph.now = omega (arith, c.loop-k-test.true, c.slot_count-slots.ensures.0) in
     let whole : WholeGraph c.args.graph.now = c.requires.readable.whole in
-    let fits : record_at (c.loop-k.k + 1) ≤ length c.loop-k.graph = omega (arith, inside, c.loop-k.invariant.1.size, recounted-length c.args.graph.now whole) in
+    let fits : record_at (c.loop-k.k + 1) ≤ length c.loop-k.graph = omega (arith, inside, c.loop-k.invariant.size, recounted-length c.args.graph.now whole) in
     let n = get_or c.count_uses-uses.result c.loop-k.k 0 in
-    let slot = halfway_slot c.loop-k.k c.loop-k.invariant.1 in
-    let true_count_lem : true_count (graph_of c.args.graph.now) c.loop-k.k ≡ n = sym (c.count_uses-uses.ensures.1 c.loop-k.k inside) in (
-      omega arith,
-      halfway_write c.loop-k.k c.loop-k.invariant.1 c.store_count.ensures fits
-          (ap (λ (b : List ℕ). length (with_count n b)) slot ∙ with_length c.args.graph.now whole n c.loop-k.k inside)
-          (recounted-slot c.args.graph.now whole c.loop-k.k inside ∙ ap₂ with_count true_count_lem (sym slot)),
-    )
+    let slot = halfway_slot c.loop-k.k c.loop-k.invariant in
+    let true_count_lem : true_count (graph_of c.args.graph.now) c.loop-k.k ≡ n = sym (c.count_uses-uses.ensures.1 c.loop-k.k inside) in
+    halfway_write c.loop-k.k c.loop-k.invariant c.store_count.ensures fits
+    (ap (λ (b : List ℕ). length (with_count n b)) slot ∙ with_length c.args.graph.now whole n c.loop-k.k inside)
+    (recounted-slot c.args.graph.now whole c.loop-k.k inside ∙ ap₂ with_count true_count_lem (sym slot))

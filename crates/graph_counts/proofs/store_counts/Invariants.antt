@@ -13,7 +13,4 @@ use Rattle.graph_counts.proofs.Laws.{with_length, recounted-length, recounted-sl
 use Rattle.graph_counts.proofs.store_counts.Given as goal
 
 abbrev pub invariant-loop-k : goal.invariant-loop-k
-invariant-loop-k l = (l.k ≤ l.slots) × Halfway l.k l.graph (recounted l.initial.graph) l.initial.graph
-
-abbrev pub decreases-loop-k : goal.decreases-loop-k
-decreases-loop-k l = l.slots - l.k
+invariant-loop-k l = Halfway l.k l.graph (recounted l.initial.graph) l.initial.graph

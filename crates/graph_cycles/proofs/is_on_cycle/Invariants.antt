@@ -13,7 +13,4 @@ use Rattle.graph_cycles.proofs.Laws.{marked_ends}
 use Rattle.graph_cycles.proofs.is_on_cycle.Given as goal
 
 abbrev pub invariant-loop-i : goal.invariant-loop-i
-invariant-loop-i l = (l.i ≤ l.inputs) × (length l.marks ≡ slot_limit) × Marks (inputs_of (graph_of l.graph)) (take l.i (inputs_of (graph_of l.graph) l.v)) (is_marked l.marks)
-
-abbrev pub decreases-loop-i : goal.decreases-loop-i
-decreases-loop-i l = l.inputs - l.i
+invariant-loop-i l = (length l.marks ≡ slot_limit) × Marks (inputs_of (graph_of l.graph)) (take l.i (inputs_of (graph_of l.graph) l.v)) (is_marked l.marks)

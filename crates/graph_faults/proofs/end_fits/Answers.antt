@@ -4,7 +4,6 @@ use Prim.Native.Nat.{◌+◌}
 use native.Mathlib.Omega.{arith}
 use borrow.Author.Tests.{eq-eqb, ne_eqb}
 use Rattle.definitions.specs.Graph.{slot_bytes, import_version, zeros_offset}
-use borrow.Author.Rules.{rules}
 use Rattle.graph_faults.proofs.end_fits.Goals as goal
 
 pub returns-then-version-eq-IMPORT_VERSION : goal.returns-then-version-eq-IMPORT_VERSION

@@ -4,7 +4,6 @@ use mathlib.Core.Path.{◌≡◌, refl, sym, ◌∙◌}
 use mathlib.Core.Bool.{Bool, not, ◌||◌}
 use mathlib.Core.List.{List, [], ◌∷◌}
 use Prim.Native.Nat.{ℕ, ◌+◌, ◌*◌, ◌≤◌}
-use borrow.Author.Tests.{not-false}
 use lib.Dec.{eqb}
 use lib.ListN.{drop}
 use Rattle.definitions.specs.Fields.{byte_at, u32_at, filled, signed}
@@ -12,7 +11,6 @@ use Rattle.definitions.specs.Operators.{kind_proj, shape_fits}
 use Rattle.definitions.specs.Graph.{slot_bytes, input_limit, attribute_limit, at_least_one, zeros_offset, record_fits}
 use Rattle.laws.proofs.Operators.{few_inputs_lem, few_attributes_lem}
 use Rattle.laws.proofs.Tests.{all_of, conjunction, Remains, refused, passed, answered}
-use borrow.Author.Rules.{rules}
 use Rattle.graph_faults.proofs.record_fits.Goals as goal
 
 -- ---- the definition's tests

@@ -6,6 +6,9 @@ use lib.ListN.{length, get_or}
 use Rattle.definitions.specs.Fields.{byte_at, signed}
 use Rattle.definitions.specs.Graph.{Slot, record_at, graph_of, slot_of}
 use Rattle.laws.proofs.Graph.{slot_of_lem, length-attributes, attribute_of_lem}
+use mir.Syntax.{w32}
+use mir.Val.{SFits}
+use Rattle.std.proofs.lemmas.Int.{to_z-of_z}
 use borrow.Author.Rules.{rules}
 use Rattle.graph_fields.proofs.attribute_at.Goals as goal
 
@@ -17,4 +20,5 @@ returns c = let a = c.args in
     ap (λ (x : Slot). length x.attributes) slot ∙ length-attributes block (record_at a.k) in
     let word = ap (λ (x : Slot). get_or x.attributes a.i 0) slot
     ∙ attribute_of_lem block (record_at a.k) a.i 0 (omega (arith, counted, c.requires.i_in_bounds)) in
-    (rw c.record_at-at.ensures.0 at c.i32_at.ensures) ∙ sym (ap signed word)
+    let fits : SFits w32 c.i32_at.result = search rules in
+    to_z-of_z w32 c.i32_at.result fits ∙ (rw c.record_at-at.ensures.0 at c.i32_at.ensures) ∙ sym (ap signed word)

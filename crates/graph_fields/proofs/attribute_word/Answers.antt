@@ -6,7 +6,6 @@ use lib.ListN.{length, get_or}
 use Rattle.definitions.specs.Fields.{byte_at}
 use Rattle.definitions.specs.Graph.{Slot, record_at, graph_of, slot_of}
 use Rattle.laws.proofs.Graph.{slot_of_lem, length-attributes, attribute_of_lem}
-use borrow.Author.Rules.{rules}
 use Rattle.graph_fields.proofs.attribute_word.Goals as goal
 
 pub returns : goal.returns

@@ -6,7 +6,6 @@ use lib.ListN.{length, get_or}
 use Rattle.definitions.specs.Fields.{byte_at}
 use Rattle.definitions.specs.Graph.{unused_place, Slot, record_at, graph_of, inputs_of}
 use Rattle.laws.proofs.Graph.{slot_of_lem, length-inputs, input_of}
-use borrow.Author.Rules.{rules}
 use Rattle.graph_fields.proofs.input_at.Goals as goal
 
 pub returns : goal.returns

@@ -4,7 +4,6 @@ use native.Mathlib.Omega.{arith}
 use lib.ListN.{length}
 use Rattle.definitions.specs.Graph.{Slot, record_at}
 use Rattle.laws.proofs.Graph.{slot_of_lem, length-inputs}
-use borrow.Author.Rules.{rules}
 use Rattle.graph_fields.proofs.input_count.Goals as goal
 
 pub returns : goal.returns

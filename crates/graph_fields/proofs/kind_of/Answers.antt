@@ -2,7 +2,6 @@
 use mathlib.Core.Path.{◌∙◌, sym, ap}
 use Rattle.definitions.specs.Graph.{Slot, slot_from}
 use Rattle.laws.proofs.Graph.{slot_of_lem}
-use borrow.Author.Rules.{rules}
 use Rattle.graph_fields.proofs.kind_of.Goals as goal
 
 pub returns : goal.returns

@@ -3,7 +3,6 @@ use mathlib.Core.Path.{◌∙◌, sym}
 use native.Mathlib.Omega.{arith}
 use Rattle.definitions.specs.Graph.{unused_place}
 use Rattle.laws.proofs.Graph.{output_of}
-use borrow.Author.Rules.{rules}
 use Rattle.graph_fields.proofs.output_at.Goals as goal
 
 pub returns : goal.returns

@@ -1,11 +1,11 @@
 use mathlib.Core.Path.{refl, sym, ap, ◌∙◌}
-use Prim.Native.Nat.{ℕ, ◌-◌, ◌<◌, ◌≤◌}
+use Prim.Native.Nat.{ℕ, ◌<◌, ◌≤◌}
 use native.Mathlib.Omega.{arith}
 use Rattle.definitions.specs.Lists.{padded}
-use Rattle.definitions.specs.Graph.{slot_limit, output_limit, unused_place, output_count, graph_of}
+use Rattle.definitions.specs.Graph.{slot_limit, unused_place, output_count}
 use Rattle.laws.proofs.Lists.{get_or_any}
 use Rattle.laws.proofs.Graph.{length-outputs}
-use Rattle.laws.proofs.Filling.{Filling, filling_none, filling_more, filling_all}
+use Rattle.laws.proofs.Filling.{filling_none, filling_more}
 use Rattle.graph_moves.specs.Moving.{name_in}
 use Rattle.graph_moves.proofs.renamed_outputs.Goals as goal
 

@@ -1,12 +1,8 @@
 -- The places are renamed, and every other field is as it was.
-use mathlib.Core.Path.{refl, sym, ap, ◌∙◌, subst}
+use mathlib.Core.Path.{refl, sym, subst}
 use native.Mathlib.Omega.{arith}
-use lib.ListN.{length}
-use Rattle.definitions.specs.Graph.{input_limit, unused_place}
-use Rattle.laws.proofs.Padded.{length-padded}
 use Rattle.graph_moves.specs.Moving.{Renamable}
 use Rattle.graph_moves.proofs.Laws.{used_places, renamed_stands}
-use borrow.Author.Rules.{rules}
 use Rattle.graph_moves.proofs.renamed_record.Goals as goal
 
 pub returns : goal.returns

@@ -14,6 +14,3 @@ use Rattle.graph_reach.proofs.reaching_outputs.Given as goal
 
 abbrev pub invariant-loop-i : goal.invariant-loop-i
 invariant-loop-i l = (length l.marks ≡ slot_limit) × Marks (inputs_of (graph_of l.graph)) (take l.i (graph_of l.graph).outputs) (is_marked l.marks)
-
-abbrev pub decreases-loop-i : goal.decreases-loop-i
-decreases-loop-i l = l.outputs - l.i

@@ -2,7 +2,6 @@
 use mathlib.Core.Path.{refl}
 use Rattle.definitions.specs.Lists.{padded}
 use Rattle.definitions.specs.Graph.{empty_slot}
-use borrow.Author.Rules.{rules}
 use Rattle.graph_records.proofs.empty_record.Goals as goal
 
 pub returns : goal.returns

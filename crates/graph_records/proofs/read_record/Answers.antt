@@ -1,9 +1,6 @@
 -- Each field is what stands in its place, so the bytes of all of them are those that were read.
-use mathlib.Core.Path.{refl, ap, ◌∙◌}
+use mathlib.Core.Path.{refl}
 use native.Mathlib.Omega.{arith}
-use lib.ListN.{length}
-use borrow.Author.Rules.{rules}
-use Rattle.graph_arrays.proofs.Arrays.{inputs-size, attributes-size}
 use Rattle.graph_records.specs.Records.{ReadFrom}
 use Rattle.graph_records.proofs.Read.{record_back}
 use Rattle.graph_records.proofs.read_record.Goals as goal

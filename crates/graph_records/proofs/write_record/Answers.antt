@@ -2,7 +2,6 @@ use borrow.Author.Rules.{rules}
 use mathlib.Core.Path.{refl, ◌∙◌}
 use mathlib.Core.List.{[], ◌∷◌}
 use native.Mathlib.Omega.{arith}
-use lib.ListN.{length-set}
 use Rattle.definitions.specs.Graph.{slot_bytes, inputs_offset, attributes_offset, tail_offset}
 use Rattle.writing.proofs.Filled.{filled_up}
 use Rattle.graph_records.specs.Records.{fields_of}
@@ -14,9 +13,9 @@ unfolding fields_of
 returns c =
     let r = c.args.«record» in
     filled_up c.args.part.now (r.kind ∷ r.operator ∷ r.n ∷ r.m ∷ [])
-    c.put_u16s.new.part c.put_u32s.new.part c.copy.new.to inputs_offset attributes_offset tail_offset slot_bytes
+    c.put_numbers.new.part c.put_numbers-2.new.part c.copy_from_slice.new.self inputs_offset attributes_offset tail_offset slot_bytes
     (omega arith) (omega arith) (omega arith) c.requires.part_len refl
     (search rules)
     (search rules)
     (search rules)
-    ∙ rw (c.put_u16s.ensures, c.put_u32s.ensures, c.copy.ensures) refl
+    ∙ rw (c.put_numbers.ensures, c.put_numbers-2.ensures, c.copy_from_slice.ensures.after) refl

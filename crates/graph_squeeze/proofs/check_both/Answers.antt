@@ -1,7 +1,6 @@
 -- The graph's reply comes first, and then the list's.
 use mathlib.Core.Path.{◌∙◌}
 use Rattle.graph_squeeze.proofs.Outcome.{both_first}
-use borrow.Author.Rules.{rules}
 use Rattle.graph_squeeze.proofs.check_both.Goals as goal
 
 pub returns : goal.returns

@@ -1,12 +1,10 @@
 -- The length is compared once the block is long enough for a header.
 use mathlib.Core.Path.{sym, ap, ◌∙◌}
 use Prim.Native.Nat.{◌*◌}
-use native.Mathlib.Omega.{arith}
 use borrow.Author.Tests.{eq-eqb, ne_eqb}
 use lib.ListN.{length}
 use Rattle.definitions.specs.Graph.{slot_count}
 use Rattle.definitions.specs.Squeeze.{moves_reply}
-use borrow.Author.Rules.{rules}
 use Rattle.graph_squeeze.proofs.check_moves.Goals as goal
 
 pub returns-then-moves-slot_count : goal.returns-then-moves-slot_count

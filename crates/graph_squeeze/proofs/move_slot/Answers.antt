@@ -8,7 +8,6 @@ use Rattle.graph_records.proofs.Laws.{stands_bytes}
 use Rattle.graph_records.proofs.Standing.{stands_read}
 use Rattle.graph_slots.specs.Written.{SlotWritten}
 use Rattle.graph_moves.specs.Moving.{name_in}
-use borrow.Author.Rules.{rules}
 use Rattle.graph_squeeze.proofs.move_slot.Goals as goal
 
 pub returns : goal.returns

@@ -1,12 +1,10 @@
 use mathlib.Core.Path.{◌∙◌}
-use Prim.Native.Nat.{◌-◌, ◌<◌, ◌≤◌}
+use Prim.Native.Nat.{◌<◌}
 use native.Mathlib.Omega.{arith}
-use Rattle.definitions.specs.Graph.{slot_count, graph_of}
-use Rattle.definitions.specs.Sweep.{reaching_outputs, is_unneeded}
-use Rattle.laws.specs.Marked.{Marked}
+use Rattle.definitions.specs.Graph.{slot_count}
 use Rattle.graph_fields.specs.Layout.{WholeGraph}
 use Rattle.graph_check.proofs.Readable.{graph_readable, graph_closed, graph-outputs}
-use Rattle.graph_sweep.proofs.Laws.{marked_none, marked_more, same_unneeded}
+use Rattle.graph_sweep.proofs.Laws.{marked_more, same_unneeded}
 use Rattle.graph_sweep.proofs.find_unneeded.Goals as goal
 
 pub slot_count-slots-requires : goal.slot_count-slots-requires

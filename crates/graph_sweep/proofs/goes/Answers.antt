@@ -4,7 +4,6 @@ use mathlib.Core.Bool.{not, and-true, and-false}
 use borrow.Author.Tests.{eq-eqb, ne_eqb}
 use Rattle.definitions.specs.Graph.{graph_of, slot_of, is_vertex, is_variable}
 use Rattle.definitions.specs.Sweep.{is_unneeded}
-use borrow.Author.Rules.{rules}
 use Rattle.graph_sweep.proofs.goes.Goals as goal
 
 pub returns-then-needed-v : goal.returns-then-needed-v

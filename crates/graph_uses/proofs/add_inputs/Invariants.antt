@@ -15,6 +15,3 @@ use Rattle.graph_uses.proofs.add_inputs.Given as goal
 
 abbrev pub invariant-loop-place : goal.invariant-loop-place
 invariant-loop-place l = Counting slot_limit (reads_below (graph_of l.graph) (l.k + 1)) (drop l.place (inputs_of (graph_of l.graph) l.k)) l.uses
-
-abbrev pub decreases-loop-place : goal.decreases-loop-place
-decreases-loop-place l = l.places - l.place

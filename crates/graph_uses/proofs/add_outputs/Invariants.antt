@@ -12,6 +12,3 @@ use Rattle.graph_uses.proofs.add_outputs.Given as goal
 
 abbrev pub invariant-loop-i : goal.invariant-loop-i
 invariant-loop-i l = Counting slot_limit (true_count (graph_of l.graph)) (drop l.i (graph_of l.graph).outputs) l.uses
-
-abbrev pub decreases-loop-i : goal.decreases-loop-i
-decreases-loop-i l = l.outputs - l.i

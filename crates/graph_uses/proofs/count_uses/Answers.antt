@@ -11,11 +11,11 @@ use Rattle.graph_uses.proofs.count_uses.Goals as goal
 
 pub loop-k-init : goal.loop-k-init
 unfolding total
-loop-k-init c = (omega arith, counted_none slot_limit (λ v. refl))
+loop-k-init c = counted_none slot_limit (λ v. refl)
 
 pub add_outputs-requires : goal.add_outputs-requires
 add_outputs-requires c = record {
   readable = c.requires.readable;
   outputs = c.requires.outputs;
-  counted = counted_same (λ v. reads_all c.args.graph.now c.loop-k.k v (omega arith)) c.loop-k.invariant.1;
+  counted = counted_same (λ v. reads_all c.args.graph.now c.loop-k.k v (omega arith)) c.loop-k.invariant;
 }

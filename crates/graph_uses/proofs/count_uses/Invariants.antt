@@ -11,7 +11,4 @@ use Rattle.graph_uses.proofs.Laws.{reads_all}
 use Rattle.graph_uses.proofs.count_uses.Given as goal
 
 abbrev pub invariant-loop-k : goal.invariant-loop-k
-invariant-loop-k l = (l.k ≤ l.slots) × Counted slot_limit (reads_below (graph_of l.graph) l.k) l.uses
-
-abbrev pub decreases-loop-k : goal.decreases-loop-k
-decreases-loop-k l = l.slots - l.k
+invariant-loop-k l = Counted slot_limit (reads_below (graph_of l.graph) l.k) l.uses

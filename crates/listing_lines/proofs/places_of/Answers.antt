@@ -1,13 +1,12 @@
 use mathlib.Core.Path.{refl, sym, ap, ◌∙◌}
 use mathlib.Core.List.{map-id}
-use Prim.Native.Nat.{ℕ, ◌-◌, ◌<◌}
+use Prim.Native.Nat.{◌<◌}
 use native.Mathlib.Omega.{arith}
-use lib.ListN.{take}
 use lib.Seq.{length-take-le, get_or-take}
 use Rattle.definitions.specs.Lists.{padded}
 use Rattle.definitions.specs.Graph.{unused_place}
 use Rattle.laws.proofs.Lists.{get_or_any}
-use Rattle.laws.proofs.Filling.{Filling, filling_none, filling_more, filling_all}
+use Rattle.laws.proofs.Filling.{filling_none, filling_more, filling_all}
 use Rattle.listing_lists.specs.Lists.{list_limit}
 use Rattle.listing_lines.proofs.places_of.Goals as goal
 

@@ -1,7 +1,6 @@
 -- Each count is that of its table.
-use borrow.Author.Rules.{rules}
 use borrow.Author.Tests.{eq-eqb, ne_eqb}
-use Rattle.definitions.specs.Operators.{kind_const, kind_call, kind_proj, operator_count}
+use Rattle.definitions.specs.Operators.{kind_call, operator_count}
 use Rattle.listing.specs.Grammar.{least_inputs, most_inputs, attribute_count, operator_of}
 use Rattle.listing.proofs.Reach.{within_low, within_high}
 use Rattle.listing_lines.proofs.shape_of.Goals as goal
@@ -15,6 +14,6 @@ pub returns-then-kind-eq-KIND_CALL : goal.returns-then-kind-eq-KIND_CALL
 unfolding least_inputs most_inputs attribute_count
 returns-then-kind-eq-KIND_CALL c = rw (eq-eqb c.args.kind kind_call c.if-kind-eq-KIND_CALL.true) (c.counts_of-counts.ensures.0, c.counts_of-counts.ensures.0, c.counts_of-counts.ensures.1)
 
-pub returns : goal.returns
+pub returns-else-kind-eq-KIND_CALL : goal.returns-else-kind-eq-KIND_CALL
 unfolding least_inputs most_inputs attribute_count
-returns c = rw (ne_eqb c.args.kind kind_call c.if-kind-eq-KIND_CALL.false) c.row_of-row.ensures
+returns-else-kind-eq-KIND_CALL c = rw (ne_eqb c.args.kind kind_call c.if-kind-eq-KIND_CALL.false) c.row_of-row.ensures

@@ -1,5 +1,5 @@
 use native.Mathlib.Omega.{arith}
-use Rattle.listing_numbers.proofs.Laws.{CountedSo, count-first, count_more, count_few}
+use Rattle.listing_numbers.proofs.Laws.{count-first, count_more, count_few}
 use Rattle.listing_numbers.proofs.digit_count.Goals as goal
 
 pub loop-rest-init : goal.loop-rest-init

@@ -1,6 +1,5 @@
 -- The loop's invariant: the digits counted, and those of what is left, are the number's.
-use native.Mathlib.Omega.{arith}
-use Rattle.listing_numbers.proofs.Laws.{CountedSo, count-first, count_more, count_few}
+use Rattle.listing_numbers.proofs.Laws.{CountedSo}
 use Rattle.listing_numbers.proofs.digit_count.Given as goal
 
 abbrev pub invariant-loop-rest : goal.invariant-loop-rest

@@ -1,71 +1,66 @@
--- Each case of the stage and the byte has its law in `Stages`.
-use borrow.Author.Rules.{rules}
+-- Each case of what has been read, and of the byte.
+use borrow.Author.Tests.{lt-ltb, le-ltb}
 use mathlib.Core.Path.{◌≡◌, sym, ap, ◌∙◌}
 use mathlib.Core.Bool.{true, false}
-use mathlib.Core.Option.{some}
-use Prim.Native.Nat.{ℕ, ◌+◌, ◌-◌, ◌*◌}
+use mathlib.Core.Logic.{⊎_elim}
+use Prim.Native.Nat.{◌<◌}
 use native.Mathlib.Omega.{arith}
-use Rattle.listing.specs.Typing.{is_digit, digits_of, going_on}
+use Rattle.listing.specs.Typing.{is_digit, pressed, typed_with, going_on, can_go_on}
+use Rattle.listing_numbers.specs.declared.Typing.{Typing}
 use Rattle.listing_numbers.specs.State.{field_of, typed_of}
-use Rattle.listing_numbers.proofs.Stages.{digit_low, first-digit, minus_zero, minus_digit, zero_digit, plain-digit, negative-digit, first_minus, no_minus, later_minus, no_stage, above}
+use Rattle.listing_numbers.proofs.Stages.{minus_other, digits_other, digit_low, digit_high}
 use Rattle.listing_numbers.proofs.press.Goals as goal
 
-pub overflow_sub-d : goal.overflow_sub-d
-overflow_sub-d c = omega (arith, c.wide-d.ensures, digit_low _ (sym c.is_digit.ensures ∙ c.if-is_digit.true))
+pub returns-then-field-gt0-clause-value_value : goal.returns-then-field-gt0-clause-value_value
+unfolding typed_with pressed going_on can_go_on
+returns-then-field-gt0-clause-value_value c = rw (c.in-Nothing.is, sym c.is_digit.ensures, c.if-not-is_digit.true, lt-ltb 0 _ c.if-field-gt0.true)
 
-pub returns-then-stage-eq0-clause-value_value : goal.returns-then-stage-eq0-clause-value_value
-returns-then-stage-eq0-clause-value_value c = let F = field_of c.args.field in
-    let is : is_digit c.args.c ≡ true = sym c.is_digit.ensures ∙ c.if-is_digit.true in c.digits_so.ensures.value_value ∙ ap (λ (n : ℕ). going_on F (some (digits_of false (n - 48)))) c.wide-d.ensures
-    ∙ sym (first-digit F c.args.t.value c.args.c is c.args.t.stage c.if-stage-eq0.true)
+pub returns-else-field-gt0-clause-value_value : goal.returns-else-field-gt0-clause-value_value
+unfolding typed_with pressed going_on can_go_on
+returns-else-field-gt0-clause-value_value c = rw (c.in-Nothing.is, sym c.is_digit.ensures, c.if-not-is_digit.true, le-ltb 0 _ c.if-field-gt0.false)
+
+pub returns-in-Minus : goal.returns-in-Minus
+returns-in-Minus c = let F = field_of c.args.field in
+    let other : is_digit c.args.c ≡ false = sym c.is_digit.ensures ∙ c.if-not-is_digit.true in
+    record {
+      value_value = ⊎_elim (λ e. sym (ap (λ (t : Typing). typed_with F (typed_of t) c.args.c) e ∙ minus_other F c.args.c other))
+          (⊎_elim (λ e. sym (ap (λ (t : Typing). typed_with F (typed_of t) c.args.c) e.1 ∙ digits_other F false e.0 c.args.c other))
+          (λ e. sym (ap (λ (t : Typing). typed_with F (typed_of t) c.args.c) e.1 ∙ digits_other F true e.0 c.args.c other))) c.in-Minus.is;
+      value_bound_2 = tt;
+    }
+
+pub overflow_sub-c : goal.overflow_sub-c
+overflow_sub-c c = digit_low _ (sym c.is_digit.ensures ∙ c.if-not-is_digit.false)
+
+pub returns-in-Nothing-t-clause-value_value : goal.returns-in-Nothing-t-clause-value_value
+unfolding typed_with pressed
+returns-in-Nothing-t-clause-value_value c = c.digits_so.ensures.value_value ∙ rw (c.in-Nothing-t.is, sym c.is_digit.ensures, c.if-not-is_digit.false, c.from-d.ensures)
 
 pub returns-then-d-eq0-clause-value_value : goal.returns-then-d-eq0-clause-value_value
-unfolding typed_of
-returns-then-d-eq0-clause-value_value c = let F = field_of c.args.field in
-    let is : is_digit c.args.c ≡ true = sym c.is_digit.ensures ∙ c.if-is_digit.true in rw c.nowhere.ensures (sym (minus_zero F c.args.t.value c.args.c is c.args.t.stage c.if-stage-eq1.true
-    (ap (λ (n : ℕ). n - 48) (sym c.wide-d.ensures) ∙ c.if-d-eq0.true)))
+unfolding typed_with pressed going_on
+returns-then-d-eq0-clause-value_value c = rw (c.in-Minus-t.is, sym c.is_digit.ensures, c.if-not-is_digit.false, le-ltb 48 c.args.c (omega (arith, c.from-d.ensures, c.if-d-eq0.true)))
 
-pub returns-then-stage-eq1-clause-value_value : goal.returns-then-stage-eq1-clause-value_value
-returns-then-stage-eq1-clause-value_value c = let F = field_of c.args.field in
-    let is : is_digit c.args.c ≡ true = sym c.is_digit.ensures ∙ c.if-is_digit.true in c.digits_so-then-stage-eq1.ensures.value_value ∙ ap (λ (n : ℕ). going_on F (some (digits_of true (n - 48)))) c.wide-d.ensures
-    ∙ sym (minus_digit F c.args.t.value c.args.c is c.args.t.stage c.if-stage-eq1.true
-    (λ z. c.if-d-eq0.false (ap (λ (n : ℕ). n - 48) c.wide-d.ensures ∙ z)))
+pub returns-else-d-eq0-clause-value_value : goal.returns-else-d-eq0-clause-value_value
+unfolding typed_with pressed
+returns-else-d-eq0-clause-value_value c = let l : 48 < c.args.c = omega (arith, c.from-d.ensures) in
+    c.digits_so-else-d-eq0.ensures.value_value ∙ rw (c.in-Minus-t.is, sym c.is_digit.ensures, c.if-not-is_digit.false, lt-ltb 48 c.args.c l, c.from-d.ensures)
 
-pub returns-then-value-eq0-clause-value_value : goal.returns-then-value-eq0-clause-value_value
-unfolding typed_of
-returns-then-value-eq0-clause-value_value c = let F = field_of c.args.field in
-    let is : is_digit c.args.c ≡ true = sym c.is_digit.ensures ∙ c.if-is_digit.true in rw c.nowhere-then-value-eq0.ensures (sym (zero_digit F c.args.t.value c.args.c c.args.t.stage c.if-stage-eq0.false c.if-stage-eq1.false
-    c.if-value-eq0.true is))
+pub digits_behind-requires-clause-value_bound : goal.digits_behind-requires-clause-value_bound
+digits_behind-requires-clause-value_bound c = (
+  rw c.in-Digits.is at c.requires.value_bound,
+  omega (arith, c.from-d.ensures, digit_high _ (sym c.is_digit.ensures ∙ c.if-not-is_digit.false)),
+)
 
-pub returns-then-stage-eq2-clause-value_value : goal.returns-then-stage-eq2-clause-value_value
-returns-then-stage-eq2-clause-value_value c = let F = field_of c.args.field in
-    let is : is_digit c.args.c ≡ true = sym c.is_digit.ensures ∙ c.if-is_digit.true in c.digits_so-then-stage-eq2.ensures.value_value ∙ ap (λ (n : ℕ). going_on F (some (digits_of false (10 * c.args.t.value + (n - 48))))) c.wide-d.ensures
-    ∙ sym (plain-digit F c.args.t.value c.args.c is c.args.t.stage c.if-stage-eq2.true
-    (above c.args.t.value c.if-value-eq0.false))
+pub digits_behind-requires-in-NegativeDigits-clause-value_bound : goal.digits_behind-requires-in-NegativeDigits-clause-value_bound
+digits_behind-requires-in-NegativeDigits-clause-value_bound c = (
+  rw c.in-NegativeDigits.is at c.requires.value_bound,
+  omega (arith, c.from-d.ensures, digit_high _ (sym c.is_digit.ensures ∙ c.if-not-is_digit.false)),
+)
 
-pub returns-then-stage-eq3-clause-value_value : goal.returns-then-stage-eq3-clause-value_value
-returns-then-stage-eq3-clause-value_value c = let F = field_of c.args.field in
-    let is : is_digit c.args.c ≡ true = sym c.is_digit.ensures ∙ c.if-is_digit.true in c.digits_so-then-stage-eq3.ensures.value_value ∙ ap (λ (n : ℕ). going_on F (some (digits_of true (10 * c.args.t.value + (n - 48))))) c.wide-d.ensures
-    ∙ sym (negative-digit F c.args.t.value c.args.c is c.args.t.stage c.if-stage-eq3.true
-    (above c.args.t.value c.if-value-eq0.false))
+pub returns-in-Digits-clause-value_value : goal.returns-in-Digits-clause-value_value
+unfolding typed_with pressed
+returns-in-Digits-clause-value_value c = c.digits_behind.ensures.value_value ∙ rw (c.in-Digits.is, sym c.is_digit.ensures, c.if-not-is_digit.false, c.from-d.ensures)
 
-pub returns-then-is_digit-clause-value_value : goal.returns-then-is_digit-clause-value_value
-unfolding typed_of
-returns-then-is_digit-clause-value_value c = let F = field_of c.args.field in
-    let is : is_digit c.args.c ≡ true = sym c.is_digit.ensures ∙ c.if-is_digit.true in rw c.nowhere-then-is_digit.ensures (sym (no_stage F c.args.t.value c.args.c c.args.t.stage c.if-stage-eq0.false
-    c.if-stage-eq1.false c.if-stage-eq2.false c.if-stage-eq3.false))
-
-pub returns-then-below-gt0-clause-value_value : goal.returns-then-below-gt0-clause-value_value
-unfolding typed_of
-returns-then-below-gt0-clause-value_value c = sym (first_minus (field_of c.args.field) c.args.t.value c.args.c
-    (sym c.is_digit.ensures ∙ c.if-is_digit.false) c.args.t.stage c.if-stage-eq0-2.true c.if-below-gt0.true)
-
-pub returns-then-stage-eq0-2-clause-value_value : goal.returns-then-stage-eq0-2-clause-value_value
-unfolding typed_of
-returns-then-stage-eq0-2-clause-value_value c = rw c.nowhere-then-stage-eq0-2.ensures (sym (no_minus (field_of c.args.field) c.args.t.value c.args.c
-    (sym c.is_digit.ensures ∙ c.if-is_digit.false) c.args.t.stage c.if-stage-eq0-2.true
-    c.if-below-gt0.false))
-
-pub returns-clause-value_value : goal.returns-clause-value_value
-unfolding typed_of
-returns-clause-value_value c = rw c.nowhere-2.ensures (sym (later_minus (field_of c.args.field) c.args.t.value c.args.c
-    (sym c.is_digit.ensures ∙ c.if-is_digit.false) c.args.t.stage c.if-stage-eq0-2.false))
+pub returns-in-NegativeDigits-clause-value_value : goal.returns-in-NegativeDigits-clause-value_value
+unfolding typed_with pressed
+returns-in-NegativeDigits-clause-value_value c = c.digits_behind-in-NegativeDigits.ensures.value_value ∙ rw (c.in-NegativeDigits.is, sym c.is_digit.ensures, c.if-not-is_digit.false, c.from-d.ensures)

@@ -1,5 +1,4 @@
 -- A byte that stands there is inside the text.
-use borrow.Author.Rules.{rules}
 use borrow.Author.Tests.{lt-ltb, le-ltb}
 use lib.ListN.{length}
 use Rattle.listing_parse.specs.Parts.{has_byte}
@@ -9,6 +8,6 @@ pub returns-then-at-text : goal.returns-then-at-text
 unfolding has_byte
 returns-then-at-text c = rw (lt-ltb c.args.at (length c.args.text.now) c.if-at-text.true)
 
-pub returns : goal.returns
+pub returns-else-at-text : goal.returns-else-at-text
 unfolding has_byte
-returns c = rw (le-ltb c.args.at (length c.args.text.now) c.if-at-text.false)
+returns-else-at-text c = rw (le-ltb c.args.at (length c.args.text.now) c.if-at-text.false)

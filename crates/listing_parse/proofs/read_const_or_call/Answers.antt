@@ -1,7 +1,6 @@
 -- The second letter tells the two words apart.
 use mathlib.Core.Path.{sym, ◌∙◌, refl}
 use native.Mathlib.Omega.{arith}
-use borrow.Author.Rules.{rules}
 use Rattle.listing.specs.Forms.{value_of}
 use Rattle.listing.specs.Grammar.{literal}
 use Rattle.listing_parse.proofs.Chains.{has_inside, choice_has, choice_lacks}
@@ -15,7 +14,7 @@ unfolding literal
 returns-then-has_byte-clause-part_read c = λ f. choice_has c.args.text.now c.args.at 111 _ _ (sym c.has_byte.ensures ∙ c.if-has_byte.true)
     ∙ c.read_rest.ensures.part_read f
 
-pub returns-clause-part_read : goal.returns-clause-part_read
+pub returns-else-has_byte-clause-part_read : goal.returns-else-has_byte-clause-part_read
 unfolding literal value_of
-returns-clause-part_read c = λ f. choice_lacks c.args.text.now c.args.at 111 _ _ (sym c.has_byte.ensures ∙ c.if-has_byte.false) refl
-    ∙ c.read_rest-2.ensures.part_read f
+returns-else-has_byte-clause-part_read c = λ f. choice_lacks c.args.text.now c.args.at 111 _ _ (sym c.has_byte.ensures ∙ c.if-has_byte.false) refl
+    ∙ c.read_rest-else-has_byte.ensures.part_read f

@@ -1,7 +1,6 @@
 -- The attributes stand in the places of their record.
 use native.Mathlib.Omega.{arith}
 use Rattle.listing_print.proofs.Rows.{attributes-row}
-use borrow.Author.Rules.{rules}
 use Rattle.listing_print.proofs.attributes_of.Goals as goal
 
 pub returns : goal.returns

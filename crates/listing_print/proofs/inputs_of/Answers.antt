@@ -1,7 +1,6 @@
 -- The inputs stand in the places of their record.
 use native.Mathlib.Omega.{arith}
 use Rattle.listing_print.proofs.Rows.{inputs-row}
-use borrow.Author.Rules.{rules}
 use Rattle.listing_print.proofs.inputs_of.Goals as goal
 
 pub returns : goal.returns

@@ -5,7 +5,6 @@ use lib.IntN.{pos}
 use Rattle.definitions.specs.Fields.{signed}
 use Rattle.listing_print.specs.Rows.{number_in}
 use Rattle.listing_print.proofs.Numbers.{signed_plus}
-use borrow.Author.Rules.{rules}
 use Rattle.listing_print.proofs.number_at.Goals as goal
 
 pub returns-then-wide : goal.returns-then-wide

@@ -1,7 +1,6 @@
 -- The outputs stand in the places of the header.
 use native.Mathlib.Omega.{arith}
 use Rattle.listing_print.proofs.Rows.{outputs-row}
-use borrow.Author.Rules.{rules}
 use Rattle.listing_print.proofs.outputs_of.Goals as goal
 
 pub returns : goal.returns

@@ -1,6 +1,5 @@
 -- The space, and the number behind it.
 use Rattle.listing_print.proofs.Laying.{laid_then}
-use borrow.Author.Rules.{rules}
 use Rattle.listing_print.proofs.put_behind.Goals as goal
 
 pub returns : goal.returns

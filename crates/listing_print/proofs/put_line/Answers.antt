@@ -2,7 +2,6 @@
 use mathlib.Core.Path.{◌≡◌, sym}
 use mathlib.Core.List.{List, [], ◌∷◌, ◌++◌}
 use Prim.Native.Nat.{ℕ, ◌+◌, ◌≤◌}
-use native.Mathlib.Omega.{arith}
 use lib.ListN.{length}
 use Rattle.definitions.specs.Graph.{graph_of}
 use Rattle.definitions.specs.Sheet.{joined, line_text}
@@ -11,7 +10,6 @@ use Rattle.listing_print.specs.Laid.{text_limit, Laid}
 use Rattle.listing_print.specs.Rows.{numbers_in}
 use Rattle.listing_print.proofs.Laying.{laid_then, laid_as, room-first, room_next}
 use Rattle.listing_print.proofs.Lines.{start_text, line_parts}
-use borrow.Author.Rules.{rules}
 use Rattle.listing_print.proofs.put_line.Goals as goal
 
 -- `}` and the line's end

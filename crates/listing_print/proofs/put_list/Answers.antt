@@ -1,9 +1,9 @@
 -- What opens the list, its first number, and the others behind it, a space before each.
 use mathlib.Core.Path.{◌≡◌, sym, ap, ◌∙◌}
-use mathlib.Core.List.{List, ◌++◌, append-nil}
+use mathlib.Core.List.{◌++◌, append-nil}
 use Prim.Native.Nat.{◌+◌, ◌≤◌, ◌<◌}
 use native.Mathlib.Omega.{arith}
-use lib.IntN.{ℤ, pos}
+use lib.IntN.{pos}
 use lib.ListN.{length, drop}
 use Rattle.definitions.specs.Fields.{signed}
 use Rattle.definitions.specs.Numerals.{numeral}
@@ -12,7 +12,6 @@ use Rattle.listing_print.specs.Laid.{text_limit}
 use Rattle.listing_print.specs.Rows.{numbers_in}
 use Rattle.listing_print.proofs.Laying.{laid_then, laid_as, room-first, room_next}
 use Rattle.listing_print.proofs.Rows.{length-row, row_at, joined_none, joined_some}
-use borrow.Author.Rules.{rules}
 use Rattle.listing_print.proofs.put_list.Goals as goal
 
 pub returns-then-count-eq0 : goal.returns-then-count-eq0

@@ -8,7 +8,6 @@ use Rattle.definitions.specs.Numerals.{minus_sign, decimal}
 use Rattle.listing_print.specs.Laid.{text_limit}
 use Rattle.listing_print.proofs.Laying.{laid_then, laid_as, room-first, room_next}
 use Rattle.listing_print.proofs.Numbers.{numeral_plus, numeral_minus}
-use borrow.Author.Rules.{rules}
 use Rattle.listing_print.proofs.put_number.Goals as goal
 
 pub returns-then-number-lt2147483648 : goal.returns-then-number-lt2147483648

@@ -1,14 +1,14 @@
 use mathlib.Core.Path.{◌≡◌, refl, sym, ◌∙◌}
-use mathlib.Core.List.{List, ◌∷◌}
-use Prim.Native.Nat.{ℕ, ◌+◌, ◌-◌, ◌≤◌, ◌<◌}
+use mathlib.Core.List.{◌∷◌}
+use Prim.Native.Nat.{◌+◌, ◌≤◌, ◌<◌}
 use native.Mathlib.Omega.{arith}
-use lib.IntN.{ℤ, pos}
+use lib.IntN.{pos}
 use lib.ListN.{length, get_or}
 use lib.Seq.{slice}
 use Rattle.definitions.specs.Fields.{signed}
 use Rattle.definitions.specs.Numerals.{numeral}
 use Rattle.definitions.specs.Sheet.{spaced}
-use Rattle.listing_print.specs.Laid.{text_limit, Laid}
+use Rattle.listing_print.specs.Laid.{text_limit}
 use Rattle.listing_print.specs.Rows.{numbers_in}
 use Rattle.listing_print.proofs.Laying.{laid_none, laid_then, laid_as, room_next}
 use Rattle.listing_print.proofs.Rows.{length-row, row_at, spaced_none, spaced-all, spaced_more, spaced-room}
@@ -30,7 +30,7 @@ loop-i-preserved c = let inside : (c.loop-i.i) < length (numbers_in c.args.block
     let same : get_or (numbers_in c.args.block.now c.args.row) c.loop-i.i (pos 0) ≡ (signed c.number_at.result) = row_at c.args.block.now c.args.row c.loop-i.i (pos 0) (omega (arith, c.loop-i-test.true))
     ∙ sym c.number_at.ensures in (
       omega (arith, c.loop-i.invariant.0),
-      omega (arith, c.loop-i.invariant.1, c.text-1.given),
+      omega (arith, c.loop-i.invariant.1),
       laid_as (sym (spaced_more (numbers_in c.args.block.now c.args.row) c.args.first c.loop-i.i (signed c.number_at.result) c.loop-i.invariant.0 inside same))
           (laid_then c.loop-i.invariant.2 c.put_behind-end.ensures),
     )

@@ -1,16 +1,13 @@
 -- The number, the word, and the operator of a call, one behind the other.
-use mathlib.Core.Path.{◌≡◌, sym, ap, ◌∙◌}
-use mathlib.Core.List.{List, [], ◌∷◌, ◌++◌, append-nil}
-use Prim.Native.Nat.{ℕ, ◌+◌, ◌≤◌}
-use native.Mathlib.Omega.{arith}
+use mathlib.Core.Path.{sym, ap, ◌∙◌}
+use mathlib.Core.List.{[], ◌∷◌, ◌++◌, append-nil}
+use Prim.Native.Nat.{◌+◌, ◌≤◌}
 use lib.ListN.{length}
 use Rattle.definitions.specs.Numerals.{decimal, numeral}
-use Rattle.definitions.specs.Operators.{kind_call}
 use Rattle.definitions.specs.Sheet.{word, operator_text}
 use Rattle.listing_print.specs.Laid.{text_limit, Laid}
 use Rattle.listing_print.proofs.Laying.{laid_then, laid_as, room-first, room_next}
 use Rattle.listing_print.proofs.Words.{operator_none, operator-call}
-use borrow.Author.Rules.{rules}
 use Rattle.listing_print.proofs.put_start.Goals as goal
 
 pub put_word-word_end-requires : goal.put_word-word_end-requires

@@ -4,7 +4,6 @@ use mathlib.Core.List.{◌∷◌}
 use Rattle.definitions.specs.Sheet.{words, word}
 use Rattle.listing_print.proofs.Laying.{laid_as}
 use Rattle.listing_print.proofs.Words.{word_none}
-use borrow.Author.Rules.{rules}
 use Rattle.listing_print.proofs.put_word.Goals as goal
 
 pub put_bytes-requires : goal.put_bytes-requires

@@ -8,7 +8,6 @@ use Rattle.definitions.specs.Sheet.{opening}
 use Rattle.listing_print.specs.Laid.{text_limit, Laid}
 use Rattle.listing_print.proofs.Laying.{laid_then, room-first, room_next}
 use Rattle.listing_write.specs.Parts.{head_text}
-use borrow.Author.Rules.{rules}
 use Rattle.listing_write.proofs.put_head.Goals as goal
 
 pub put_bytes-requires : goal.put_bytes-requires

@@ -1,7 +1,7 @@
 -- The first line, the lines of the slots, and the last line.
 use mathlib.Core.Path.{sym, ap}
-use mathlib.Core.List.{List, ◌++◌}
-use Prim.Native.Nat.{ℕ, ◌+◌, ◌≤◌}
+use mathlib.Core.List.{◌++◌}
+use Prim.Native.Nat.{◌+◌, ◌≤◌}
 use native.Mathlib.Omega.{arith}
 use lib.ListN.{length}
 use Rattle.definitions.specs.Graph.{slot_count, graph_of}
@@ -9,7 +9,6 @@ use Rattle.listing_print.specs.Laid.{text_limit, Laid}
 use Rattle.listing_print.proofs.Laying.{laid_then, laid_as, room-first, room_next}
 use Rattle.listing_write.specs.Parts.{head_text, slots_text, outputs_text}
 use Rattle.listing_write.proofs.Parts.{listing_parts}
-use borrow.Author.Rules.{rules}
 use Rattle.listing_write.proofs.put_listing.Goals as goal
 
 pub returns : goal.returns

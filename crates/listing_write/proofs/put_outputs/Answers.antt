@@ -10,7 +10,6 @@ use Rattle.listing_print.specs.Laid.{text_limit, Laid}
 use Rattle.listing_print.specs.Rows.{numbers_in}
 use Rattle.listing_print.proofs.Laying.{laid_then, laid_as, room-first, room_next}
 use Rattle.listing_write.specs.Parts.{outputs_text}
-use borrow.Author.Rules.{rules}
 use Rattle.listing_write.proofs.put_outputs.Goals as goal
 
 pub put_bytes-numbers-requires : goal.put_bytes-numbers-requires

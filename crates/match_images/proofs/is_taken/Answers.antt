@@ -1,28 +1,26 @@
-use mathlib.Core.Path.{◌≡◌, refl, sym, ap, ◌∙◌}
-use mathlib.Core.Bool.{Bool, false}
-use Prim.Native.Nat.{ℕ, ◌-◌, ◌≤◌}
+-- The images that are looked at are those of source vertices, where an image is the number in its place.
+use mathlib.Core.Path.{◌≡◌, refl, sym, ◌∙◌}
+use mathlib.Core.Bool.{Bool}
+use Prim.Native.Nat.{ℕ, zero, suc, ◌<◌}
 use native.Mathlib.Omega.{arith}
-use borrow.Author.Rules.{rules}
-use borrow.Author.Tests.{eq-eqb, ne_eqb}
+use Rattle.std.proofs.Common.{rules}
+use borrow.Author.Tests.{tests}
 use lib.Dec.{eqb}
+use lib.ListN.{get_or}
 use Rattle.definitions.specs.Lists.{any_below}
 use Rattle.definitions.specs.Match.{image_of}
-use Rattle.laws.proofs.Lists.{any_below-step, any_below-found}
 use Rattle.laws.proofs.Match.{image-at}
+use Rattle.laws.proofs.Searches.{any_of_range}
 use Rattle.match_images.proofs.is_taken.Goals as goal
 
-pub loop-i-init : goal.loop-i-init
+-- two tests that agree on each number below n
+any_same : (p q : ℕ → Bool) (n : ℕ) → ((k : ℕ) → k < n → p k ≡ q k) → any_below p n ≡ any_below q n
 unfolding any_below
-loop-i-init c = (omega arith, refl)
+any_same p q zero same = refl
+any_same p q (suc n) same = rw (any_same p q n (λ k l. same k (omega arith)), same n (omega arith))
 
-pub returns-then-widened-v : goal.returns-then-widened-v
-returns-then-widened-v c = let read = image-at c.args.images.now c.loop-i.i (omega arith) ∙ sym c.widened.ensures in
-    sym (any_below-found (λ k. eqb (image_of c.args.images.now k) c.args.v) c.args.next c.loop-i.i (omega arith)
-    (eq-eqb (image_of c.args.images.now c.loop-i.i) c.args.v (read ∙ c.if-widened-v.true)))
-
-pub loop-i-preserved : goal.loop-i-preserved
-loop-i-preserved c = let read = image-at c.args.images.now c.loop-i.i (omega arith) ∙ sym c.widened.ensures in (
-  omega arith,
-  any_below-step (λ k. eqb (image_of c.args.images.now k) c.args.v) c.loop-i.i c.loop-i.invariant.1
-      (ne_eqb (image_of c.args.images.now c.loop-i.i) c.args.v (λ e. c.if-widened-v.false (sym read ∙ e))),
-)
+pub returns : goal.returns
+returns c =
+    any_of_range (λ i. eqb (get_or c.args.images.now i 0) c.args.v) refl _ _ _ c.any.ensures.ran (λ x b q k. search (rules, tests))
+    ∙ sym (any_same (λ i. eqb (image_of c.args.images.now i) c.args.v) (λ i. eqb (get_or c.args.images.now i 0) c.args.v) c.args.next
+    (λ k l. rw (image-at c.args.images.now k (omega arith))))

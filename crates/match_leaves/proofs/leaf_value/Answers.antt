@@ -2,10 +2,10 @@
 use mathlib.Core.Path.{◌≡◌, sym, ap, ◌∙◌}
 use mathlib.Core.Option.{none, some}
 use native.Mathlib.Omega.{arith}
-use borrow.Author.Rules.{rules}
 use Rattle.definitions.specs.Graph.{graph_of}
 use Rattle.definitions.specs.Rule.{node_form}
 use Rattle.definitions.specs.Match.{read_attribute}
+use Rattle.std.proofs.lemmas.Int.{to_z-of_z}
 use Rattle.numbers.specs.Value.{value_of}
 use Rattle.match_leaves.proofs.Laws.{read-outside, any-gives, constant_gives, read-gives}
 use Rattle.match_leaves.proofs.leaf_value.Goals as goal
@@ -16,7 +16,8 @@ returns-then-form-eq-FORM_ANY c = any-gives c.args.rule.now c.args.k c.requires.
     (sym c.node_form-form.ensures.0 ∙ c.if-form-eq-FORM_ANY.true)
 
 pub returns-then-form-eq-FORM_CONSTANT : goal.returns-then-form-eq-FORM_CONSTANT
-returns-then-form-eq-FORM_CONSTANT c = c.number.ensures ∙ ap some c.node_number.ensures
+unfolding value_of
+returns-then-form-eq-FORM_CONSTANT c = ap some (grind (arith, to_z-of_z, c.node_number.ensures))
     ∙ constant_gives c.args.rule.now c.args.k c.requires.leaf.inside
     (read_attribute (graph_of c.args.graph.now) c.args.images.now)
     (sym c.node_form-form.ensures.0 ∙ c.if-form-eq-FORM_CONSTANT.true)

@@ -1,5 +1,4 @@
 -- Each number is a byte of the word.
-use borrow.Author.Rules.{rules}
 use Rattle.match_look.proofs.Words.{head-packed}
 use Rattle.match_look.proofs.packed.Goals as goal
 

@@ -1,5 +1,4 @@
 -- The look at the slot's head.
-use borrow.Author.Rules.{rules}
 use Rattle.match_look.specs.Candidate.{passes_look}
 use Rattle.match_look.proofs.passes_look.Goals as goal
 

@@ -1,5 +1,4 @@
 -- The four numbers, one by one, and then the word of them.
-use borrow.Author.Rules.{rules}
 use Rattle.match_look.specs.Head.{pattern_head}
 use Rattle.match_look.proofs.pattern_head.Goals as goal
 

@@ -19,13 +19,13 @@ attempt-requires c = record {
   space = refl;
 }
 
-pub returns-then-not-attempt : goal.returns-then-not-attempt
-returns-then-not-attempt c =
-    no_match_lem c.args.graph.now c.args.rule.now c.args.map.now c.requires.working_rule c.requires.map_fits
-    (blank-start (fixed_of c.args.rule.now)) c.attempt.ensures c.if-not-attempt.true
+pub returns-else-attempt : goal.returns-else-attempt
+returns-else-attempt c =
+    c.if-attempt.false ∙ no_match_lem c.args.graph.now c.args.rule.now c.args.map.now c.requires.working_rule c.requires.map_fits
+    (blank-start (fixed_of c.args.rule.now)) c.attempt.ensures c.if-attempt.false
 
-pub returns : goal.returns
-returns c =
+pub returns-then-attempt : goal.returns-then-attempt
+returns-then-attempt c =
     c.holds_images.ensures
     ∙ attempt_decides c.args.graph.now c.args.rule.now c.args.map.now c.requires.working_rule c.requires.map_fits
-    (blank-start (fixed_of c.args.rule.now)) c.attempt.ensures c.if-not-attempt.false
+    (blank-start (fixed_of c.args.rule.now)) c.attempt.ensures c.if-attempt.true

@@ -1,5 +1,5 @@
 -- What is known of the one output before the loop, and what each turn comes to.
-use mathlib.Core.Path.{◌≡◌, refl}
+use mathlib.Core.Path.{◌≡◌}
 use mathlib.Core.List.{List, [], ◌∷◌}
 use Prim.Native.Nat.{ℕ, ◌+◌, ◌<◌}
 use native.Mathlib.Omega.{arith}
@@ -75,4 +75,4 @@ pub returns : goal.returns
 returns c =
     nothing_found c.args.graph.now c.args.rule.now c.requires.working c.args.start
     (all_passed c.args.graph.now c.args.rule.now c.requires.working c.args.root [] c.requires.listed c.args.start c.loop-slot.slot
-    c.loop-slot.invariant.0.passed (omega (arith, c.loop-slot-test.false, c.slot_count-slots.ensures.0))) refl
+    c.loop-slot.invariant.0.passed (omega (arith, c.loop-slot-test.false, c.slot_count-slots.ensures.0)))

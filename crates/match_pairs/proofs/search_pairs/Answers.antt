@@ -1,7 +1,7 @@
 -- What is known of the two outputs before the loops, and what each turn comes to.
 use mathlib.Core.Path.{◌≡◌, refl}
 use mathlib.Core.List.{List, [], ◌∷◌}
-use Prim.Native.Nat.{ℕ, suc, ◌+◌, ◌<◌, ◌≤◌, max}
+use Prim.Native.Nat.{ℕ, suc, ◌+◌, ◌<◌, max}
 use native.Mathlib.Omega.{arith}
 use lib.ListN.{length, get_or}
 use Rattle.definitions.specs.Graph.{slot_count, graph_of}
@@ -67,7 +67,6 @@ returns-then-candidates-eq0 c =
     c.all_candidates-candidates.result.count c.all_candidates-candidates.ensures)
     (within c.args.graph.now c.args.rule.now c.args.demands.now c.args.root c.args.last c.requires) whole from.is_match refl in
     omega (arith, left.2, c.if-candidates-eq0.true))
-    c.none_found.ensures
 
 pub overflow_add-next : goal.overflow_add-next
 overflow_add-next c =
@@ -120,10 +119,10 @@ pub match_candidate-requires-in-loop-k : goal.match_candidate-requires-in-loop-k
 match_candidate-requires-in-loop-k c = record {
   setting = c.requires.setting;
   vertex = second_vertex c.args.graph.now c.args.rule.now c.args.demands.now c.args.root c.args.last c.requires;
-  slot = omega (arith, c.widened-second.ensures, c.all_candidates-candidates.ensures.below c.loop-k.k c.loop-k-test.true);
+  slot = omega (arith, c.from-second.ensures, c.all_candidates-candidates.ensures.below c.loop-k.k c.loop-k-test.true);
   candidate = second_candidate c.args.graph.now c.args.rule.now c.requires.working c.args.root c.args.last c.requires.listed
-      (head_in c.pattern_head.result) c.pattern_head.ensures c.widened-second.result
-      (rw c.widened-second.ensures (c.all_candidates-candidates.ensures.holds c.loop-k.k c.loop-k-test.true));
+      (head_in c.pattern_head.result) c.pattern_head.ensures c.from-second.result
+      (rw c.from-second.ensures (c.all_candidates-candidates.ensures.holds c.loop-k.k c.loop-k-test.true));
   fresh = omega (arith, second-later c.args.graph.now c.args.rule.now c.requires.working c.args.root c.args.last c.requires.listed);
   partial = c.loop-k.invariant.1.partial;
   order = second_in_order c.args.graph.now c.args.rule.now c.requires.working c.args.root c.args.last c.requires.listed;
@@ -134,7 +133,7 @@ loop-k-preserved c =
     let step : Step (graph_of c.args.graph.now) (fixed_of c.args.rule.now) (c.args.root + 1) c.loop-k.images
     (Sends c.args.last (get_or c.all_candidates-candidates.result.slots c.loop-k.k 0)) (max (c.args.root + 1) (suc c.args.last))
     c.match_candidate-in-loop-k.result c.match_candidate-in-loop-k.new.images
-    = rw (← c.widened-second.ensures) c.match_candidate-in-loop-k.ensures in (
+    = rw (← c.from-second.ensures) c.match_candidate-in-loop-k.ensures in (
       left-next (graph_of c.args.graph.now) (fixed_of c.args.rule.now) c.args.root c.args.last c.search.first
           (head_in c.pattern_head.result) c.pattern_head.ensures
           (listed c.args.graph.now (head_in c.pattern_head.result) c.all_candidates-candidates.result.slots
@@ -151,7 +150,7 @@ returns-then-match_candidate-2 c =
     let step : Step (graph_of c.args.graph.now) (fixed_of c.args.rule.now) (c.args.root + 1) c.loop-k.images
     (Sends c.args.last (get_or c.all_candidates-candidates.result.slots c.loop-k.k 0)) (max (c.args.root + 1) (suc c.args.last))
     c.match_candidate-in-loop-k.result c.match_candidate-in-loop-k.new.images
-    = rw (← c.widened-second.ensures) c.match_candidate-in-loop-k.ensures in
+    = rw (← c.from-second.ensures) c.match_candidate-in-loop-k.ensures in
     two_found c.args.graph.now c.args.rule.now c.requires.working c.args.root c.args.last c.requires.listed c.args.start c.search.first
     (get_or c.all_candidates-candidates.result.slots c.loop-k.k 0) c.search.invariant.0.passed
     (left_least (graph_of c.args.graph.now) (fixed_of c.args.rule.now) c.args.root c.args.last c.search.first
@@ -176,21 +175,20 @@ search-preserved c =
             c.all_candidates-candidates.result.slots c.all_candidates-candidates.result.count w.loop-k.k w.loop-k.invariant.0
             w.loop-k-test.false c.search.invariant.0.passed),
         rw w.images-is w.loop-k.invariant.2,
-        rw w.ok-is w.loop-k.invariant.3,
+        rw w.found-is w.loop-k.invariant.3,
       )
       | else-match_candidate w ↦ (
         next (root_fails (graph_of c.args.graph.now) (fixed_of c.args.rule.now) c.args.root c.search.first step c.args.start
             c.search.invariant.0.passed w.if-match_candidate.false),
         rw w.images-is (blank-after step.size step.rest c.search.invariant.1),
-        rw w.ok-is c.search.invariant.2,
+        rw w.found-is c.search.invariant.2,
       )
     ]
 
 -- ---- no first image is left
 
 pub returns-after-search : goal.returns-after-search
-returns-after-search c =
-    nothing_found c.args.graph.now c.args.rule.now c.requires.working c.args.start
+returns-after-search c = rw c.search.invariant.2
+    (nothing_found c.args.graph.now c.args.rule.now c.requires.working c.args.start
     (all_passed c.args.graph.now c.args.rule.now c.requires.working c.args.root (c.args.last ∷ []) c.requires.listed c.args.start
-    c.search.first c.search.invariant.0.passed (omega (arith, c.search-test.false, c.slot_count-slots.ensures.0)))
-    c.search.invariant.2
+    c.search.first c.search.invariant.0.passed (omega (arith, c.search-test.false, c.slot_count-slots.ensures.0))))

@@ -16,7 +16,7 @@ pub count_places-places-requires : goal.count_places-places-requires
 count_places-places-requires c = record { readable = c.requires.working_rule.readable; layered = rule_layered c.args.rule.now c.requires.working_rule }
 
 pub returns : goal.returns
-returns c = let own : c.widened.result ≡ places_of (fixed_of c.args.rule.now) c.args.j = c.widened.ensures ∙ c.count_places-places.ensures.at c.args.j in
+returns c = let own : c.from.result ≡ places_of (fixed_of c.args.rule.now) c.args.j = c.from.ensures ∙ c.count_places-places.ensures.at c.args.j in
     let above : c.exceeds.result ≡ ltb (places_of (fixed_of c.args.rule.now) c.args.j) c.args.count =
     c.exceeds.ensures ∙ ap (λ (n : ℕ). ltb n c.args.count) own in
     record {

@@ -36,11 +36,11 @@ match_candidate-match_inputs-requires t c =
       },
     )
 
-pub match_candidate-returns-then-not-match_inputs : goal.match_candidate-returns-then-not-match_inputs
-match_candidate-returns-then-not-match_inputs t c =
+pub match_candidate-returns-else-match_inputs : goal.match_candidate-returns-else-match_inputs
+match_candidate-returns-else-match_inputs t c =
     let inside : c.args.j < length (fixed_of c.args.rule.now).source = rw (length-source c.args.rule.now) c.requires.vertex in
-    inputs_fail (graph_of c.args.graph.now) (fixed_of c.args.rule.now) (formed c.args.rule.now c.requires.setting.matchable) c.args.j
-    c.args.v inside c.match_inputs.ensures c.if-not-match_inputs.true
+    rw c.if-match_inputs.false (inputs_fail (graph_of c.args.graph.now) (fixed_of c.args.rule.now)
+    (formed c.args.rule.now c.requires.setting.matchable) c.args.j c.args.v inside c.match_inputs.ensures c.if-match_inputs.false)
 
 -- once the inputs are matched, the vertex itself is the next
 pub match_candidate-settle-requires : goal.match_candidate-settle-requires
@@ -54,18 +54,18 @@ match_candidate-settle-requires t c =
       vertex = c.requires.vertex;
       slot = c.requires.slot;
       candidate = c.requires.candidate;
-      partial = rw next_is at (c.match_inputs.ensures.partial c.if-not-match_inputs.false);
-      inputs = c.match_inputs.ensures.meets c.if-not-match_inputs.false;
+      partial = rw next_is at (c.match_inputs.ensures.partial c.if-match_inputs.true);
+      inputs = c.match_inputs.ensures.meets c.if-match_inputs.true;
     }
 
-pub match_candidate-returns : goal.match_candidate-returns
-match_candidate-returns t c =
+pub match_candidate-returns-then-match_inputs : goal.match_candidate-returns-then-match_inputs
+match_candidate-returns-then-match_inputs t c =
     let inside : c.args.j < length (fixed_of c.args.rule.now).source = rw (length-source c.args.rule.now) c.requires.vertex in
     let well : Formed (fixed_of c.args.rule.now) = formed c.args.rule.now c.requires.setting.matchable in
     let next_is : visited_after c.args.next (source_inputs (fixed_of c.args.rule.now) c.args.j) ≡ c.args.j =
     in_order-here (fixed_of c.args.rule.now) c.args.next c.args.j (well.lower c.args.j) c.requires.order c.requires.fresh in
     inputs_pass (graph_of c.args.graph.now) (fixed_of c.args.rule.now) well c.args.j c.args.v inside c.match_inputs.ensures
-    c.if-not-match_inputs.false next_is c.requires.fresh c.settle.ensures
+    c.if-match_inputs.true next_is c.requires.fresh c.settle.ensures
 
 -- ---- match_inputs
 
@@ -121,8 +121,8 @@ match_inputs-match_inputs-requires t c =
     let left : c.args.i < length (source_inputs (fixed_of c.args.rule.now) c.args.j) =
     omega (arith, c.source_input_count.ensures.0, c.if-i-source_input_count.false, c.requires.place) in
     let few : c.args.i < 6 = omega (arith, left, c.source_input_count.ensures.0, c.source_input_count.ensures.1) in
-    let reached : c.greater-reached.result ≡ max c.args.next (suc c.source_input-u.result) =
-    omega (arith, c.greater-reached.ensures) in (
+    let reached : c.max-reached.result ≡ max c.args.next (suc c.source_input-u.result) =
+    omega (arith, c.max-reached.ensures) in (
       omega arith,
       record {
         setting = c.requires.setting;
@@ -133,7 +133,7 @@ match_inputs-match_inputs-requires t c =
         partial = rw reached (c.match_vertex.ensures.step.partial c.if-not-match_vertex.false);
         order = others_in_order (graph_of c.args.graph.now) (fixed_of c.args.rule.now) c.args.j c.args.v c.args.i
             c.source_input-u.result c.input_at-w.result left c.source_input-u.ensures.0 c.input_at-w.ensures.0 c.args.next
-            c.greater-reached.result c.requires.order reached;
+            c.max-reached.result c.requires.order reached;
       },
     )
 
@@ -149,8 +149,8 @@ pub match_inputs-returns : goal.match_inputs-returns
 match_inputs-returns t c =
     let left : c.args.i < length (source_inputs (fixed_of c.args.rule.now) c.args.j) =
     omega (arith, c.source_input_count.ensures.0, c.if-i-source_input_count.false, c.requires.place) in
-    let reached : c.greater-reached.result ≡ max c.args.next (suc c.source_input-u.result) =
-    omega (arith, c.greater-reached.ensures) in
+    let reached : c.max-reached.result ≡ max c.args.next (suc c.source_input-u.result) =
+    omega (arith, c.max-reached.ensures) in
     input_passes (graph_of c.args.graph.now) (fixed_of c.args.rule.now) c.args.j c.args.v c.args.i c.source_input-u.result
     c.input_at-w.result left c.source_input-u.ensures.0 c.input_at-w.ensures.0 reached c.match_vertex.ensures.step
     c.if-not-match_vertex.false c.match_inputs.ensures
@@ -169,16 +169,16 @@ match_vertex-returns-then-j-next t c =
     }
 
 -- whether v suits is whether it is a candidate for j
-pub match_vertex-returns-then-not-suits : goal.match_vertex-returns-then-not-suits
-match_vertex-returns-then-not-suits t c =
+pub match_vertex-returns-else-suits : goal.match_vertex-returns-else-suits
+match_vertex-returns-else-suits t c =
     let suited : c.suits.result ≡ is_candidate (graph_of c.args.graph.now) (fixed_of c.args.rule.now) c.args.j c.args.v =
     c.suits.ensures ∙ candidate_suits (graph_of c.args.graph.now) (fixed_of c.args.rule.now) c.args.j c.args.v
     (head_in c.pattern_head-head.result) (get_or c.args.demands.now c.args.j 0) c.pattern_head-head.ensures
     (c.requires.setting.demands.1 c.args.j c.requires.vertex) in
-    record {
+    rw c.if-suits.false record {
       step = no_candidate (graph_of c.args.graph.now) (fixed_of c.args.rule.now)
           (formed c.args.rule.now c.requires.setting.matchable) c.args.j c.args.v
-          (rw (length-source c.args.rule.now) c.requires.vertex) c.requires.partial.size (sym suited ∙ c.if-not-suits.true);
+          (rw (length-source c.args.rule.now) c.requires.vertex) c.requires.partial.size (sym suited ∙ c.if-suits.false);
       after_no = λ h f. (refl, refl);
     }
 
@@ -193,21 +193,21 @@ match_vertex-match_candidate-requires t c =
         setting = c.requires.setting;
         vertex = c.requires.vertex;
         slot = c.requires.slot;
-        candidate = sym suited ∙ c.if-not-suits.false;
+        candidate = sym suited ∙ c.if-suits.true;
         fresh = c.if-j-next.false;
         partial = c.requires.partial;
         order = c.requires.order;
       },
     )
 
-pub match_vertex-returns : goal.match_vertex-returns
-match_vertex-returns t c =
+pub match_vertex-returns-then-suits : goal.match_vertex-returns-then-suits
+match_vertex-returns-then-suits t c =
     let suited : c.suits.result ≡ is_candidate (graph_of c.args.graph.now) (fixed_of c.args.rule.now) c.args.j c.args.v =
     c.suits.ensures ∙ candidate_suits (graph_of c.args.graph.now) (fixed_of c.args.rule.now) c.args.j c.args.v
     (head_in c.pattern_head-head.result) (get_or c.args.demands.now c.args.j 0) c.pattern_head-head.ensures
     (c.requires.setting.demands.1 c.args.j c.requires.vertex) in
     let candidate : is_candidate (graph_of c.args.graph.now) (fixed_of c.args.rule.now) c.args.j c.args.v ≡ true =
-    sym suited ∙ c.if-not-suits.false in
+    sym suited ∙ c.if-suits.true in
     record {
       step = c.match_candidate.ensures;
       after_no = λ h f. absurd (true_not_false

@@ -14,9 +14,9 @@ use Rattle.new_header.proofs.write_header.Goals as goal
 pub returns : goal.returns
 unfolding header_with concat_map u16_bytes
 returns c = filled_up c.args.part.now (76 ∷ 71 ∷ graph_letter ∷ 0 ∷ [])
-    c.put_u16s.new.part c.put_u16s-2.new.part c.clear.new.part 4 outputs_offset outputs_end header_bytes
+    c.put_numbers.new.part c.put_numbers-2.new.part c.clear.new.part 4 outputs_offset outputs_end header_bytes
     (omega arith) (omega arith) (omega arith) c.requires.part_len refl
     (search rules)
     (search rules)
     (search rules)
-    ∙ rw (c.put_u16s.ensures, c.put_u16s-2.ensures, c.clear.ensures, c.clear-arg-1.given.2) refl
+    ∙ rw (c.put_numbers.ensures, c.put_numbers-2.ensures, c.clear.ensures, c.clear-arg-1.given.2) refl

@@ -1,17 +1,12 @@
-use mathlib.Core.Path.{refl, sym, ◌∙◌}
-use Prim.Native.Nat.{◌-◌}
-use native.Mathlib.Omega.{arith}
+-- The header counts as many outputs as the graph has.
+use mathlib.Core.Path.{sym, ◌∙◌}
 use borrow.Author.Rules.{rules}
-use Rattle.definitions.specs.Lists.{padded}
 use Rattle.definitions.specs.Graph.{output_limit, unused_place, graph_of}
 use Rattle.laws.proofs.Graph.{length-outputs}
-use Rattle.laws.proofs.Filling.{Filling, filling_none, filling_more, filling_all}
+use Rattle.padding.proofs.Mapped.{padded_map}
 use Rattle.redirection.specs.Moves.{moved}
 use Rattle.new_places.proofs.new_outputs.Goals as goal
 
-pub loop-i-init : goal.loop-i-init
-unfolding padded
-loop-i-init c = filling_none (c.output_count-count.ensures.0 ∙ sym (length-outputs c.args.graph.now)) (omega (arith, c.output_count-count.ensures.0, c.requires.outputs)) refl
-
-pub loop-i-preserved : goal.loop-i-preserved
-loop-i-preserved c = filling_more unused_place c.loop-i.invariant c.loop-i-test.true c.output_after.ensures
+pub returns : goal.returns
+returns c = padded_map output_limit (moved c.args.way) (graph_of c.args.graph.now).outputs unused_place
+    (length-outputs c.args.graph.now ∙ sym c.output_count-count.ensures.0) c.padded.ensures (λ i l x p. search rules)

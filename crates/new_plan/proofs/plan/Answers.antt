@@ -5,7 +5,7 @@ use mathlib.Core.Bool.{true}
 use mathlib.Core.List.{List}
 use Prim.Native.Nat.{ℕ, ◌≤◌}
 use native.Mathlib.Omega.{arith}
-use Rattle.definitions.specs.declared.Reply.TheVariants.{Done}
+use Rattle.std.specs.Prelude.{Ok}
 use Rattle.definitions.specs.Reply.{no_result, no_room, new_cycle, refusal}
 use Rattle.definitions.specs.Graph.{graph_version, Graph, graph_of, has_cycle}
 use Rattle.definitions.specs.Rule.{target_count}
@@ -39,11 +39,11 @@ all_fit-requires c = record {
   image_size = c.requires.cases.size;
 }
 
-pub returns-in-Unfit : goal.returns-in-Unfit
+pub returns-in-Err : goal.returns-in-Err
 unfolding fit_results
-returns-in-Unfit c = planned_refused _ _ _ (refusal no_result) c.refuse.ensures
+returns-in-Err c = planned_refused _ _ _ (refusal no_result) c.refuse.ensures
     (unfit c.args.graph.now c.args.rule.now c.args.images.now c.requires.cases
-    (unfit_lacks _ _ c.all_fit.ensures c.in-Unfit.is))
+    (unfit_lacks _ _ c.all_fit.ensures c.in-Err.is))
 
 pub find_free-free-requires : goal.find_free-free-requires
 find_free-free-requires c = removable c.args.graph.now c.args.rule.now c.args.images.now c.requires.cases
@@ -113,7 +113,7 @@ returns c = let fit : is_given (fit_results c.args.graph.now c.args.rule.now c.a
     let table : Table (new_table c.args.graph.now c.args.rule.now c.args.images.now) = new_table_of c.args.graph.now c.args.rule.now c.args.images.now c.requires.cases
     fit c.lowest_free-places.result.count c.lowest_free-places.result.slots places enough in
     let judged : c.has_cycle.result ≡ has_cycle (new_table c.args.graph.now c.args.rule.now c.args.images.now) = c.has_cycle.ensures ∙ ap (λ block. has_cycle (graph_of block)) c.write_table.ensures ∙ block_cycle (new_table c.args.graph.now c.args.rule.now c.args.images.now) (holdable (new_table c.args.graph.now c.args.rule.now c.args.images.now) table) graph_version (λ i. 0) in
-    planned_done _ (Done 0) _ (new_table c.args.graph.now c.args.rule.now c.args.images.now) table refl
+    planned_done _ (Ok 0) _ (new_table c.args.graph.now c.args.rule.now c.args.images.now) table refl
     (done c.args.graph.now c.args.rule.now c.args.images.now c.requires.cases fit
     c.lowest_free-places.result.count c.lowest_free-places.result.slots places enough (sym judged ∙ c.if-has_cycle.false))
     (c.store_counts.ensures ∙ ap recounted c.write_table.ensures ∙ made-recounted graph_version (λ i. 0) (new_table c.args.graph.now c.args.rule.now c.args.images.now) table)

@@ -1,11 +1,8 @@
 -- Each branch makes the slot that the definition asks there.
 use mathlib.Core.Path.{◌≡◌, sym, ◌∙◌}
-use mathlib.Core.Bool.{Bool, true, false}
-use mathlib.Core.List.{List}
+use mathlib.Core.Bool.{true, false}
 use native.Mathlib.Omega.{arith}
-use borrow.Author.Rules.{rules}
 use borrow.Author.Tests.{not-true, not-false}
-use lib.IntN.{ℤ}
 use Rattle.definitions.specs.Graph.{graph_of}
 use Rattle.definitions.specs.Rewriting.{stays}
 use Rattle.rule_fields.specs.Fixed.{fixed_of}
@@ -18,14 +15,14 @@ returns-then-not-free c = let kept : (stays (graph_of c.args.graph.now) (fixed_o
     stands_staying c.args.graph.now c.args.rule.now c.args.images.now (values_of (fit_results c.args.graph.now c.args.rule.now c.args.images.now)) c.args.k c.args.way c.requires.redirects
     kept c.staying_record.ensures
 
-pub returns-then-next-targets : goal.returns-then-next-targets
-returns-then-next-targets c = let goes : (stays (graph_of c.args.graph.now) (fixed_of c.args.rule.now) c.args.images.now c.args.k) ≡ false = not-true (stays (graph_of c.args.graph.now) (fixed_of c.args.rule.now) c.args.images.now c.args.k) (sym c.requires.free_value ∙ c.if-not-free.false) in
+pub returns-then-next-target_count : goal.returns-then-next-target_count
+returns-then-next-target_count c = let goes : (stays (graph_of c.args.graph.now) (fixed_of c.args.rule.now) c.args.images.now c.args.k) ≡ false = not-true (stays (graph_of c.args.graph.now) (fixed_of c.args.rule.now) c.args.images.now c.args.k) (sym c.requires.free_value ∙ c.if-not-free.false) in
     stands_target c.args.graph.now c.args.rule.now c.args.images.now (values_of (fit_results c.args.graph.now c.args.rule.now c.args.images.now)) c.args.k c.args.next
-    c.requires.k_bound goes c.requires.next_value (omega (arith, c.if-next-targets.true, c.target_count-targets.ensures.0))
+    c.requires.k_bound goes c.requires.next_value (omega (arith, c.if-next-target_count.true, c.target_count.ensures.0))
     c.target_record.ensures
 
-pub returns : goal.returns
-returns c = let goes : (stays (graph_of c.args.graph.now) (fixed_of c.args.rule.now) c.args.images.now c.args.k) ≡ false = not-true (stays (graph_of c.args.graph.now) (fixed_of c.args.rule.now) c.args.images.now c.args.k) (sym c.requires.free_value ∙ c.if-not-free.false) in
+pub returns-else-next-target_count : goal.returns-else-next-target_count
+returns-else-next-target_count c = let goes : (stays (graph_of c.args.graph.now) (fixed_of c.args.rule.now) c.args.images.now c.args.k) ≡ false = not-true (stays (graph_of c.args.graph.now) (fixed_of c.args.rule.now) c.args.images.now c.args.k) (sym c.requires.free_value ∙ c.if-not-free.false) in
     stands_empty c.args.graph.now c.args.rule.now c.args.images.now (values_of (fit_results c.args.graph.now c.args.rule.now c.args.images.now)) c.args.k c.args.next
-    c.requires.k_bound goes c.requires.next_value (omega (arith, c.if-next-targets.false, c.target_count-targets.ensures.0))
+    c.requires.k_bound goes c.requires.next_value (omega (arith, c.if-next-target_count.false, c.target_count.ensures.0))
     c.empty_record.ensures

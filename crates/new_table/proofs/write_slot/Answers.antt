@@ -13,7 +13,6 @@ use Rattle.encoding.proofs.Tails.{zero_tail}
 use Rattle.graph_records.proofs.Laws.{stands_bytes}
 use Rattle.new_vertices.specs.Slots.{values_of, fit_results}
 use Rattle.new_table.specs.Table.{new_table}
-use borrow.Author.Rules.{rules}
 use Rattle.new_table.proofs.write_slot.Goals as goal
 
 pub returns : goal.returns

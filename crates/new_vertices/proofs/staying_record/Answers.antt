@@ -1,6 +1,5 @@
 -- The record of a vertex that stays, field by field.
 use mathlib.Core.Path.{sym, ◌∙◌}
-use borrow.Author.Rules.{rules}
 use lib.ListN.{length-map}
 use Rattle.definitions.specs.Graph.{renamed, graph_of, inputs_of}
 use Rattle.redirection.specs.Moves.{moved}

@@ -1,12 +1,8 @@
--- By the sign.
-use borrow.Author.Rules.{rules}
-use Rattle.fields.specs.Integer.{integer_of}
+-- The library says when a number fits in 32 bits.
+use native.Mathlib.Omega.{arith}
+use Rattle.std.proofs.lemmas.Int.{to_z-of_z}
+use Rattle.numbers.proofs.Laws.{fitted}
 use Rattle.numbers.proofs.fit_number.Goals as goal
 
-pub returns-in-Plus : goal.returns-in-Plus
-unfolding integer_of
-returns-in-Plus c = rw c.in-Plus.is c.fit_plus.ensures
-
-pub returns-in-Minus : goal.returns-in-Minus
-unfolding integer_of
-returns-in-Minus c = rw c.in-Minus.is c.fit_minus.ensures
+pub returns : goal.returns
+returns c = fitted c.ok.result c.args.number (grind (arith, to_z-of_z, c.ok.ensures.value, c.try_from.ensures))

@@ -5,7 +5,6 @@ use lib.ListN.{get_or-map}
 use Rattle.definitions.specs.Operators as definition
 use Rattle.definitions.specs.Operators.{operators, counts_of}
 use Rattle.operators.specs.declared.Counts.{Counts}
-use borrow.Author.Rules.{rules}
 use Rattle.operators.proofs.counts_of.Goals as goal
 
 pub returns : goal.returns

@@ -4,7 +4,6 @@ use lib.ListN.{get_or-map}
 use Rattle.definitions.specs.Operators as definition
 use Rattle.definitions.specs.Operators.{kinds, row_of}
 use Rattle.operators.specs.declared.Row.{Row}
-use borrow.Author.Rules.{rules}
 use Rattle.operators.proofs.row_of.Goals as goal
 
 pub returns : goal.returns

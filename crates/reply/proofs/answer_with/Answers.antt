@@ -1,12 +1,15 @@
 -- Value 1 is yes, and 0 is no.
-use borrow.Author.Tests.{not-true, not-false}
-use Rattle.definitions.specs.Reply.{answered}
+use mathlib.Core.Path.{◌≡◌, refl, ap, ◌∙◌}
+use mathlib.Core.Bool.{Bool, true, false}
+use Rattle.std.specs.Prelude.{Ok}
+use Rattle.std.specs.Int.{from_bool}
+use Rattle.definitions.specs.Reply.{Reply, answered}
 use Rattle.reply.proofs.answer_with.Goals as goal
 
-pub returns-then-not-yes : goal.returns-then-not-yes
+by_answer : (yes : Bool) → ◌≡◌ {A = Reply} (Ok (from_bool yes)) (answered yes)
 unfolding answered
-returns-then-not-yes c = rw (c.if-not-yes.true)
+by_answer true = refl
+by_answer false = refl
 
 pub returns : goal.returns
-unfolding answered
-returns c = rw (c.if-not-yes.false)
+returns c = ap Ok c.from.ensures ∙ by_answer c.args.yes

@@ -1,8 +1,7 @@
--- The refusal is built as the definition has it.
-use mathlib.Core.Path.{refl}
-use Rattle.definitions.specs.Reply.{refusal_at}
+use mathlib.Core.Path.{ap}
+use Rattle.definitions.specs.Reply.{refusal_at, refused_at}
 use Rattle.reply.proofs.refuse_at.Goals as goal
 
 pub returns : goal.returns
 unfolding refusal_at
-returns c = refl
+returns c = ap (λ number. refused_at number c.args.index) c.from.ensures

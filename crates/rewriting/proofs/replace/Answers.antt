@@ -1,18 +1,14 @@
 -- The new table is made in the first part of a local block, as long as the graph's, and committed from there.
-use mathlib.Core.Path.{◌≡◌, refl, sym, ap, ◌∙◌, subst}
+use mathlib.Core.Path.{◌≡◌, sym, ap, ◌∙◌, subst}
 use mathlib.Core.List.{List, ◌++◌}
 use Prim.Native.Nat.{ℕ, ◌-◌, ◌≤◌}
 use native.Mathlib.Omega.{arith}
-use lib.ListN.{length, take, length-append}
+use lib.ListN.{length, take}
 use lib.Seq.{take-append_seam}
-use Rattle.definitions.specs.declared.Reply.TheVariants.{Refused}
-use Rattle.definitions.specs.Reply.{done}
 use Rattle.definitions.specs.Graph.{slot_limit, graph_version, record_at, true_count, SoundGraph}
 use Rattle.graph_fields.specs.Layout.{WholeGraph}
 use Rattle.graph_check.proofs.Readable.{graph_readable}
 use Rattle.encoding.proofs.Blocks.{block_readable, holdable}
-use Rattle.new_plan.proofs.Replies.{not_both}
-use borrow.Author.Rules.{rules}
 use Rattle.rewriting.proofs.replace.Goals as goal
 
 -- a sound block is no longer than the longest
@@ -27,5 +23,5 @@ slice_bounds-table-end c = omega (arith, short c.args.graph.now c.requires.sound
 
 pub commit-requires-clause-whole_graph : goal.commit-requires-clause-whole_graph
 commit-requires-clause-whole_graph c = let filled : length c.plan.new.table ≡ length c.args.graph.now - 0 = c.table-2-1.given ∙ c.table-1.given.2 in
-    let made = c.plan.ensures.done _ c.in-Done.is in
+    let made = c.plan.ensures.done _ c.in_ok-plan.was in
     let same = front _ c.plan.new.table _ filled ∙ made.3 in subst WholeGraph (sym same) (block_readable made.0 (holdable made.0 made.1) graph_version (true_count made.0)).whole

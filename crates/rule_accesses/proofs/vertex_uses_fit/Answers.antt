@@ -1,30 +1,13 @@
-use mathlib.Core.Path.{◌≡◌, refl, sym, ap, ◌∙◌}
-use mathlib.Core.Bool.{Bool, true, false}
-use Prim.Native.Nat.{ℕ, ◌+◌, ◌-◌, ◌≤◌, ◌<◌}
-use native.Mathlib.Omega.{arith}
-use borrow.Author.Tests.{not-true, not-false}
-use Rattle.definitions.specs.Lists.{all_below}
+use Rattle.std.proofs.Common.{◌∙◌, ◌+◌, sym, rules}
+use mathlib.Core.Bool.{not-not}
+use borrow.Author.Tests.{tests}
+use Rattle.laws.proofs.Searches.{all_of_range}
 use Rattle.definitions.specs.Fields.{byte_at}
 use Rattle.definitions.specs.Rule.{vertex_at, use_fits, bad_use}
-use Rattle.laws.proofs.Lists.{all_below_step, all_below_fails}
 use Rattle.rule_accesses.proofs.vertex_uses_fit.Goals as goal
-
-pub loop-i-init : goal.loop-i-init
-unfolding all_below
-loop-i-init c = (omega arith, refl)
-
-pub returns-then-not-use_fits : goal.returns-then-not-use_fits
-unfolding bad_use
-returns-then-not-use_fits c = let fits_read : (use_fits c.args.rule.now c.args.v (byte_at c.args.rule.now (vertex_at c.args.v + 10 + c.loop-i.i))) ≡ c.use_fits.result = ap (λ (k : ℕ). use_fits c.args.rule.now c.args.v k) (sym c.byte_at-k.ensures.0) ∙ sym c.use_fits.ensures in
-    let inside : c.loop-i.i < (byte_at c.args.rule.now (vertex_at c.args.v + 3)) = omega (arith, c.byte_at-count.ensures.0) in
-    let fails : (use_fits c.args.rule.now c.args.v (byte_at c.args.rule.now (vertex_at c.args.v + 10 + c.loop-i.i))) ≡ false = fits_read ∙ c.if-not-use_fits.true in
-    simp (all_below_fails (λ n. use_fits c.args.rule.now c.args.v (byte_at c.args.rule.now (vertex_at c.args.v + 10 + n))) (byte_at c.args.rule.now (vertex_at c.args.v + 3)) c.loop-i.i inside fails)
-
-pub loop-i-preserved : goal.loop-i-preserved
-loop-i-preserved c = let fits_read : (use_fits c.args.rule.now c.args.v (byte_at c.args.rule.now (vertex_at c.args.v + 10 + c.loop-i.i))) ≡ c.use_fits.result = ap (λ (k : ℕ). use_fits c.args.rule.now c.args.v k) (sym c.byte_at-k.ensures.0) ∙ sym c.use_fits.ensures in
-    (omega arith, all_below_step (λ n. use_fits c.args.rule.now c.args.v (byte_at c.args.rule.now (vertex_at c.args.v + 10 + n))) c.loop-i.i c.loop-i.invariant.1 (fits_read ∙ c.if-not-use_fits.false))
 
 pub returns : goal.returns
 unfolding bad_use
-returns c = let all : c.loop-i.i ≡ (byte_at c.args.rule.now (vertex_at c.args.v + 3)) = omega (arith, c.byte_at-count.ensures.0) in
-    simp (ap (all_below (λ n. use_fits c.args.rule.now c.args.v (byte_at c.args.rule.now (vertex_at c.args.v + 10 + n)))) (sym all) ∙ c.loop-i.invariant.1)
+returns c = let block = c.args.rule.now in
+    let v = c.args.v in
+    all_of_range (λ i. use_fits block v (byte_at block (vertex_at v + 10 + i))) c.byte_at-count.ensures.0 _ _ _ c.all.ensures.ran (λ x b q k. search (rules, tests)) ∙ sym (not-not _)

@@ -4,7 +4,6 @@ use Prim.Native.Nat.{◌+◌, ◌*◌}
 use native.Mathlib.Omega.{arith}
 use Rattle.definitions.specs.Fields.{u16_at}
 use Rattle.rule_fields.specs.Fixed.{attribute_place_bytes, table_at, attribute_node}
-use borrow.Author.Rules.{rules}
 use Rattle.rule_fields.proofs.attribute_node.Goals as goal
 
 pub returns-then-is_expanded : goal.returns-then-is_expanded
@@ -15,6 +14,6 @@ returns-then-is_expanded c = let block = c.args.rule.now in
     omega (arith, c.source_count.ensures.0, c.target_count.ensures.0, c.fixed_node_count-nodes.ensures.0) in
     simp (sym c.is_expanded.ensures ∙ c.if-is_expanded.true) (c.u16_at.ensures.0 ∙ ap (u16_at block) same)
 
-pub returns : goal.returns
+pub returns-else-is_expanded : goal.returns-else-is_expanded
 unfolding attribute_node
-returns c = simp (sym c.is_expanded.ensures ∙ c.if-is_expanded.false) c.byte_at.ensures.0
+returns-else-is_expanded c = simp (sym c.is_expanded.ensures ∙ c.if-is_expanded.false) c.byte_at.ensures.0

@@ -1,5 +1,4 @@
 -- The kind decides.
-use borrow.Author.Rules.{rules}
 use Rattle.definitions.specs.Match.{is_const}
 use Rattle.rule_fields.proofs.is_const.Goals as goal
 

@@ -3,7 +3,6 @@ use mathlib.Core.Path.{ap}
 use Prim.Native.Nat.{ℕ}
 use lib.Dec.{eqb}
 use Rattle.rule_fields.specs.Fixed.{expanded_version, is_expanded}
-use borrow.Author.Rules.{rules}
 use Rattle.rule_fields.proofs.is_expanded.Goals as goal
 
 pub returns : goal.returns

@@ -2,11 +2,10 @@
 use mathlib.Core.Path.{◌∙◌, sym}
 use native.Mathlib.Omega.{arith}
 use Rattle.rule_fields.proofs.Fixed.{source-attributes-at}
-use borrow.Author.Rules.{rules}
 use Rattle.rule_fields.proofs.source_attribute_count.Goals as goal
 
 pub returns : goal.returns
 returns c = (
-  c.source_byte.ensures.0 ∙ sym (source-attributes-at c.args.rule.now c.args.j c.requires.j_bound),
+  c.vertex_byte.ensures.0 ∙ sym (source-attributes-at c.args.rule.now c.args.j c.requires.j_bound),
   omega (arith, c.requires.readable_rule.attributes c.args.j (omega arith)),
 )

@@ -13,10 +13,10 @@ overflow_add-i c = let few : c.args.i < input_limit = omega (arith, c.requires.r
     omega (arith, few)
 
 pub returns : goal.returns
-returns c = let place : c.source_byte.result ≡ byte_at c.args.rule.now (vertex_at c.args.j + 4 + c.args.i) =
-    c.source_byte.ensures.0 ∙ ap (byte_at c.args.rule.now) (omega arith) in
-    (place ∙ sym (source_input_at c.args.rule.now c.args.j c.args.i 255 c.requires.j_bound c.requires.i_in_bounds), c.source_byte.ensures.1)
+returns c = let place : c.vertex_byte.result ≡ byte_at c.args.rule.now (vertex_at c.args.j + 4 + c.args.i) =
+    c.vertex_byte.ensures.0 ∙ ap (byte_at c.args.rule.now) (omega arith) in
+    (place ∙ sym (source_input_at c.args.rule.now c.args.j c.args.i 255 c.requires.j_bound c.requires.i_in_bounds), c.vertex_byte.ensures.1)
 
-pub source_byte-requires-clause-i_lt_pattern_bytes : goal.source_byte-requires-clause-i_lt_pattern_bytes
-source_byte-requires-clause-i_lt_pattern_bytes c = let few : c.args.i < input_limit = omega (arith, c.requires.readable_rule.inputs c.args.j (omega arith), source-count-at c.args.rule.now c.args.j c.requires.j_bound) in
+pub vertex_byte-requires-clause-i_lt_pattern_bytes : goal.vertex_byte-requires-clause-i_lt_pattern_bytes
+vertex_byte-requires-clause-i_lt_pattern_bytes c = let few : c.args.i < input_limit = omega (arith, c.requires.readable_rule.inputs c.args.j (omega arith), source-count-at c.args.rule.now c.args.j c.requires.j_bound) in
     omega (arith, few)

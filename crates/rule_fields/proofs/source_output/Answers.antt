@@ -2,7 +2,6 @@
 use mathlib.Core.Path.{◌∙◌, sym}
 use native.Mathlib.Omega.{arith}
 use Rattle.rule_fields.proofs.Fixed.{source-output_of}
-use borrow.Author.Rules.{rules}
 use Rattle.rule_fields.proofs.source_output.Goals as goal
 
 pub returns : goal.returns

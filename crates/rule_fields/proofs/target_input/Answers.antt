@@ -14,10 +14,10 @@ overflow_add-i c = let few : c.args.i < input_limit = omega (arith, c.requires.r
     omega (arith, few)
 
 pub returns : goal.returns
-returns c = let place : c.target_byte.result ≡ byte_at c.args.rule.now (vertex_at (source_count c.args.rule.now + c.args.t) + 4 + c.args.i) =
-    c.target_byte.ensures.0 ∙ ap (byte_at c.args.rule.now) (omega arith) in
-    (ap (origin_in c.args.rule.now) place ∙ sym (target_input_at c.args.rule.now c.args.t c.args.i (made 255) c.requires.t_bound c.requires.i_in_bounds), c.target_byte.ensures.1)
+returns c = let place : c.vertex_byte.result ≡ byte_at c.args.rule.now (vertex_at (source_count c.args.rule.now + c.args.t) + 4 + c.args.i) =
+    c.vertex_byte.ensures.0 ∙ ap (byte_at c.args.rule.now) (omega arith) in
+    (ap (origin_in c.args.rule.now) place ∙ sym (target_input_at c.args.rule.now c.args.t c.args.i (made 255) c.requires.t_bound c.requires.i_in_bounds), c.vertex_byte.ensures.1)
 
-pub target_byte-requires-clause-i_lt_pattern_bytes : goal.target_byte-requires-clause-i_lt_pattern_bytes
-target_byte-requires-clause-i_lt_pattern_bytes c = let few : c.args.i < input_limit = omega (arith, c.requires.readable_rule.inputs (source_count c.args.rule.now + c.args.t) (omega arith), target-count-at c.args.rule.now c.args.t c.requires.t_bound) in
+pub vertex_byte-requires-clause-i_lt_pattern_bytes : goal.vertex_byte-requires-clause-i_lt_pattern_bytes
+vertex_byte-requires-clause-i_lt_pattern_bytes c = let few : c.args.i < input_limit = omega (arith, c.requires.readable_rule.inputs (source_count c.args.rule.now + c.args.t) (omega arith), target-count-at c.args.rule.now c.args.t c.requires.t_bound) in
     omega (arith, few)

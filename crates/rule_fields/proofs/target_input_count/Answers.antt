@@ -4,11 +4,10 @@ use Prim.Native.Nat.{◌+◌}
 use native.Mathlib.Omega.{arith}
 use Rattle.definitions.specs.Rule.{source_count}
 use Rattle.rule_fields.proofs.Fixed.{target-count-at}
-use borrow.Author.Rules.{rules}
 use Rattle.rule_fields.proofs.target_input_count.Goals as goal
 
 pub returns : goal.returns
 returns c = (
-  c.target_byte.ensures.0 ∙ sym (target-count-at c.args.rule.now c.args.t c.requires.t_bound),
+  (rw c.target_vertex.ensures at c.vertex_byte.ensures).0 ∙ sym (target-count-at c.args.rule.now c.args.t c.requires.t_bound),
   omega (arith, c.requires.readable_rule.inputs (source_count c.args.rule.now + c.args.t) (omega arith)),
 )

@@ -4,7 +4,6 @@ use native.Mathlib.Omega.{arith}
 use Rattle.definitions.specs.Rule.{made}
 use Rattle.rule_fields.proofs.Fixed.{target-output_of}
 use Rattle.rule_fields.specs.Fixed.{origin_in}
-use borrow.Author.Rules.{rules}
 use Rattle.rule_fields.proofs.target_output.Goals as goal
 
 pub returns : goal.returns

@@ -1,8 +1,6 @@
-use Prim.Native.Nat.{◌-◌}
 use native.Mathlib.Omega.{arith}
-use borrow.Author.Rules.{rules}
 use Rattle.rule_fields.proofs.Fixed.{length-target}
-use Rattle.rule_names.proofs.Laws.{VerticesMarking, vertices-begin, vertices_more, all-marked}
+use Rattle.rule_names.proofs.Laws.{vertices-begin, vertices_more, all-marked}
 use Rattle.rule_fields.specs.Fixed.{split_in, fixed_of}
 use Rattle.rule_names.proofs.marked.Goals as goal
 

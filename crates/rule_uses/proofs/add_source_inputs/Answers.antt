@@ -1,15 +1,12 @@
 use mathlib.Core.Path.{sym}
-use mathlib.Core.List.{List}
-use Prim.Native.Nat.{ℕ, ◌+◌, ◌-◌, ◌<◌}
+use Prim.Native.Nat.{◌+◌, ◌<◌}
 use native.Mathlib.Omega.{arith}
-use borrow.Author.Rules.{rules}
-use lib.ListN.{length, drop}
+use lib.ListN.{length}
 use Rattle.definitions.specs.Lists.{count}
 use Rattle.definitions.specs.Rule.{side_capacity, source_inputs}
 use Rattle.rule_fields.specs.Fixed.{fixed_of}
 use Rattle.laws.proofs.Sums.{total_more}
-use Rattle.laws.proofs.Counts.{Counting, counting_starts, counting_turn, counting_room, counting_ends}
-use Rattle.rule_uses.specs.Countable.{places_below}
+use Rattle.laws.proofs.Counts.{counting_starts, counting_turn, counting_room, counting_ends}
 use Rattle.rule_uses.proofs.Laws.{places_below_most}
 use Rattle.rule_uses.proofs.add_source_inputs.Goals as goal
 
@@ -18,7 +15,7 @@ loop-i-init c = counting_starts (source_inputs (fixed_of c.args.rule.now) c.args
     c.requires.counted
 
 pub overflow_add-places : goal.overflow_add-places
-overflow_add-places c = let left : c.loop-i.i < length (source_inputs (fixed_of c.args.rule.now) c.args.w) = omega (arith, c.loop-i-test.true, c.source_input_count-inputs.ensures.0) in
+overflow_add-places c = let left : c.loop-i.i < length (source_inputs (fixed_of c.args.rule.now) c.args.w) = omega (arith, c.source_input_count-inputs.ensures.0) in
     omega (
       arith,
       counting_room (source_inputs (fixed_of c.args.rule.now) c.args.w) c.loop-i.i 255 c.source_input-input.result left c.source_input-input.ensures.0 c.loop-i.invariant,
@@ -28,7 +25,7 @@ overflow_add-places c = let left : c.loop-i.i < length (source_inputs (fixed_of 
     )
 
 pub loop-i-preserved : goal.loop-i-preserved
-loop-i-preserved c = let left : c.loop-i.i < length (source_inputs (fixed_of c.args.rule.now) c.args.w) = omega (arith, c.loop-i-test.true, c.source_input_count-inputs.ensures.0) in
+loop-i-preserved c = let left : c.loop-i.i < length (source_inputs (fixed_of c.args.rule.now) c.args.w) = omega (arith, c.source_input_count-inputs.ensures.0) in
     let input_below : c.source_input-input.result < side_capacity = omega (
       arith,
       c.requires.layered.lower c.args.w c.loop-i.i c.requires.vertex left,
@@ -40,5 +37,5 @@ loop-i-preserved c = let left : c.loop-i.i < length (source_inputs (fixed_of c.a
     input_below c.loop-i.invariant
 
 pub returns : goal.returns
-returns c = counting_ends (source_inputs (fixed_of c.args.rule.now) c.args.w) c.loop-i.i (omega (arith, c.loop-i-test.false, c.source_input_count-inputs.ensures.0))
+returns c = counting_ends (source_inputs (fixed_of c.args.rule.now) c.args.w) c.loop-i.i (omega (arith, c.source_input_count-inputs.ensures.0))
     c.loop-i.invariant

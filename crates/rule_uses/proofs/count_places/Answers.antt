@@ -1,19 +1,14 @@
 use mathlib.Core.Path.{refl}
-use Prim.Native.Nat.{◌-◌, ◌≤◌}
 use native.Mathlib.Omega.{arith}
-use borrow.Author.Rules.{rules}
 use Rattle.definitions.specs.Lists.{total}
 use Rattle.definitions.specs.Rule.{side_capacity}
-use Rattle.rule_fields.specs.Fixed.{fixed_of}
-use Rattle.laws.specs.Counted.{Counted}
 use Rattle.laws.proofs.Counts.{counted_none, counted_same}
-use Rattle.rule_uses.specs.Countable.{places_below}
 use Rattle.rule_uses.proofs.Laws.{places-all}
 use Rattle.rule_uses.proofs.count_places.Goals as goal
 
 pub loop-w-init : goal.loop-w-init
 unfolding total
-loop-w-init c = (omega arith, counted_none side_capacity (λ v. refl))
+loop-w-init c = counted_none side_capacity (λ v. refl)
 
 pub returns : goal.returns
-returns c = counted_same (λ v. places-all c.args.rule.now c.loop-w.w v (omega arith)) c.loop-w.invariant.1
+returns c = counted_same (λ v. places-all c.args.rule.now c.loop-w.w v (omega arith)) c.loop-w.invariant

@@ -1,25 +1,22 @@
 -- The pair of words and the last one leave no gap.
-use mathlib.Core.Bool.{not}
-use mathlib.Core.Path.{ap}
-use mathlib.Core.Path.{◌≡◌}
-use Prim.Native.Nat.{◌+◌, ◌-◌}
 use native.Mathlib.Omega.{arith}
-use Rattle.laws.proofs.Tests.{refused, passed, answered}
+use Prim.Native.Nat.{◌+◌, ◌-◌}
+use mathlib.Core.Path.{◌≡◌, sym, ◌∙◌}
+use Rattle.laws.proofs.Tests.{failed, held, answered}
 use Rattle.fields.specs.Words.{word_bytes}
 use Rattle.fields.proofs.Laws.{filled_parts}
-use borrow.Author.Rules.{rules}
 use Rattle.runs.proofs.three_words_filled.Goals as goal
 
-pub returns-then-not-two_words_filled : goal.returns-then-not-two_words_filled
-returns-then-not-two_words_filled c = let a = c.args in
-    let middle = c.lesser-middle.result in
-    refused (filled_parts a.block.now a.value a.from middle middle a.to (omega arith) (omega arith) (omega arith))
-    c.two_words_filled.ensures (ap not c.if-not-two_words_filled.true)
-
-pub returns : goal.returns
-returns c = let a = c.args in
-    let middle = c.lesser-middle.result in
+pub returns-then-two_words_filled : goal.returns-then-two_words_filled
+returns-then-two_words_filled c = let a = c.args in
+    let middle = c.min-middle.result in
     let end : a.to - word_bytes + word_bytes ≡ a.to = omega arith in
-    answered (passed
+    answered (held
     (filled_parts a.block.now a.value a.from middle (a.to - word_bytes) a.to (omega arith) (omega arith) (omega arith))
-    c.two_words_filled.ensures (ap not c.if-not-two_words_filled.false)) (rw end at c.word_filled.ensures)
+    (sym c.two_words_filled.ensures ∙ c.if-two_words_filled.true)) (rw end at c.word_filled.ensures)
+
+pub returns-else-two_words_filled : goal.returns-else-two_words_filled
+returns-else-two_words_filled c = let a = c.args in
+    let middle = c.min-middle.result in
+    c.if-two_words_filled.false ∙ failed (filled_parts a.block.now a.value a.from middle middle a.to (omega arith) (omega arith) (omega arith))
+    (sym c.two_words_filled.ensures ∙ c.if-two_words_filled.false)

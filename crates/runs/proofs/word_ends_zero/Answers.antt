@@ -4,7 +4,6 @@ use Prim.Native.Nat.{ℕ}
 use native.Mathlib.Omega.{arith}
 use lib.Dec.{ltb}
 use Rattle.runs.proofs.Words.{word_ends}
-use borrow.Author.Rules.{rules}
 use Rattle.runs.proofs.word_ends_zero.Goals as goal
 
 pub returns : goal.returns

@@ -4,7 +4,6 @@ use Prim.Native.Nat.{ℕ, ◌*◌}
 use native.Mathlib.Omega.{arith}
 use lib.Dec.{eqb}
 use Rattle.runs.proofs.Words.{word-filled}
-use borrow.Author.Rules.{rules}
 use Rattle.runs.proofs.word_filled.Goals as goal
 
 pub returns : goal.returns

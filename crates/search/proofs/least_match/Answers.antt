@@ -62,10 +62,9 @@ returns-then-slot_count-first c =
     (drop 1 (fixed_of c.args.rule.now).source_outputs)
     (listed c.args.graph.now c.args.rule.now c.requires.working_rule c.source_output-root.result c.source_output-root.ensures.0)
     c.args.start c.next_candidate-first.result passed (omega (arith, c.slot_count.ensures.0, c.if-slot_count-first.true)))
-    c.none_found.ensures
 
-pub returns : goal.returns
-returns c =
+pub returns-else-slot_count-first : goal.returns-else-slot_count-first
+returns-else-slot_count-first c =
     let passed = passed_to c.args.graph.now c.args.rule.now c.requires.working_rule c.source_output-root.result
     c.source_output-root.ensures.0 c.args.start c.next_candidate-first.result _ (head_in c.pattern_head.result)
     c.pattern_head.ensures c.next_candidate-first.ensures in

@@ -5,7 +5,6 @@ use Rattle.variadic_order.specs.Sides.{field_place, field_index}
 use Rattle.variadic_layout.specs.Bytes.{number_from}
 use Rattle.variadic_layout.specs.Parts.{part_place}
 use Rattle.variadic_layout.proofs.Bytes.{field_is, index_is, few_index, field_layout}
-use borrow.Author.Rules.{rules}
 use Rattle.variadic_layout.proofs.field_number.Goals as goal
 
 pub returns : goal.returns

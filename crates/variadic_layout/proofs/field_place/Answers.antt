@@ -1,10 +1,9 @@
 -- A field stands in a place of the record, of which there are at most 6.
-use mathlib.Core.Path.{◌≡◌, sym, ap, ◌∙◌}
+use mathlib.Core.Path.{sym, ap, ◌∙◌}
 use Prim.Native.Nat.{◌/◌, ◌<◌}
 use native.Mathlib.Omega.{arith}
 use Rattle.definitions.specs.Fields.{byte_at}
-use Rattle.variadic_layout.proofs.Bytes.{place-tuple, place_other, record_there, tuple-place, other_place, few_places}
-use borrow.Author.Rules.{rules}
+use Rattle.variadic_layout.proofs.Bytes.{place-tuple, place_other, tuple-place, other_place, few_places}
 use Rattle.variadic_layout.proofs.field_place.Goals as goal
 
 pub overflow_add-i : goal.overflow_add-i

@@ -4,7 +4,6 @@ use Prim.Native.Nat.{ℕ, ◌%◌}
 use native.Mathlib.Omega.{arith}
 use Rattle.variadic_layout.specs.Bytes.{block_byte}
 use Rattle.variadic_layout.proofs.Bytes.{head_kind, head-count, head_other}
-use borrow.Author.Rules.{rules}
 use Rattle.variadic_layout.proofs.head_byte.Goals as goal
 
 pub returns-then-b-eq2 : goal.returns-then-b-eq2

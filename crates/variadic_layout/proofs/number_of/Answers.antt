@@ -1,7 +1,6 @@
 -- A number that is not 0 is one more than the copy's.
 use mathlib.Core.Path.{sym}
 use native.Mathlib.Omega.{arith}
-use borrow.Author.Rules.{rules}
 use Rattle.variadic_layout.proofs.Bytes.{number_none, number_some}
 use Rattle.variadic_layout.proofs.number_of.Goals as goal
 

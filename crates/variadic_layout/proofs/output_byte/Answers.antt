@@ -1,12 +1,9 @@
 -- An output has index 0.
-use mathlib.Core.Path.{sym, ap, ◌∙◌, subst}
-use Prim.Native.Nat.{ℕ}
+use mathlib.Core.Path.{sym, ap, ◌∙◌}
 use native.Mathlib.Omega.{arith}
 use Rattle.variadic_layout.specs.Bytes.{number_from}
 use Rattle.variadic_layout.specs.Parts.{part_place}
-use Rattle.variadic_layout.specs.Written.{PlaceLayout}
 use Rattle.variadic_layout.proofs.Bytes.{output_used, output_unused}
-use borrow.Author.Rules.{rules}
 use Rattle.variadic_layout.proofs.output_byte.Goals as goal
 
 pub returns-then-i-output_count : goal.returns-then-i-output_count

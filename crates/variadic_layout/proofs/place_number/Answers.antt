@@ -5,7 +5,6 @@ use native.Mathlib.Omega.{arith}
 use Rattle.variadic_order.proofs.Fields.{copy_below}
 use Rattle.variadic_layout.specs.Bytes.{number_from}
 use Rattle.variadic_layout.proofs.Bytes.{place_input, place_own}
-use borrow.Author.Rules.{rules}
 use Rattle.variadic_layout.proofs.place_number.Goals as goal
 
 pub returns-then-place-part : goal.returns-then-place-part

@@ -3,7 +3,6 @@ use mathlib.Core.Path.{sym, ◌∙◌}
 use native.Mathlib.Omega.{arith}
 use Rattle.variadic_layout.specs.Bytes.{number_from}
 use Rattle.variadic_layout.proofs.Bytes.{record_head, record_field, record_rest}
-use borrow.Author.Rules.{rules}
 use Rattle.variadic_layout.proofs.record_byte.Goals as goal
 
 pub returns-then-b-lt4 : goal.returns-then-b-lt4

@@ -2,10 +2,9 @@
 use mathlib.Core.Path.{sym, ap, ◌∙◌}
 use Prim.Native.Nat.{ℕ, ◌%◌, ◌/◌}
 use native.Mathlib.Omega.{arith}
-use Rattle.definitions.specs.Variadic.{original, copy_index}
-use Rattle.variadic_layout.specs.Terms.{term_of}
+use Rattle.definitions.specs.Variadic.{copy_index}
+use Rattle.variadic_terms.specs.Terms.{term_of}
 use Rattle.variadic_layout.proofs.Bytes.{table_unused, table_low, table_high}
-use borrow.Author.Rules.{rules}
 use Rattle.variadic_layout.proofs.table_byte.Goals as goal
 
 pub returns-then-side_byte-b : goal.returns-then-side_byte-b

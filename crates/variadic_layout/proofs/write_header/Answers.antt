@@ -1,8 +1,7 @@
 -- The header is made in an array of its own, and written over the first bytes of the layout.
 use mathlib.Core.Path.{◌≡◌, ap, ◌∙◌, subst}
 use mathlib.Core.List.{List}
-use Prim.Native.Nat.{ℕ, ◌+◌, ◌*◌, ◌≤◌}
-use native.Mathlib.Nat.{mul-le-mul}
+use Prim.Native.Nat.{ℕ, ◌+◌, ◌*◌}
 use native.Mathlib.Omega.{arith}
 use lib.ListN.{length, get_or}
 use Rattle.variadic_layout.specs.Parts.{part_header}
@@ -10,7 +9,6 @@ use Rattle.variadic_layout.specs.Written.{Written}
 use Rattle.laws.proofs.Parts.{put_part}
 use Rattle.variadic_layout.proofs.Runs.{written_start}
 use Rattle.variadic_layout.proofs.Bytes.{header_same}
-use borrow.Author.Rules.{rules}
 use Rattle.variadic_layout.proofs.write_header.Goals as goal
 
 pub returns : goal.returns

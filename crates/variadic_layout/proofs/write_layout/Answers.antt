@@ -1,9 +1,7 @@
 -- The sides are those of the block, the orders say what their copies are, and each part of the layout fits.
 use mathlib.Core.Path.{◌≡◌, sym, ap, ◌∙◌, subst}
-use mathlib.Core.List.{List}
 use Prim.Native.Nat.{ℕ, ◌+◌, ◌*◌, ◌/◌, ◌%◌, ◌≤◌}
 use native.Mathlib.Omega.{arith}
-use borrow.Author.Rules.{rules}
 use lib.ListN.{get_or}
 use Rattle.definitions.specs.Rule.{rule_header_bytes, pattern_bytes, node_bytes, node_count, vertex_at}
 use Rattle.rule_fields.specs.Fixed.{attribute_place_bytes}

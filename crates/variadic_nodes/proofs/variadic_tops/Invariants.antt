@@ -1,19 +1,12 @@
 -- The loop's invariant: the first k places hold what the definition of `top_from` builds, and the others 0.
-use mathlib.Core.Path.{◌≡◌, refl}
+use mathlib.Core.Path.{◌≡◌}
 use mathlib.Core.List.{◌++◌}
-use Prim.Native.Nat.{◌-◌, ◌≤◌}
-use native.Mathlib.Omega.{arith}
+use Prim.Native.Nat.{◌-◌}
 use lib.ListN.{replicate}
-use borrow.Author.Rules.{rules}
 use Rattle.definitions.specs.Lists.{build}
 use Rattle.definitions.specs.Rule.{node_limit}
 use Rattle.rule_accesses.specs.Access.{top_from}
-use Rattle.rule_accesses.proofs.Laws.{tops_more, tops_all}
-use Rattle.variadic_nodes.proofs.Laws.{all_fit}
 use Rattle.variadic_nodes.proofs.variadic_tops.Given as goal
 
 abbrev pub invariant-loop-k : goal.invariant-loop-k
-invariant-loop-k l = (l.k ≤ l.nodes) × (l.tops ≡ build (top_from l.rule) l.k ++ replicate (node_limit - l.k) 0)
-
-abbrev pub decreases-loop-k : goal.decreases-loop-k
-decreases-loop-k l = l.nodes - l.k
+invariant-loop-k l = l.tops ≡ build (top_from l.rule) l.k ++ replicate (node_limit - l.k) 0

@@ -1,44 +1,58 @@
 -- Each way to return is one law of `Walks`.
 use native.Mathlib.Omega.{arith}
-use Rattle.variadic_order.proofs.Walks.{visit_again, visit_full, visit-added, names-done, names_skipped, names_over, names_passed}
+use borrow.Author.Rules.{rules}
+use Rattle.variadic_order.proofs.Walks.{visit_again, visit_full, visit-added, names-done, names_skipped, names_over, names_passed, names_visited}
 use Rattle.variadic_order.proofs.+visit_visit_names.Goals as goal
 
 -- ---- visit
 
-pub visit-returns-then-numbers-c-ne0 : goal.visit-returns-then-numbers-c-ne0
-visit-returns-then-numbers-c-ne0 t c =
+pub visit-returns-then-numbers-c-ne0-clause-visits : goal.visit-returns-then-numbers-c-ne0-clause-visits
+visit-returns-then-numbers-c-ne0-clause-visits t c =
     visit_again c.args.rule.now c.args.side.first c.args.side.base c.args.side.tuple c.args.n c.args.c
     c.requires.side_copy.below c.requires.visited (λ e. omega arith)
 
-pub visit-returns-then-after-ge-EXPANDED_LIMIT : goal.visit-returns-then-after-ge-EXPANDED_LIMIT
-visit-returns-then-after-ge-EXPANDED_LIMIT t c =
-    visit_full c.args.rule.now c.args.side.first c.args.side.base c.args.side.tuple c.args.n c.args.c
-    c.requires.side_copy.below c.requires.visited (omega arith) c.visit_names-after.ensures (omega arith)
+pub visit-returns-in_err-after-clause-visits : goal.visit-returns-in_err-after-clause-visits
+visit-returns-in_err-after-clause-visits t c =
+    rw c.from_residual.ensures
+    (visit_full c.args.rule.now c.args.side.first c.args.side.base c.args.side.tuple c.args.n c.args.c
+    c.requires.side_copy.below c.requires.visited (omega arith) c.in_err-after.ensures.visits (omega arith))
 
-pub visit-returns : goal.visit-returns
-visit-returns t c =
+pub visit-returns-then-after-ge-EXPANDED_LIMIT-clause-visits : goal.visit-returns-then-after-ge-EXPANDED_LIMIT-clause-visits
+visit-returns-then-after-ge-EXPANDED_LIMIT-clause-visits t c =
+    visit_full c.args.rule.now c.args.side.first c.args.side.base c.args.side.tuple c.args.n c.args.c
+    c.requires.side_copy.below c.requires.visited (omega arith) c.in_ok-after.ensures.visits (omega arith)
+
+pub visit-returns-clause-visits : goal.visit-returns-clause-visits
+visit-returns-clause-visits t c =
     visit-added c.args.rule.now c.args.side.first c.args.side.base c.args.side.tuple c.args.n c.args.c
-    c.requires.side_copy.below c.requires.visited (omega arith) c.visit_names-after.ensures (omega arith)
+    c.requires.side_copy.below c.requires.visited (omega arith) c.in_ok-after.ensures.visits (omega arith)
 
 -- ---- visit_names
 
-pub visit_names-returns-then-i-field_count : goal.visit_names-returns-then-i-field_count
-visit_names-returns-then-i-field_count t c =
+pub visit_names-returns-then-i-field_count-clause-visits : goal.visit_names-returns-then-i-field_count-clause-visits
+visit_names-returns-then-i-field_count-clause-visits t c =
     names-done c.args.rule.now c.args.side.first c.args.side.base c.args.side.tuple c.args.n c.args.c c.args.i
     (omega arith) c.requires.visited
 
-pub visit_names-returns-then-named-ge-COPIES : goal.visit_names-returns-then-named-ge-COPIES
-visit_names-returns-then-named-ge-COPIES t c =
+pub visit_names-returns-in-None-clause-visits : goal.visit_names-returns-in-None-clause-visits
+visit_names-returns-in-None-clause-visits t c =
     names_skipped c.args.rule.now c.args.side.first c.args.side.base c.args.side.tuple c.args.n c.args.c c.args.i
-    (omega arith) c.name_at-named.result c.name_at-named.ensures (omega arith) c.visit_names.ensures
+    (omega arith) c.in-None.ensures c.visit_names.ensures.visits
 
-pub visit_names-returns-then-after-gt-EXPANDED_LIMIT : goal.visit_names-returns-then-after-gt-EXPANDED_LIMIT
-visit_names-returns-then-after-gt-EXPANDED_LIMIT t c =
-    names_over c.args.rule.now c.args.side.first c.args.side.base c.args.side.tuple c.args.n c.args.c c.args.i
-    (omega arith) c.name_at-named.result c.name_at-named.ensures (omega arith) c.visit-after.ensures (omega arith)
+pub visit_names-returns-in_err-after-in-Some-clause-visits : goal.visit_names-returns-in_err-after-in-Some-clause-visits
+visit_names-returns-in_err-after-in-Some-clause-visits t c =
+    rw c.from_residual.ensures
+    (names_over c.args.rule.now c.args.side.first c.args.side.base c.args.side.tuple c.args.n c.args.c c.args.i
+    (omega arith) c.in-Some.named c.in-Some.ensures c.in_err-after-in-Some.ensures.visits (omega arith))
 
-pub visit_names-returns : goal.visit_names-returns
-visit_names-returns t c =
+pub visit_names-visit_names-requires-in-Some : goal.visit_names-visit_names-requires-in-Some
+visit_names-visit_names-requires-in-Some t c =
+    let visited = names_visited c.args.rule.now c.args.side.first c.args.side.base c.args.side.tuple c.args.n
+    c.in_ok-after-in-Some.ensures.visits c.in_ok-after-in-Some.ensures.few in
+    search (rules, visited)
+
+pub visit_names-returns-in_ok-after-in-Some-clause-visits : goal.visit_names-returns-in_ok-after-in-Some-clause-visits
+visit_names-returns-in_ok-after-in-Some-clause-visits t c =
     names_passed c.args.rule.now c.args.side.first c.args.side.base c.args.side.tuple c.args.n c.args.c c.args.i
-    (omega arith) c.name_at-named.result c.name_at-named.ensures (omega arith) c.visit-after.ensures (omega arith)
-    c.visit_names-2.ensures
+    (omega arith) c.in-Some.named c.in-Some.ensures c.in_ok-after-in-Some.ensures.visits c.in_ok-after-in-Some.ensures.few
+    c.visit_names-in-Some.ensures.visits

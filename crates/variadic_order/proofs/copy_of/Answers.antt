@@ -13,8 +13,8 @@ returns-then-side_byte-lt-TEMPLATE_MARK c =
     c.side_byte.ensures.0 ∙ ap (byte_at c.args.rule.now) (omega arith) in
     sym (copy_shared c.args.rule.now c.args.first c.args.u c.args.index (omega (arith, kind)))
 
-pub returns : goal.returns
-returns c =
+pub returns-else-side_byte-lt-TEMPLATE_MARK : goal.returns-else-side_byte-lt-TEMPLATE_MARK
+returns-else-side_byte-lt-TEMPLATE_MARK c =
     let kind : c.side_byte.result ≡ byte_at c.args.rule.now (vertex_at (c.args.first + c.args.u)) =
     c.side_byte.ensures.0 ∙ ap (byte_at c.args.rule.now) (omega arith) in
     sym (copy_template c.args.rule.now c.args.first c.args.u c.args.index (omega (arith, kind)))

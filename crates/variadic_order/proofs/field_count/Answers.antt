@@ -15,8 +15,8 @@ returns-then-c-side c =
     let count = tuple-count c.args.rule.now c.args.side.first c.args.side.base c.args.side.tuple c.args.n c.args.c (omega arith) in
     (ap (λ (k : ℕ). k * c.args.n) c.side_byte-places.ensures.0 ∙ sym count, product)
 
-pub returns : goal.returns
-returns c =
+pub returns-else-c-side : goal.returns-else-c-side
+returns-else-c-side c =
     let few : c.side_byte-places.result ≤ 6 =
     omega (arith, c.side_byte-places.ensures.0, c.requires.layout.inputs (original c.args.c) c.requires.vertex) in
     let count = other_count c.args.rule.now c.args.side.first c.args.side.base c.args.side.tuple c.args.n c.args.c (λ e. omega arith) in

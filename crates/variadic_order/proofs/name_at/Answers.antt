@@ -28,8 +28,8 @@ returns-then-c-side c = rw (
   ← add-one (c.args.i % c.args.n),
 ) c.named_by.ensures
 
-pub named_by-requires-2 : goal.named_by-requires-2
-named_by-requires-2 c =
+pub named_by-requires-else-c-side : goal.named_by-requires-else-c-side
+named_by-requires-else-c-side c =
     let count = other_count c.args.rule.now c.args.side.first c.args.side.base c.args.side.tuple c.args.n c.args.c (λ e. omega arith) in
     record {
       vertices = c.requires.side_copy.vertices;
@@ -39,7 +39,7 @@ named_by-requires-2 c =
       few = omega (arith, c.requires.side_copy.below);
     }
 
-pub returns : goal.returns
-returns c =
+pub returns-else-c-side : goal.returns-else-c-side
+returns-else-c-side c =
     rw (other_names_lem c.args.rule.now c.args.side.first c.args.side.base c.args.side.tuple c.args.n c.args.c (λ e. omega arith) c.args.i)
-    c.named_by-2.ensures
+    c.named_by-else-c-side.ensures

@@ -11,7 +11,7 @@ pub returns-then-place-side : goal.returns-then-place-side
 returns-then-place-side c =
     let p = place_of c.args.rule.now c.args.side.first c.args.u c.args.i in
     let place : c.side_byte-place.result ≡ p = c.side_byte-place.ensures.0 ∙ ap (byte_at c.args.rule.now) (omega arith) in
-    names_none c.args.rule.now c.args.side.first c.args.side.base c.args.index p c.args.u (omega (arith, place))
+    names_none c.args.rule.now c.args.side.first c.args.side.base c.args.index p (omega (arith, place))
 
 pub copy_of-requires-clause-pattern_bytes_in_bounds : goal.copy_of-requires-clause-pattern_bytes_in_bounds
 copy_of-requires-clause-pattern_bytes_in_bounds c =
@@ -21,8 +21,8 @@ copy_of-requires-clause-pattern_bytes_in_bounds c =
     omega (arith, place, c.requires.layout.lower c.args.u c.args.i c.requires.vertex c.requires.place) in
     omega arith
 
-pub returns : goal.returns
-returns c =
+pub returns-else-place-side : goal.returns-else-place-side
+returns-else-place-side c =
     let p = place_of c.args.rule.now c.args.side.first c.args.u c.args.i in
     let place : c.side_byte-place.result ≡ p = c.side_byte-place.ensures.0 ∙ ap (byte_at c.args.rule.now) (omega arith) in
     let lower : c.side_byte-place.result < c.args.side.base + c.args.u =

@@ -4,7 +4,6 @@ use Rattle.variadic_order.proofs.source_order.Goals as goal
 
 pub returns : goal.returns
 returns c =
-    rw (
-      ← source-order c.args.rule.now c.args.n c.requires.le_n.0 c.requires.side_layout c.requires.output_layout,
-      ← c.byte_at.ensures.0,
-    ) (c.order_of.ensures.ordered _ c.requires.output_layout)
+    let found = rw c.source_side.ensures at c.order_of.ensures in
+    rw (← source-order c.args.rule.now c.args.n c.requires.le_n.0 c.requires.side_layout c.requires.output_layout)
+    (found.ordered _ c.requires.output_layout)

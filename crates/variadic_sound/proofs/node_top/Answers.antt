@@ -2,7 +2,6 @@
 use mathlib.Core.Path.{◌≡◌, sym, ap, ap₂, ◌∙◌}
 use Prim.Native.Nat.{ℕ, ◌+◌, ◌<◌, max}
 use native.Mathlib.Omega.{arith}
-use borrow.Author.Rules.{rules}
 use Rattle.definitions.specs.Fields.{Bytes}
 use Rattle.definitions.specs.Rule.{form_access, node_form}
 use Rattle.rule_fields.specs.Fixed.{left_in, right_in, expression_in}
@@ -26,13 +25,13 @@ returns c = let good : GoodNode c.args.rule.now c.args.k = c.requires.judgeable.
     let operation : form_access < node_form c.args.rule.now c.args.k = omega (arith, c.node_form-form.ensures.0, c.if-form-lt-FORM_ACCESS.false, c.if-form-eq-FORM_ACCESS.false) in
     let left-known : c.node_left-left.result < c.args.k = omega (arith, good.left operation, c.node_left-left.ensures) in
     let right-known : c.node_right-right.result < c.args.k = omega (arith, good.right operation, c.node_right-right.ensures) in
-    let left : c.widened.result ≡ top_access (expression_in c.args.rule.now (left_in c.args.rule.now c.args.k)) =
-    c.widened.ensures ∙ c.requires.tops_below.known c.node_left-left.result left-known
+    let left : c.from.result ≡ top_access (expression_in c.args.rule.now (left_in c.args.rule.now c.args.k)) =
+    c.from.ensures ∙ c.requires.tops_below.known c.node_left-left.result left-known
     ∙ ap (λ (n : ℕ). top_access (expression_in c.args.rule.now n)) c.node_left-left.ensures in
-    let right : c.widened-2.result ≡ top_access (expression_in c.args.rule.now (right_in c.args.rule.now c.args.k)) =
-    c.widened-2.ensures ∙ c.requires.tops_below.known c.node_right-right.result right-known
+    let right : c.from-2.result ≡ top_access (expression_in c.args.rule.now (right_in c.args.rule.now c.args.k)) =
+    c.from-2.ensures ∙ c.requires.tops_below.known c.node_right-right.result right-known
     ∙ ap (λ (n : ℕ). top_access (expression_in c.args.rule.now n)) c.node_right-right.ensures in
-    let gives : c.greater.result ≡ top_access (expression_in c.args.rule.now c.args.k) = c.greater.ensures ∙ ap₂ max left right
+    let gives : c.max.result ≡ top_access (expression_in c.args.rule.now c.args.k) = c.max.ensures ∙ ap₂ max left right
     ∙ operation_top c.args.rule.now c.args.k c.requires.k_bound good operation in
     let bytes : Bytes c.args.rule.now = λ at. omega (arith, c.shared_slice_known-1.given at) in
     (gives, omega (arith, gives, top_small c.args.rule.now c.requires.judgeable.evaluable.nodes bytes c.args.k c.requires.k_bound))

@@ -3,7 +3,6 @@ use Prim.Native.Nat.{ℕ}
 use native.Mathlib.Omega.{arith}
 use Rattle.variadic_terms.specs.Terms.{access_term, access_at}
 use Rattle.variadic_terms.proofs.Fits.{access_inside}
-use borrow.Author.Rules.{rules}
 use Rattle.variadic_terms.proofs.access_term.Goals as goal
 
 pub returns : goal.returns

@@ -1,7 +1,6 @@
 -- The fields are those of the definition.
 use mathlib.Core.Path.{refl}
 use Rattle.variadic_terms.specs.Terms.{any_term}
-use borrow.Author.Rules.{rules}
 use Rattle.variadic_terms.proofs.any_term.Goals as goal
 
 pub returns : goal.returns

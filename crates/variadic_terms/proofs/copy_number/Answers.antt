@@ -1,7 +1,6 @@
 -- The test is the definition's.
 use borrow.Author.Tests.{eq-eqb, ne_eqb}
 use Rattle.variadic_terms.specs.Terms.{number_in}
-use borrow.Author.Rules.{rules}
 use Rattle.variadic_terms.proofs.copy_number.Goals as goal
 
 pub returns-then-number-eq0 : goal.returns-then-number-eq0

@@ -1,12 +1,10 @@
 -- The eight bytes are written one after the other, and those are all.
 use mathlib.Core.Path.{sym, ◌∙◌}
 use native.Mathlib.Omega.{arith}
-use lib.ListN.{length-set}
 use lib.Seq.{take_all, sets, length-sets}
 use Rattle.definitions.specs.Rule.{node_bytes}
 use Rattle.writing.proofs.Written.{take_sets}
 use Rattle.variadic_terms.specs.Terms.{term_bytes}
-use borrow.Author.Rules.{rules}
 use Rattle.variadic_terms.proofs.put_term.Goals as goal
 
 pub returns : goal.returns

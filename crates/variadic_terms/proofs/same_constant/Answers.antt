@@ -1,7 +1,6 @@
 -- The four bytes are copied.
 use mathlib.Core.Path.{◌∙◌}
 use Rattle.variadic_terms.specs.Terms.{constant_at}
-use borrow.Author.Rules.{rules}
 use Rattle.variadic_terms.proofs.same_constant.Goals as goal
 
 pub returns : goal.returns

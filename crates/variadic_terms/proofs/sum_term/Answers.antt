@@ -1,13 +1,11 @@
 -- The cases are the definition's. A sum's operand is an earlier node, and there are at most 448 nodes.
 use mathlib.Core.Path.{refl, sym, ap, ◌∙◌}
-use Prim.Native.Nat.{ℕ, ◌+◌, ◌*◌, ◌<◌, ◌≤◌}
+use Prim.Native.Nat.{ℕ, ◌<◌}
 use native.Mathlib.Omega.{arith}
-use Rattle.definitions.specs.Rule.{node_left}
-use Rattle.rule_fields.specs.Fixed.{fixed_node_limit}
+use Rattle.definitions.specs.Rule.{node_count, node_left}
 use Rattle.variadic_terms.specs.Terms.{term_of, plain_term, number_in}
-use Rattle.variadic_terms.proofs.Fits.{few_products, sum_earlier}
+use Rattle.variadic_terms.proofs.Fits.{node_whole, sum_earlier}
 use Rattle.variadic_terms.proofs.Cases.{same_operation, sum_none, sum_one, sum_unused, sum_first, sum_next}
-use borrow.Author.Rules.{rules}
 use Rattle.variadic_terms.proofs.sum_term.Goals as goal
 
 pub returns-then-i-eq0 : goal.returns-then-i-eq0
@@ -34,10 +32,20 @@ returns c = let above : 2 < c.args.i = omega (arith, c.if-i-eq0.false, c.if-i-eq
     ∙ same_operation refl refl (c.term_of-term.ensures.0 ∙ ap (λ (x : ℕ). term_of c.args.rule.now c.args.n x c.args.i) c.node_byte-x.ensures.0)
     ∙ sym (sum_next c.args.rule.now (number_in c.args.numbers.now c.args.count) c.args.n c.args.k c.args.i above c.if-n-eq1.false)
 
-pub term_of-term-requires-clause-k_bound : goal.term_of-term-requires-clause-k_bound
-term_of-term-requires-clause-k_bound c = let lower : node_left c.args.rule.now c.args.k < c.args.k = sum_earlier c.args.rule.now c.args.k (c.requires.expandable.nodes c.args.k c.requires.k_bound) c.requires.k_value in
-    omega (arith, lower, c.node_byte-x.ensures.0, c.requires.k_bound)
+pub term_of-term-requires : goal.term_of-term-requires
+term_of-term-requires c = let lower : node_left c.args.rule.now c.args.k < c.args.k = sum_earlier c.args.rule.now c.args.k (c.requires.expandable.nodes c.args.k c.requires.k_bound) c.requires.k_value in
+    let inside : c.node_byte-x.result < node_count c.args.rule.now = omega (arith, lower, c.node_byte-x.ensures.0, c.requires.k_bound) in record {
+      k_in_bounds = node_whole c.args.rule.now c.requires.expandable c.node_byte-x.result inside;
+      k_lt_node_limit = omega (arith, inside, c.requires.expandable.layout.few_nodes);
+      n_le_field_limit = c.requires.n_le_field_limit;
+      index_le_field_limit = omega arith;
+    }
 
-pub term_of-requires-clause-k_bound : goal.term_of-requires-clause-k_bound
-term_of-requires-clause-k_bound c = let lower : node_left c.args.rule.now c.args.k < c.args.k = sum_earlier c.args.rule.now c.args.k (c.requires.expandable.nodes c.args.k c.requires.k_bound) c.requires.k_value in
-    omega (arith, lower, c.node_byte-x.ensures.0, c.requires.k_bound)
+pub term_of-requires : goal.term_of-requires
+term_of-requires c = let lower : node_left c.args.rule.now c.args.k < c.args.k = sum_earlier c.args.rule.now c.args.k (c.requires.expandable.nodes c.args.k c.requires.k_bound) c.requires.k_value in
+    let inside : c.node_byte-x.result < node_count c.args.rule.now = omega (arith, lower, c.node_byte-x.ensures.0, c.requires.k_bound) in record {
+      k_in_bounds = node_whole c.args.rule.now c.requires.expandable c.node_byte-x.result inside;
+      k_lt_node_limit = omega (arith, inside, c.requires.expandable.layout.few_nodes);
+      n_le_field_limit = c.requires.n_le_field_limit;
+      index_le_field_limit = omega arith;
+    }

@@ -6,7 +6,6 @@ use lib.Dec.{eqb}
 use Rattle.definitions.specs.Rule.{form_sum, node_form}
 use Rattle.variadic_terms.specs.Terms.{number_in}
 use Rattle.variadic_terms.proofs.Cases.{at_sum, at_plain}
-use borrow.Author.Rules.{rules}
 use Rattle.variadic_terms.proofs.term_at.Goals as goal
 
 pub returns-then-node_form-eq-FORM_SUM : goal.returns-then-node_form-eq-FORM_SUM
