@@ -1,7 +1,7 @@
 // How a reply is made inside, and how it is handed to the C side as one number.
 #![tactic(auto)]
 
-ghost use Rattle.std.specs.Prelude.{◌≡◌, [], ◌∷◌, ◌<◌};
+ghost use Rattle.std.specs.Prelude.{◌≡◌, ℕ, [], ◌∷◌, ◌<◌};
 ghost use Rattle.definitions.specs.Reply as answer;
 ghost use Rattle.reply.specs.Reasons.{reason_number};
 
@@ -75,21 +75,45 @@ impl From<Reason> for u8 {
     }
 }
 
-// The refusal for this reason, with this place. No request names a value beside the place yet.
-pub fn refuse_at(reason: Reason, index: u32) -> Reply
-    ensures { result ≡ answer.refused_at (reason_number reason) index }
+// What tells why an operation refuses: a reason, or the number of a row of the reply table itself.
+pub trait Cause {
+    ghost told: { Self → ℕ };
+
+    fn to_number(self) -> u8
+        ensures { result ≡ told self };
+}
+
+impl Cause for Reason {
+    ghost told = { reason_number };
+
+    fn to_number(self) -> u8 {
+        u8::from(self)
+    }
+}
+
+impl Cause for u8 {
+    ghost told = { λ number. number };
+
+    fn to_number(self) -> u8 {
+        self
+    }
+}
+
+// The refusal for this cause, with this place. No request names a value beside the place yet.
+pub fn refuse_at<C: Cause + Copy>(cause: C, index: u32) -> Reply
+    ensures { result ≡ answer.refused_at (C.told cause) index }
 {
     Err(Refusal {
-        number: u8::from(reason),
+        number: cause.to_number(),
         place: Place { index, value: 0 },
     })
 }
 
-// The refusal for this reason, for which no request names a place.
-pub fn refuse(reason: Reason) -> Reply
-    ensures { result ≡ answer.refused (reason_number reason) }
+// The refusal for this cause, for which no request names a place.
+pub fn refuse<C: Cause + Copy>(cause: C) -> Reply
+    ensures { result ≡ answer.refused (C.told cause) }
 {
-    refuse_at(reason, 0)
+    refuse_at(cause, 0)
 }
 
 // Done, with the answer to a question: value 1 is yes, and 0 is no.

@@ -4,4 +4,4 @@ use Rattle.reply.proofs.refuse_at.Goals as goal
 
 pub returns : goal.returns
 unfolding refusal_at
-returns c = ap (λ number. refused_at number c.args.index) c.from.ensures
+returns g c = ap (λ number. refused_at number c.args.index) c.to_number.ensures
