@@ -17,8 +17,8 @@ pub fn word_of(value: Option<i32>) -> u32
     }
 }
 
-// Whether a result may be an attribute of a vertex of this kind: there is one, and for a Proj it is at least 1.
-pub fn is_fit(kind: usize, value: Option<i32>) -> bool
+// Whether a result, of any size, may be an attribute of a vertex of this kind: there is one, and for a Proj it is at least 1.
+pub fn is_fit(kind: usize, value: Option<i128>) -> bool
     ensures { result ≡ index_like kind (value_of value) }
 {
     match value {

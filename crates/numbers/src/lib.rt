@@ -5,8 +5,8 @@ ghost use Rattle.std.specs.Prelude.{◌≡◌};
 ghost use Rattle.definitions.specs.Attributes.{fit};
 ghost use Rattle.numbers.specs.Value.{value_of};
 
-// The number as a result, if it is in range.
-pub fn fit_number(number: i64) -> Option<i32>
+// The number as a result, if it is in range. A number of 64 bits and a sign is taken whole.
+pub fn fit_number(number: i128) -> Option<i32>
     ensures { value_of result ≡ fit number }
 {
     i32::try_from(number).ok()

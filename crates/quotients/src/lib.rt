@@ -40,12 +40,12 @@ fn divided(x: i32, y: i32) -> Option<Division>
 pub fn divide(x: i32, y: i32) -> Option<i32>
     ensures { value_of result ≡ results.operate rules.divide x y }
 {
-    fit_number(divided(x, y)?.quotient)
+    fit_number(i128::from(divided(x, y)?.quotient))
 }
 
 // The remainder.
 pub fn remainder(x: i32, y: i32) -> Option<i32>
     ensures { value_of result ≡ results.operate rules.remainder x y }
 {
-    fit_number(divided(x, y)?.rest)
+    fit_number(i128::from(divided(x, y)?.rest))
 }

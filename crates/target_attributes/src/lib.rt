@@ -6,6 +6,7 @@ ghost use Rattle.definitions.specs.Graph.{graph_of};
 ghost use Rattle.definitions.specs.Rule.{target_count, target_of};
 ghost use Rattle.definitions.specs.Match.{read_attribute};
 ghost use Rattle.rule_fields.specs.Fixed.{fixed_of};
+ghost use Rattle.numbers.specs.Value.{value_of};
 ghost use Rattle.attributes.specs.Evaluation.{Evaluation};
 ghost use Rattle.target_attributes.specs.Fitness.{target_fitness, Told};
 
@@ -18,6 +19,16 @@ use rule_fields::{target_attribute_count, target_count, target_kind};
 #[derive(Clone, Copy)]
 pub struct Lack {
     pub place: usize,
+}
+
+// A result as one of any size.
+fn widened(value: Option<i32>) -> Option<i128>
+    ensures { value_of result ≡ value_of value }
+{
+    match value {
+        None => None,
+        Some(number) => Some(i128::from(number)),
+    }
 }
 
 // The words of the attributes of target vertex t, with zero in the unused places, or the first of them that is unfit.
@@ -37,7 +48,7 @@ pub fn vertex_words(
     let mut words = [0u32; ATTRIBUTE_LIMIT];
     for i in 0..count {
         let value = target_value(graph, rule, images, t, i);
-        if !is_fit(kind, value) {
+        if !is_fit(kind, widened(value)) {
             return Err(Lack { place: i });
         }
         words[i] = word_of(value);
