@@ -7,7 +7,7 @@ use Rattle.std.specs.declared.result.Result.{Result}
 use Rattle.std.specs.declared.result.Result.TheVariants.{Ok, Err}
 use Rattle.std.proofs.Math.Option.{Option, none, some}
 use Rattle.definitions.specs.Numerals as numerals
-use Rattle.listing.specs.Typing.{Typed, nothing, minus, digits_of, valued, Got, stopped, got}
+use Rattle.listing.specs.Typing.{Typed, nothing, minus, digits_of, valued, typed_with, Got, stopped, got}
 use Rattle.listing_numbers.specs.declared.Field.{Field}
 use Rattle.listing_numbers.specs.declared.Typing.{Typing}
 use Rattle.listing_numbers.specs.declared.Typing.TheVariants.{Nothing, Minus, Digits, NegativeDigits}
@@ -35,6 +35,11 @@ digits_in (NegativeDigits n) = n
 abbrev pub next_of : std.Option Typing → Option Typed
 next_of None = none
 next_of (Some t) = some (typed_of t)
+
+-- the same of what may be a number no more: nothing comes of it then
+unfoldable pub after_byte : numerals.Field → Option Typed → ℕ → Option Typed
+after_byte field none c = none
+after_byte field (some t) c = typed_with field t c
 
 -- what the code returns for a number
 abbrev pub got_of : Result Number Stopped → Got ℤ

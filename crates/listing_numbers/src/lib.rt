@@ -8,7 +8,7 @@ ghost use Rattle.definitions.specs.Lists.{within};
 ghost use Rattle.definitions.specs.Numerals.{decimal, Field};
 ghost use Rattle.listing.specs.Typing as typing;
 ghost use Rattle.listing.specs.Typing.{FieldFits, is_digit, is_numeric, digits_of, whole, nothing, going_on, typed_with, ended_at, number_from};
-ghost use Rattle.listing_numbers.specs.State.{field_of, typed_of, next_of, digits_in, got_of};
+ghost use Rattle.listing_numbers.specs.State.{field_of, typed_of, next_of, after_byte, digits_in, got_of};
 
 // The numbers that a field takes: low to high, and -below to -1.
 #[derive(Clone, Copy)]
@@ -110,6 +110,9 @@ fn goes_on(d: u64, low: u64, high: u64) -> bool
 }
 
 // The digits of d, where some number of the field goes on with them.
+// This and the functions below give an option of an enum, which goes by way of memory where it is handed back by a call; so they are compiled
+// into the loop over a number's bytes.
+#[inline(always)]
 fn digits_so(negative: bool, d: u64, field: Field) -> Option<Typing>
     requires { FieldFits (field_of «field») }
     ensures value_value { next_of result ≡ going_on (field_of «field») (some (digits_of negative d)) }
@@ -129,6 +132,7 @@ fn digits_so(negative: bool, d: u64, field: Field) -> Option<Typing>
 }
 
 // One digit more behind those of value; no digit stands behind a leading zero.
+#[inline(always)]
 fn digits_behind(negative: bool, value: u64, d: u64, field: Field) -> Option<Typing>
     requires field_fits { FieldFits (field_of «field») }
     requires value_bound { (value < 10 ^ 10) × (d < 10) }
@@ -149,7 +153,8 @@ fn is_digit(c: u8) -> bool
 }
 
 // One byte more of a number, a digit or a minus, where some number of the field goes on with it.
-pub fn press(t: Typing, c: u8, field: Field) -> Option<Typing>
+#[inline(always)]
+fn typed_more(t: Typing, c: u8, field: Field) -> Option<Typing>
     requires field_fits { FieldFits (field_of «field») }
     requires value_bound { digits_in t < 10 ^ 10 }
     ensures value_value { next_of result ≡ typed_with (field_of «field») (typed_of t) c }
@@ -181,6 +186,18 @@ pub fn press(t: Typing, c: u8, field: Field) -> Option<Typing>
         Typing::Digits(value) => digits_behind(false, value, d, field),
         Typing::NegativeDigits(value) => digits_behind(true, value, d, field),
     }
+}
+
+// The same of what one byte more may have left: where no number of the field can come of it, none can behind any byte.
+#[tactic(auto, unfolding(crate::specs::State::after_byte))]
+#[inline(always)]
+pub fn press(t: Option<Typing>, c: u8, field: Field) -> Option<Typing>
+    requires field_fits { FieldFits (field_of «field») }
+    requires value_bound { IfSome t (λ typing. digits_in typing < 10 ^ 10) }
+    ensures value_value { next_of result ≡ after_byte (field_of «field») (next_of t) c }
+    ensures value_bound_2 { IfSome result (λ next. digits_in next < 10 ^ 10) }
+{
+    typed_more(t?, c, field)
 }
 
 fn is_numeric(c: u8) -> bool
@@ -232,7 +249,7 @@ fn read_bytewise(text: &[u8], at: usize, field: Field) -> Result<Number, Stopped
         if !is_numeric(c) {
             return ended(typing, i, field);
         }
-        let Some(next) = press(typing, c, field) else {
+        let Some(next) = press(Some(typing), c, field) else {
             return Err(Stopped { at: i });
         };
         typing = next;

@@ -9,7 +9,7 @@ use Rattle.listing.specs.Typing.{is_digit, pressed, typed_with, going_on, can_go
 use Rattle.listing_numbers.specs.declared.Typing.{Typing}
 use Rattle.listing_numbers.specs.State.{field_of, typed_of}
 use Rattle.listing_numbers.proofs.Stages.{minus_other, digits_other, digit_low, digit_high}
-use Rattle.listing_numbers.proofs.press.Goals as goal
+use Rattle.listing_numbers.proofs.typed_more.Goals as goal
 
 pub returns-then-field-gt0-clause-value_value : goal.returns-then-field-gt0-clause-value_value
 unfolding typed_with pressed going_on can_go_on
