@@ -1,7 +1,8 @@
--- The byte that decides between two parts.
+-- Parts that follow one another, where a flag tells whether the first stops: then the whole stops, and else it goes on with the rest. And the
+-- byte that decides between two parts.
 -- Assumes nothing.
-use mathlib.Core.Path.{◌≡◌, ◌∙◌}
-use mathlib.Core.Bool.{true, false}
+use mathlib.Core.Path.{◌≡◌, refl, ◌∙◌}
+use mathlib.Core.Bool.{Bool, true, false}
 use mathlib.Core.List.{List}
 use mathlib.Core.Logic.{⊎_elim}
 use mathlib.Core.Option.{none}
@@ -11,10 +12,27 @@ use borrow.Author.Tests.{ltb-true, ltb-false, lt-ltb}
 use lib.Dec.{ltb, eqb}
 use lib.ListN.{length, get_or, drop}
 use Rattle.laws.proofs.Lists.{decided, and_left, and_right}
-use Rattle.listing.specs.Forms.{Form, byte, choice, value_of, answer_from}
+use Rattle.listing.specs.Forms.{Form, byte, choice, value_of, stops_at, answer_from, go_on}
+use Rattle.listing.specs.Parts.{got_if}
 use Rattle.listing.proofs.Listings.{answer_early}
 use Rattle.listing.proofs.Parts.{drop_all, byte_taken, choice_early, choice_taken, choice_other}
 use Rattle.listing_parse.specs.Parts.{has_byte}
+
+module _ {A B : Type 0} (f : A → Form B) (text : List ℕ) (a : A) (n : ℕ) where
+  pub go_stopped : {stops : Bool} → stops ≡ true → go_on f text (got_if stops a n) ≡ stops_at n
+  unfolding go_on got_if
+  go_stopped e = rw e
+
+  pub go_behind : {stops : Bool} → stops ≡ false → go_on f text (got_if stops a n) ≡ answer_from (f a) n (drop n text)
+  unfolding go_on got_if
+  go_behind e = rw e
+
+-- what a part says, told otherwise
+pub go_through : {A B C : Type 0} (f : B → Form C) (h : A → B) (text : List ℕ) (a : A) (n : ℕ) (stops : Bool)
+    → go_on (λ (x : A). f (h x)) text (got_if stops a n) ≡ go_on f text (got_if stops (h a) n)
+unfolding go_on got_if
+go_through f h text a n true = refl
+go_through f h text a n false = refl
 
 module _ (text : List ℕ) (at b : ℕ) where
   pub has_inside : has_byte text at b ≡ true → at < length text

@@ -50,9 +50,9 @@ listed_none p = record {
 }
 
 module _ {p : ℕ → Bool} {n : ℕ} {list : List ℕ} {count : ℕ} (h : Listed p n list count) where
-  -- a number of which the test fails is passed
-  pub listed_past : p n ≡ false → Listed p (n + 1) list count
-  listed_past f = record {
+  -- numbers of which the test fails are passed
+  pub listed_past : (m : ℕ) → n ≤ m → ((k : ℕ) → n ≤ k → k < m → p k ≡ false) → Listed p m list count
+  listed_past m l fails = record {
     size = h.size;
     few = omega (arith, h.few);
     below = λ i k. omega (arith, h.below i k);
@@ -60,9 +60,13 @@ module _ {p : ℕ → Bool} {n : ℕ} {list : List ℕ} {count : ℕ} (h : Liste
     ascending = h.ascending;
     every = λ v b t. ⊎_elim
         (λ (s : ltb v n ≡ true). h.every v (ltb-true v n s) t)
-        (λ (s : ltb v n ≡ false). let e : v ≡ n = omega (arith, ltb-false v n s) in absurd (true_not_false (rw e at t) f))
+        (λ (s : ltb v n ≡ false). absurd (true_not_false t (fails v (ltb-false v n s) b)))
         (decided (ltb v n));
   }
+
+  -- one of them
+  pub listed_skip : p n ≡ false → Listed p (n + 1) list count
+  listed_skip f = listed_past (n + 1) (omega arith) (λ k a b. let e : k ≡ n = omega (arith, a, b) in rw e f)
 
   module _ (room : count < slot_limit) (t : p n ≡ true) where
     last : get_or (set list count n) count 0 ≡ n

@@ -1,7 +1,7 @@
 -- Laws about what an operation gives: how its result comes from those of its operands, that every result is in range, and when a memo
 -- of results stays right.
 -- Assumes nothing.
-use mathlib.Core.Path.{◌≡◌, sym, ◌∙◌}
+use mathlib.Core.Path.{◌≡◌, refl, sym, ◌∙◌}
 use mathlib.Core.Bool.{true, false}
 use mathlib.Core.List.{List}
 use mathlib.Core.Logic.{⊎_elim}
@@ -10,7 +10,7 @@ use Prim.Native.Nat.{ℕ, ◌<◌, ◌≤◌}
 use native.Mathlib.Omega.{arith}
 use borrow.Author.Tests.{ltb-true, ltb-false, ne_eqb, eqb-true, eqb-false}
 use lib.Dec.{eqb, ltb}
-use lib.IntN.{ℤ}
+use lib.IntN.{ℤ, pos, negsuc}
 use lib.ListN.{get_or, set, replicate, length-set, length-replicate}
 use lib.Seq.{get_or-set_same, get_or-set_other}
 use Rattle.definitions.specs.Lists.{build}
@@ -29,7 +29,7 @@ use Rattle.numbers.specs.Value.{value_of, bounded, operation_of}
 use Rattle.numbers.proofs.Laws.{combine-bounded}
 use Rattle.match_leaves.specs.Results.{node_result}
 use Rattle.match_leaves.proofs.Laws.{node_built, leaf_bounded}
-use Rattle.match_values.specs.Memo.{Memo}
+use Rattle.match_values.specs.Memo.{state_of, magnitude_of, remembered, Memo}
 
 -- ---- operations
 
@@ -83,6 +83,13 @@ module _ (graph rule images : List ℕ) (k : ℕ) (inside : k < nodes_in rule) w
       (decided (ltb 2 (node_form rule k)))
 
 -- ---- the memo
+
+-- a result as a state and a magnitude is that result
+pub remembered-value : (value : language.Option ℤ) → remembered (state_of value) (magnitude_of value) ≡ value_of value
+unfolding remembered value_of
+remembered-value None = refl
+remembered-value (Some (pos n)) = refl
+remembered-value (Some (negsuc n)) = refl
 
 module _ (graph rule images : List ℕ) where
   -- nothing is known at first

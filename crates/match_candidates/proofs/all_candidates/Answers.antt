@@ -3,7 +3,7 @@ use Prim.Native.Nat.{◌<◌}
 use native.Mathlib.Omega.{arith}
 use borrow.Author.Rules.{rules}
 use Rattle.definitions.specs.Graph.{slot_limit}
-use Rattle.match_candidates.proofs.Steps.{listed_past, listed_put}
+use Rattle.match_candidates.proofs.Steps.{listed_skip, listed_put}
 use Rattle.match_candidates.proofs.all_candidates.Goals as goal
 use Rattle.match_candidates.proofs.all_candidates.Goals.{then-passes_look, else-passes_look}
 
@@ -13,5 +13,5 @@ loop-v-preserved c =
     omega (arith, c.loop-v.invariant.few, c.loop-v-test.true, c.slot_count-v-end.ensures.0, c.requires.whole.slots) in
     elim c.if-passes_look.branch [
       | then-passes_look w ↦ rw (w.slots-is, w.count-is) (listed_put c.loop-v.invariant room (search rules))
-      | else-passes_look w ↦ rw (w.slots-is, w.count-is) (listed_past c.loop-v.invariant (search rules))
+      | else-passes_look w ↦ rw (w.slots-is, w.count-is) (listed_skip c.loop-v.invariant (search rules))
     ]

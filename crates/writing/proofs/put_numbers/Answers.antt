@@ -3,7 +3,7 @@ use Prim.Native.Nat.{◌*◌}
 use native.Mathlib.Omega.{arith}
 use lib.ListN.{length, take}
 use Rattle.definitions.specs.Lists.{concat_map}
-use Rattle.writing.proofs.Written.{piece_put, written_more}
+use Rattle.writing.proofs.Written.{piece_put, piece_more}
 use Rattle.writing.proofs.put_numbers.Goals as goal
 
 pub loop-i-init : goal.loop-i-init
@@ -20,6 +20,6 @@ loop-i-preserved g c =
     let same : bytes ≡ g.T.Stored.bytes x = c.copy_from_slice.ensures.after ∙ c.to_bytes-bytes.ensures in
     let size : length bytes ≡ g.row.W = ap length c.copy_from_slice.ensures.after ∙ omega arith in (
       piece_put g.T.Stored.bytes c.args.numbers.now x l.part bytes g.row.W l.i c.loop-i-test.true l.invariant.0 size,
-      written_more g.T.Stored.bytes c.args.numbers.now x l.part bytes g.row.W l.i c.loop-i-test.true l.invariant.0 size
+      piece_more g.T.Stored.bytes c.args.numbers.now x l.part bytes g.row.W l.i c.loop-i-test.true l.invariant.0 size
           (same ∙ ap g.T.Stored.bytes c.index-numbers-i.is) l.invariant.1,
     )
