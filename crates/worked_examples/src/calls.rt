@@ -1,5 +1,5 @@
 // The calls, read line by line and made.
-ghost use Rattle.std.specs.Prelude.{◌<◌, IfSome};
+ghost use Rattle.std.specs.Prelude.{◌≡◌, eqb, ◌<◌, IfSome};
 
 use crate::lines::{graph_lines, number, print_numbers, print_reply};
 use definitions::MAP_BYTES;
@@ -149,6 +149,13 @@ fn read_line(
     Ok(Some(next))
 }
 
+// Whether this byte ends a line.
+fn is_line_end(byte: &u8) -> bool
+    ensures { result ≡ eqb byte.now 10 }
+{
+    *byte == b'\n'
+}
+
 // Makes the calls of a text, up to the first one that cannot be read.
 pub fn make_calls(
     rt: &impl Print,
@@ -158,7 +165,7 @@ pub fn make_calls(
     start: &mut [u8],
 ) -> io::Result<()> {
     let mut call = new_call();
-    for line in text.split(|byte| *byte == b'\n') {
+    for line in text.split(|byte| is_line_end(byte)) {
         let Some(next) = read_line(rt, line, graph, rule, start, call)? else {
             rt.write_all(b"cannot be read: ")?;
             rt.write_all(line)?;
